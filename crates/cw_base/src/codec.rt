@@ -1,0 +1,92 @@
+//! Numbers as bytes, at the end of a text. A call that is refused for memory changes nothing.
+
+ghost use Rattle.std.specs.Prelude.{◌≡◌, ◌≤◌, [], ◌∷◌, ◌++◌, take, OnOk, OnErr};
+ghost use Rattle.cw_base.specs.Bytes.{be16, be32, be64, varint};
+
+use crate::error::NoMemory;
+
+/// One byte.
+pub fn put_u8(out: &mut Vec<u8>, value: u8) -> Result<(), NoMemory>
+    ensures ok { OnOk result (out.new.items ≡ out.old.items ++ value ∷ []) }
+    ensures err { OnErr result (out.new.items ≡ out.old.items) }
+{
+    out.push(value)?;
+    Ok(())
+}
+
+/// Two bytes, the high one first.
+#[tactic(auto, unfolding(crate::specs::Bytes::be16))]
+pub fn put_be16(out: &mut Vec<u8>, value: u16) -> Result<(), NoMemory>
+    ensures ok { OnOk result (out.new.items ≡ out.old.items ++ be16 value) }
+    ensures err { OnErr result (out.new.items ≡ out.old.items) }
+{
+    put_bytes(out, &value.to_be_bytes())
+}
+
+/// Four bytes, the high one first.
+#[tactic(auto, unfolding(crate::specs::Bytes::be32))]
+pub fn put_be32(out: &mut Vec<u8>, value: u32) -> Result<(), NoMemory>
+    ensures ok { OnOk result (out.new.items ≡ out.old.items ++ be32 value) }
+    ensures err { OnErr result (out.new.items ≡ out.old.items) }
+{
+    put_bytes(out, &value.to_be_bytes())
+}
+
+/// Eight bytes, the high one first.
+#[tactic(auto, unfolding(crate::specs::Bytes::be64))]
+pub fn put_be64(out: &mut Vec<u8>, value: u64) -> Result<(), NoMemory>
+    ensures ok { OnOk result (out.new.items ≡ out.old.items ++ be64 value) }
+    ensures err { OnErr result (out.new.items ≡ out.old.items) }
+{
+    put_bytes(out, &value.to_be_bytes())
+}
+
+/// The bytes as they are.
+pub fn put_bytes(out: &mut Vec<u8>, bytes: &[u8]) -> Result<(), NoMemory>
+    ensures ok { OnOk result (out.new.items ≡ out.old.items ++ bytes.now) }
+    ensures err { OnErr result (out.new.items ≡ out.old.items) }
+{
+    out.extend_from_slice(bytes)?;
+    Ok(())
+}
+
+/// Seven bits a byte, the low part first, the top bit set on every byte but the last.
+pub fn put_varint(out: &mut Vec<u8>, value: u32) -> Result<(), NoMemory>
+    ensures ok { OnOk result (out.new.items ≡ out.old.items ++ varint value) }
+    ensures err { OnErr result (out.new.items ≡ out.old.items) }
+{
+    let (bytes, count) = varint_bytes(value);
+    put_bytes(out, &bytes[..count])
+}
+
+// The bytes of `value` in front of an array, and how many they are.
+#[tactic(auto, unfolding(crate::specs::Bytes::varint))]
+fn varint_bytes(value: u32) -> ([u8; 5], usize)
+    ensures count { result.1 ≤ 5 }
+    ensures bytes { take result.1 result.0 ≡ varint value }
+{
+    let low = |shift: u32| (value >> shift & 0x7f) as u8;
+    if value < 1 << 7 {
+        ([low(0), 0, 0, 0, 0], 1)
+    } else if value < 1 << 14 {
+        ([low(0) | 0x80, low(7), 0, 0, 0], 2)
+    } else if value < 1 << 21 {
+        ([low(0) | 0x80, low(7) | 0x80, low(14), 0, 0], 3)
+    } else if value < 1 << 28 {
+        (
+            [low(0) | 0x80, low(7) | 0x80, low(14) | 0x80, low(21), 0],
+            4,
+        )
+    } else {
+        (
+            [
+                low(0) | 0x80,
+                low(7) | 0x80,
+                low(14) | 0x80,
+                low(21) | 0x80,
+                low(28),
+            ],
+            5,
+        )
+    }
+}

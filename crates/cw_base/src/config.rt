@@ -1,0 +1,50 @@
+//! Into how many shards a text is cut.
+
+ghost use Rattle.std.specs.Prelude.{◌≡◌, ◌+◌};
+ghost use Rattle.cw_base.specs.Config.{config_bytes};
+
+use std::marker::Model;
+use std::num::NonZeroU16;
+
+/// How many shards a text is cut into: any `minimum_shards` of the `total_shards` give it back.
+#[derive(Clone, Copy, Debug, PartialEq, Eq, PartialOrd, Ord, Hash)]
+pub struct Config {
+    pub minimum_shards: NonZeroU16,
+    pub extra_shards: NonZeroU16,
+}
+
+impl Model for Config {
+    ghost use Rattle.cw_base.specs.Shards.{Shards};
+
+    ghost Value = { Shards };
+
+    ghost use Rattle.cw_base.specs.Shards.{positive, from_values};
+
+    ghost view = { λ c. record { minimum = c.minimum_shards.value; extra = c.extra_shards.value } };
+
+    ghost inverse = { λ s. record { minimum_shards = positive s.minimum; extra_shards = positive s.extra } };
+
+    ghost inverse_ok = { λ a h. from_values (λ m e. record { minimum_shards = m; extra_shards = e }) a.minimum_shards a.extra_shards };
+}
+
+impl Config {
+    /// How many bytes a config is written in.
+    pub const SIZE: usize = 4;
+
+    /// The shards that hold the text and those that are added.
+    pub fn total_shards(&self) -> u32
+        ensures { result ≡ self.now.minimum + self.now.extra }
+    {
+        u32::from(self.minimum_shards.get()) + u32::from(self.extra_shards.get())
+    }
+
+    /// Both numbers, the minimum first, each in two big-endian bytes.
+    #[tactic(auto, unfolding(crate::specs::Config::config_bytes, crate::specs::Bytes::be16))]
+    pub fn write(&self) -> [u8; 4]
+        ensures { result ≡ config_bytes self.now }
+    {
+        let [a, b] = self.minimum_shards.get().to_be_bytes();
+        let [c, d] = self.extra_shards.get().to_be_bytes();
+        [a, b, c, d]
+    }
+}

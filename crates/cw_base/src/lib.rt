@@ -1,0 +1,26 @@
+//! What everything stands on: digests and hashers, strategies, numbers as bytes, and the outside
+//! as a source of bytes and a sink for them.
+#![tactic(auto)]
+
+mod codec;
+mod config;
+mod error;
+mod hash;
+mod items;
+mod memory;
+mod standard;
+mod strategy;
+mod stream;
+
+pub use codec::{put_be16, put_be32, put_be64, put_bytes, put_u8, put_varint};
+pub use config::Config;
+pub use error::{Failed, NoMemory};
+pub use hash::{Digest, Digest32, Hasher, Sha256, SumHasher};
+pub use items::Items;
+pub use memory::{MemorySink, MemorySource};
+pub use standard::{StdSink, StdSource};
+pub use strategy::{Sequential, Strategy};
+pub use stream::{Sink, Source};
+
+#[cfg(test)]
+mod tests;

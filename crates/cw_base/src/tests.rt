@@ -1,0 +1,78 @@
+use super::*;
+use std::test::Fail;
+
+fn digest(byte: u8) -> Digest32 {
+    Digest32([byte; 32])
+}
+
+#[test]
+fn hashers_give_known_digests(rt: HostRuntime) {
+    assert_eq!(rt; SumHasher::hash(&[]), digest(0));
+    assert_eq!(rt; SumHasher::hash(&[200, 57]), digest(1));
+    assert_eq!(rt; SumHasher::hash_pair(&[200], &[57, 2]), digest(3));
+    // the digest of "abc" in FIPS 180-4
+    let abc = Sha256::hash(b"abc");
+    assert!(rt; abc.as_bytes().starts_with(&[0xba, 0x78, 0x16, 0xbf]));
+    assert!(rt; Sha256::hash_pair(b"a", b"bc").is_same(&abc));
+    assert_eq!(rt; Digest32::from_slice(&[7; 32]), Some(digest(7)));
+    assert_eq!(rt; Digest32::from_slice(&[7; 31]), None);
+    assert_eq!(rt; Digest32::EMPTY, digest(0));
+}
+
+#[test]
+fn numbers_are_written_in_their_bytes(rt: HostRuntime) -> Result<(), Fail> {
+    let mut out = Vec::new(rt.alloc());
+    put_u8(&mut out, 5)?;
+    put_be16(&mut out, 0x0102)?;
+    put_be32(&mut out, 0x0304_0506)?;
+    put_be64(&mut out, 7)?;
+    put_bytes(&mut out, &[8, 9])?;
+    assert!(rt; out.as_slice() == [5, 1, 2, 3, 4, 5, 6, 0, 0, 0, 0, 0, 0, 0, 7, 8, 9].as_slice());
+    let mut varints = Vec::new(rt.alloc());
+    for value in [127u32, 128, 300, 1_048_576, u32::MAX] {
+        put_varint(&mut varints, value)?;
+    }
+    let want = [
+        0x7f, 0x80, 0x01, 0xac, 0x02, 0x80, 0x80, 0x40, 0xff, 0xff, 0xff, 0xff, 0x0f,
+    ];
+    assert!(rt; varints.as_slice() == want.as_slice());
+    Ok(())
+}
+
+#[test]
+fn a_source_fails_in_the_calls_named(rt: HostRuntime) -> Result<(), Fail> {
+    let bytes = [1u8, 2, 3, 4].to_vec(rt.alloc())?;
+    let failing = [2u64].to_vec(rt.alloc())?;
+    let mut source = MemorySource::new(bytes, 3, failing);
+    let mut room = [0u8; 8];
+    assert_eq!(rt; source.take(&mut room), Ok(3));
+    assert_eq!(rt; source.take(&mut room), Err(Failed));
+    assert_eq!(rt; source.take(&mut room), Ok(1));
+    assert_eq!(rt; source.take(&mut room), Ok(0));
+    Ok(())
+}
+
+#[test]
+fn a_sink_takes_pieces_within_its_room(rt: HostRuntime) -> Result<(), Fail> {
+    let failing = [2u64].to_vec(rt.alloc())?;
+    let mut sink = MemorySink::new(rt.alloc(), 1000, failing)?;
+    assert_eq!(rt; sink.put(&[7; 1020]), Ok(1000));
+    assert_eq!(rt; sink.put(&[5]), Err(Failed));
+    assert_eq!(rt; sink.put(&[5; 30]), Ok(24));
+    assert_eq!(rt; sink.put(&[5]), Err(Failed));
+    assert_eq!(rt; sink.put(&[]), Ok(0));
+    sink.reserve(2)?;
+    assert_eq!(rt; sink.put(&[6, 7, 8]), Ok(2));
+    assert_eq!(rt; sink.put(&[8]), Err(Failed));
+    assert!(rt; sink.bytes().ends_with(&[5, 5, 6, 7]));
+    assert_eq!(rt; sink.bytes().len(), 1026);
+    Ok(())
+}
+
+#[test]
+fn a_map_answers_in_the_order_of_the_items(rt: HostRuntime) -> Result<(), Fail> {
+    let halves = Sequential.map(&rt, rt.alloc(), &[8u64, 2, 5], &|x: &u64| *x / 2)?;
+    assert!(rt; halves.as_slice() == [4, 1, 2].as_slice());
+    assert_eq!(rt; Sequential.pieces(), 1);
+    Ok(())
+}
