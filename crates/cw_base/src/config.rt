@@ -1,7 +1,7 @@
 //! Into how many shards a text is cut.
 
 ghost use Rattle.std.specs.Prelude.{◌≡◌, ◌+◌};
-ghost use Rattle.cw_base.specs.Config.{config_bytes};
+ghost use Rattle.cw_base.specs.Config.{config_bytes, same_shards};
 
 use std::marker::Model;
 use std::num::NonZeroU16;
@@ -36,6 +36,14 @@ impl Config {
         ensures { result ≡ self.now.minimum + self.now.extra }
     {
         u32::from(self.minimum_shards.get()) + u32::from(self.extra_shards.get())
+    }
+
+    /// Whether the two have the same numbers.
+    pub fn is_same(&self, other: &Config) -> bool
+        ensures { result ≡ same_shards self.now other.now }
+    {
+        self.minimum_shards.get() == other.minimum_shards.get()
+            && self.extra_shards.get() == other.extra_shards.get()
     }
 
     /// Both numbers, the minimum first, each in two big-endian bytes.
