@@ -1,0 +1,43 @@
+-- The bytes of each value, in the order of its fields. Numbers are big-endian.
+use Rattle.std.specs.Prelude.{ℕ, ◌+◌, ◌==◌, List, [], ◌∷◌, ◌++◌, length, if◌then◌else◌}
+use Rattle.cw_base.specs.Bytes.{be16, be64, varint}
+use Rattle.cw_base.specs.Config.{config_bytes}
+use Rattle.cw_types.specs.declared.commitment.Commitment.{Commitment}
+use Rattle.cw_types.specs.declared.block.Context.{Context}
+use Rattle.cw_types.specs.Block.{Block}
+use Rattle.cw_types.specs.declared.vote.Proposal.{Proposal}
+use Rattle.cw_types.specs.declared.vote.Vote.{Vote}
+use Rattle.cw_types.specs.declared.vote.Vote.TheVariants as vote
+use Rattle.cw_types.specs.declared.message.Message.{Message}
+use Rattle.cw_types.specs.declared.message.Message.TheVariants as message
+
+-- block digest, root, context digest, config
+unfoldable pub commitment_bytes : Commitment → List ℕ
+commitment_bytes c = c.block.0 ++ c.root.0 ++ c.context.0 ++ config_bytes c.config
+
+-- epoch, view, leader, parent view, parent commitment
+unfoldable pub context_bytes : Context → List ℕ
+context_bytes c = be64 c.epoch ++ be64 c.view ++ be16 c.leader ++ be64 c.parent_view ++ commitment_bytes c.parent
+
+-- context, parent digest, height, payload with its length before it
+unfoldable pub block_bytes : Block → List ℕ
+block_bytes b = context_bytes b.context ++ b.parent.0 ++ be64 b.height ++ varint (length b.payload) ++ b.payload
+
+-- view, parent's view, payload's commitment; the epoch stands before, where it isn't 0
+unfoldable pub proposal_bytes : Proposal → List ℕ
+proposal_bytes p = be64 p.view ++ be64 p.parent ++ commitment_bytes p.payload
+
+-- the tag of a vote of epoch 0, or three more and the epoch
+unfoldable pub tag_bytes : ℕ → ℕ → List ℕ
+tag_bytes tag epoch = if epoch == 0 then tag ∷ [] else (tag + 3) ∷ be64 epoch
+
+-- a tag, and what the vote is on
+unfoldable pub vote_bytes : Vote → List ℕ
+vote_bytes (vote.Notarize p) = tag_bytes 0 p.epoch ++ proposal_bytes p
+vote_bytes (vote.Nullify epoch view) = tag_bytes 1 epoch ++ be64 view
+vote_bytes (vote.Finalize p) = tag_bytes 2 p.epoch ++ proposal_bytes p
+
+-- a tag, and the fields
+unfoldable pub message_bytes : Message → List ℕ
+message_bytes (message.Vote signer v) = 1 ∷ be16 signer ++ vote_bytes v
+message_bytes (message.Block b) = 5 ∷ block_bytes b

@@ -1,0 +1,27 @@
+//! The values that a cluster speaks of: blocks and what names them, votes, messages, notes, and the
+//! events and answers of a member's step; with their bytes, the numbers of a committee, and the
+//! first block.
+#![tactic(auto)]
+
+mod application;
+mod block;
+mod chain;
+mod commitment;
+mod event;
+mod message;
+mod note;
+mod numbers;
+mod vote;
+
+pub use application::{AcceptAll, Application, Verifier};
+pub use block::{ChainBlock, Context, Payload};
+pub use chain::{commit, genesis, genesis_commitment};
+pub use commitment::Commitment;
+pub use event::{Event, Handed, Out, StepOut, TicketOut, To};
+pub use message::Message;
+pub use note::Note;
+pub use numbers::{leader, max_faults, quorum};
+pub use vote::{Proposal, Vote, well_formed};
+
+#[cfg(test)]
+mod tests;

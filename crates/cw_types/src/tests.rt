@@ -1,0 +1,127 @@
+use super::*;
+use cw_base::{Digest32, Sequential, SumHasher};
+use std::alloc::Global;
+use std::test::Fail;
+
+fn first_proposal() -> Proposal {
+    Proposal {
+        epoch: 0,
+        view: 1,
+        parent: 0,
+        payload: genesis_commitment::<SumHasher>(),
+    }
+}
+
+fn hi(alloc: Global) -> Result<Payload, Fail> {
+    let bytes = [0x68u8, 0x69].to_vec(alloc)?;
+    Ok(Payload::new(bytes).ok().ok_or("a payload")?)
+}
+
+// the block of view 1 of a cluster of four, over the first block
+fn first_block(alloc: Global) -> Result<ChainBlock, Fail> {
+    let context = Context {
+        epoch: 0,
+        view: 1,
+        leader: 1,
+        parent_view: 0,
+        parent: genesis_commitment::<SumHasher>(),
+    };
+    Ok(ChainBlock::new(context, Digest32([2; 32]), 1, hi(alloc)?))
+}
+
+fn sum_of(bytes: &[u8]) -> u8 {
+    use cw_base::Hasher;
+    SumHasher::hash(bytes).0[0]
+}
+
+#[test]
+fn genesis_is_committed_to_by_its_digest(rt: HostRuntime) -> Result<(), Fail> {
+    let first = genesis::<SumHasher>(rt.alloc());
+    let named = genesis_commitment::<SumHasher>();
+    let committed = commit::<SumHasher, _, _>(&rt, rt.alloc(), 4, &first, &Sequential)?;
+    assert!(rt; named.is_same(&committed));
+    assert_eq!(rt; named.block, Digest32([2; 32]));
+    Ok(())
+}
+
+#[test]
+fn values_are_written_in_their_bytes(rt: HostRuntime) -> Result<(), Fail> {
+    let alloc = rt.alloc();
+    let mut out = Vec::new(alloc);
+    first_block(alloc)?.write(&mut out)?;
+    assert_eq!(rt; out.len(), 169);
+    // the number of the payload's bytes, and the payload
+    assert!(rt; out.as_slice().ends_with(&[0, 0, 0, 1, 2, 0x68, 0x69]));
+    let message = Message::Block(first_block(alloc)?);
+    let mut sent = Vec::new(alloc);
+    message.write(&mut sent)?;
+    assert_eq!(rt; sum_of(&sent), 0xdd);
+    let nullify = [
+        (0, [1u8, 0, 0, 0, 0, 0, 0, 0, 9].as_slice()),
+        (
+            7,
+            [4u8, 0, 0, 0, 0, 0, 0, 0, 7, 0, 0, 0, 0, 0, 0, 0, 9].as_slice(),
+        ),
+    ];
+    for (epoch, want) in nullify {
+        let mut bytes = Vec::new(alloc);
+        Vote::Nullify { epoch, view: 9 }.write(&mut bytes)?;
+        assert!(rt; bytes.as_slice() == want);
+    }
+    let mut bytes = Vec::new(alloc);
+    Vote::Finalize(first_proposal()).write(&mut bytes)?;
+    assert_eq!(rt; bytes.len(), 117);
+    Ok(())
+}
+
+#[test]
+fn a_vote_is_well_formed_within_its_views(rt: HostRuntime) {
+    let cases = [
+        (0, 0, false),
+        (1, 0, true),
+        (1, 1, false),
+        (u64::MAX, 0, false),
+    ];
+    for (view, parent, want) in cases {
+        let proposal = Proposal {
+            view,
+            parent,
+            ..first_proposal()
+        };
+        assert_eq!(rt; well_formed(&Vote::Notarize(proposal)), want);
+        assert_eq!(rt; well_formed(&Vote::Finalize(proposal)), want);
+    }
+    assert!(rt; well_formed(&Vote::Nullify { epoch: 3, view: 1 }));
+    assert!(rt; !well_formed(&Vote::Nullify { epoch: 3, view: 0 }));
+}
+
+#[test]
+fn a_committee_has_its_numbers(rt: HostRuntime) {
+    let cases = [(4, 1, 3), (6, 1, 5), (7, 2, 5), (65535, 21844, 43691)];
+    for (n, faults, members) in cases {
+        assert!(rt; n >= 4);
+        assert_eq!(rt; max_faults(n), faults);
+        assert_eq!(rt; quorum(n), members);
+        assert_eq!(rt; leader(9, n), (9 % u64::from(n)) as u16);
+    }
+}
+
+fn copied(alloc: Global) -> Result<bool, Fail> {
+    let block = first_block(alloc)?;
+    let note = Note::Block(genesis_commitment::<SumHasher>(), block.copy(alloc)?);
+    let event = Event::Deliver(Message::Block(block.copy(alloc)?));
+    let proposed = Event::Propose(hi(alloc)?);
+    Ok(
+        block == first_block(alloc)?
+            && note == note.copy(alloc)?
+            && event == event.copy(alloc)?
+            && proposed == proposed.copy(alloc)?
+            && proposed != event,
+    )
+}
+
+#[test]
+fn a_copy_equals_what_it_is_of(rt: HostRuntime) -> Result<(), Fail> {
+    assert!(rt; copied(rt.alloc())?);
+    Ok(())
+}
