@@ -84,9 +84,10 @@ fn a_vote_is_well_formed_within_its_views(rt: HostRuntime) {
     ];
     for (view, parent, want) in cases {
         let proposal = Proposal {
+            epoch: 0,
             view,
             parent,
-            ..first_proposal()
+            payload: genesis_commitment::<SumHasher>(),
         };
         assert_eq!(rt; well_formed(&Vote::Notarize(proposal)), want);
         assert_eq!(rt; well_formed(&Vote::Finalize(proposal)), want);
