@@ -1,11 +1,17 @@
 //! Digests, and the hash functions that give them.
 
-ghost use Rattle.std.specs.Prelude.{◌≡◌, ◌↔◌, ℕ, ◌%◌, ◌^◌, ◌++◌, List, length, replicate, sum, IfSome, IsSome, IsTrue};
+ghost use Rattle.std.specs.Prelude.{◌≡◌, ◌↔◌, ℕ, ◌%◌, ◌^◌, ◌++◌, List, length, replicate, sum, IfOk, IfSome, IsSome, IsTrue, ◌<◌};
 ghost use Rattle.sha2.specs.Sha256.{sha256};
 ghost use Rattle.cw_base.specs.Hash.{sum_bytes};
+ghost use Rattle.cw_base.specs.Rows.{row_hashes};
 
+use crate::error::NoMemory;
+use crate::rows::hash_rows;
+use crate::strategy::Strategy;
 use sha2::Digest as Sha2Digest;
+use std::alloc::Global;
 use std::hash::Hash;
+use std::thread::Threads;
 
 /// What a hash function answers: a fixed number of bytes.
 pub trait Digest: Copy + Eq + Ord + Hash + Send + Sync {
@@ -36,6 +42,9 @@ pub trait Digest: Copy + Eq + Ord + Hash + Send + Sync {
         ensures value { IfSome result (λ digest. content digest ≡ bytes.now) };
 
     ghost empty_is_zero: { content EMPTY ≡ replicate SIZE 0 };
+
+    /// Digests of the same bytes are one digest.
+    ghost told_by_bytes: { (a b : Self) → content a ≡ content b → a ≡ b };
 }
 
 /// A digest of 32 bytes.
@@ -71,6 +80,10 @@ impl Digest for Digest32 {
     }
 
     ghost empty_is_zero = { Prim.search };
+
+    ghost use Rattle.std.proofs.Common.{ap};
+
+    ghost told_by_bytes = { λ a b same. ap (λ bytes. record { 0 = bytes }) same };
 }
 
 /// A hash function from byte texts to digests.
@@ -90,6 +103,22 @@ pub trait Hasher: Send + Sync {
     /// The digest of `left` followed by `right`.
     fn hash_pair(left: &[u8], right: &[u8]) -> Self::Digest
         ensures { result ≡ digest_of (left.now ++ right.now) };
+
+    /// The digest of each of the rows of `width` bytes that stand end to end in `rows`, in their
+    /// order.
+    final fn hash_many<R: Threads + Sync, S: Strategy>(
+        rt: &R,
+        alloc: Global,
+        rows: &[u8],
+        width: usize,
+        strategy: &S,
+    ) -> Result<Vec<Self::Digest>, NoMemory>
+        requires positive { 0 < width }
+        requires whole_rows { length rows.now % width ≡ 0 }
+        ensures each_row { IfOk result (λ digests. digests.items ≡ row_hashes digest_of width rows.now) }
+    {
+        hash_rows::<Self, R, S>(rt, alloc, rows, width, strategy)
+    }
 }
 
 /// SHA-256, of FIPS 180-4.

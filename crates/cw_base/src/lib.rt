@@ -8,6 +8,9 @@ mod error;
 mod hash;
 mod items;
 mod memory;
+mod reader;
+mod reading_laws;
+mod rows;
 mod standard;
 mod strategy;
 mod stream;
@@ -18,9 +21,13 @@ pub use error::{Failed, NoMemory};
 pub use hash::{Digest, Digest32, Hasher, Sha256, SumHasher};
 pub use items::Items;
 pub use memory::{MemorySink, MemorySource};
+pub use reader::{CodecError, Reader};
+pub use reading_laws::numbers_read_back;
 pub use standard::{StdSink, StdSource};
 pub use strategy::{Sequential, Strategy};
 pub use stream::{Sink, Source};
 
+#[cfg(test)]
+mod reader_tests;
 #[cfg(test)]
 mod tests;
