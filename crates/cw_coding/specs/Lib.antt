@@ -1,0 +1,1 @@
+pub use Rattle.cw_tree.specs.Chunks
