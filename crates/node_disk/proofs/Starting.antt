@@ -1,0 +1,48 @@
+-- A start on a file shorter than two bytes.
+use Rattle.std.proofs.Common.{◌≡◌, ◌⊎◌, inl, inr, ℕ, ◌<◌, List, [], ◌∷◌, length, Ok, Option, true, refl, sym, ◌∙◌, ap, subst, arith}
+use Rattle.node_disk.specs.Images.{IsImage}
+use Rattle.node_disk.specs.Disk.{DiskState, DeviceCall, Synced, told_more, IsCutShort, IsFront, Torn, LeavesOnly}
+use Rattle.node_disk.specs.Frames.{read_log}
+use Rattle.node_disk.specs.Log.{IsBeforeOrSame, write_then_sync, first_gate, start_calls}
+use Rattle.node_disk.specs.Errors.{store_error}
+use Rattle.node_disk.specs.declared.disk.DiskError.{DiskError}
+use Rattle.node_disk.specs.declared.disk.DiskError.TheVariants.{Failed, NoMemory}
+use Rattle.node_disk.specs.declared.log.StoreError.TheVariants as store
+use Rattle.node_disk.proofs.Moments.{goes_on, weakens}
+use Rattle.node_disk.proofs.AddFrame.{cut_earlier, cut_later, front_later}
+
+read_short : (bytes : List ℕ) → length bytes < 2 → read_log bytes ≡ Ok []
+read_short [] short = refl
+read_short (a ∷ []) short = refl
+read_short (a ∷ b ∷ bytes) short = absurd (omega arith)
+
+pub short_start : (old mid new : DiskState) → LeavesOnly old mid (IsImage old.now) → mid.now.seen ≡ old.now.seen → length old.now.seen < 2 → LeavesOnly mid new (Torn 0 1 mid.now.seen) → LeavesOnly old new (IsBeforeOrSame old.now)
+short_start old mid new first same short second =
+    goes_on old mid new (IsBeforeOrSame old.now) (weakens old mid (IsImage old.now) (IsBeforeOrSame old.now) (λ c is. inl is) first)
+    (weakens mid new (Torn 0 1 mid.now.seen) (IsBeforeOrSame old.now) (λ c t. inr (read_short c (omega (arith, t.no_longer, ap length same)) ∙ sym (read_short old.now.seen short))) second)
+
+gate_calls : (seen : List ℕ) → length seen < 2 → write_then_sync 0 (0 ∷ []) ≡ first_gate seen
+gate_calls [] short = refl
+gate_calls (a ∷ []) short = refl
+gate_calls (a ∷ b ∷ seen) short = absurd (omega arith)
+
+-- the sync failed, or the read after it
+pub cut_first : (seen : List ℕ) (old new : Option (List DeviceCall)) → IsCutShort (Synced true ∷ []) old new ⊎ (new ≡ told_more old (Synced true ∷ [])) → IsCutShort (start_calls seen) old new ⊎ (new ≡ told_more old (Synced true ∷ []))
+cut_first seen old new (inl cut) = inl (cut_earlier (Synced true ∷ []) (first_gate seen) old new cut)
+cut_first seen old new (inr read) = inr read
+
+-- the first gate was not written or not synced
+pub cut_gate : (seen : List ℕ) (old mid new : Option (List DeviceCall)) → length seen < 2 → mid ≡ told_more old (Synced true ∷ []) → IsCutShort (write_then_sync 0 (0 ∷ [])) mid new → IsCutShort (start_calls seen) old new
+cut_gate seen old mid new short synced cut = cut_later (Synced true ∷ []) (first_gate seen) old mid new synced (subst (λ (l : List DeviceCall). IsCutShort l mid new) (gate_calls seen short) cut)
+
+pub front_gate : (seen : List ℕ) (old mid new : Option (List DeviceCall)) → length seen < 2 → mid ≡ told_more old (Synced true ∷ []) → IsFront (write_then_sync 0 (0 ∷ [])) mid new → IsFront (start_calls seen) old new
+front_gate seen old mid new short synced front = front_later (Synced true ∷ []) (first_gate seen) old mid new synced (subst (λ (l : List DeviceCall). IsFront l mid new) (gate_calls seen short) front)
+
+-- which error of a disk a store answers so
+pub disk_only : (e : DiskError) → store_error e ≡ store.Disk → e ≡ Failed
+disk_only Failed is = refl
+disk_only NoMemory is = absurd (cc)
+
+pub memory_only : (e : DiskError) → store_error e ≡ store.NoMemory → e ≡ NoMemory
+memory_only Failed is = absurd (cc)
+memory_only NoMemory is = refl

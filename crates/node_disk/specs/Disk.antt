@@ -1,0 +1,105 @@
+-- What a disk tells of itself, and what its calls do.
+use Rattle.std.specs.Prelude.{◌≡◌, ◌⊎◌, ℕ, ◌+◌, ◌≤◌, max, List, [], ◌∷◌, ◌++◌, length, take, drop, Option, Some, None, Bool, true, false}
+use Rattle.cw_base.specs.Causes.{Rose}
+use Rattle.node_disk.specs.Images.{Moment, IsImage, HadImage}
+
+-- a device call, and whether it succeeded
+pub data DeviceCall : Type 0 where
+  Wrote : (place : ℕ) (bytes : List ℕ) (done : Bool) → DeviceCall
+  Synced : (done : Bool) → DeviceCall
+
+-- the same call, failed
+abbrev pub failing : DeviceCall → DeviceCall
+failing (Wrote place bytes done) = Wrote place bytes false
+failing (Synced done) = Synced false
+
+-- What a disk tells of itself: this moment, the moments before each of its device calls, those calls where it tells
+-- them, how often a call failed, and how often a device call was tried, those refused for memory included.
+pub record DiskState : Type 0 where
+  pub now : Moment
+  pub past : List Moment
+  pub calls : Option (List DeviceCall)
+  pub faults : ℕ
+  pub tries : ℕ
+
+-- a crash at a moment since the one of this number may have left this image
+abbrev pub LeftSince : DiskState → ℕ → List ℕ → Type 0
+LeftSince disk moment image = HadImage (drop moment disk.past) image ⊎ IsImage disk.now image
+
+-- these calls more, where the disk tells its calls
+abbrev pub told_more : Option (List DeviceCall) → List DeviceCall → Option (List DeviceCall)
+told_more None calls = None
+told_more (Some told) calls = Some (told ++ calls)
+
+-- new is old with these bytes at this place
+abbrev pub Holds : List ℕ → ℕ → List ℕ → List ℕ → Type 0
+Holds old place bytes new = new ≡ take place old ++ bytes ++ drop (place + length bytes) old
+
+-- any bytes in this range and past the old end, the same elsewhere
+pub record Torn (place count : ℕ) (old new : List ℕ) : Type 0 where
+  pub before : take place new ≡ take place old
+  pub after : drop (place + count) new ≡ drop (place + count) old
+  pub no_shorter : length old ≤ length new
+  pub no_longer : length new ≤ max (length old) (place + count)
+
+-- a write that succeeded
+pub record HasWritten (place : ℕ) (bytes : List ℕ) (old new : DiskState) : Type 0 where
+  pub seen : Holds old.now.seen place bytes new.now.seen
+  pub synced : new.now.synced ≡ old.now.synced
+  pub ranges : new.now.ranges ≡ old.now.ranges ++ (place, length bytes) ∷ []
+  pub past : new.past ≡ old.past ++ old.now ∷ []
+  pub calls : new.calls ≡ told_more old.calls (Wrote place bytes true ∷ [])
+
+-- a write that failed counts as a written range
+pub record HasFailedToWrite (place : ℕ) (bytes : List ℕ) (old new : DiskState) : Type 0 where
+  pub seen : Torn place (length bytes) old.now.seen new.now.seen
+  pub synced : new.now.synced ≡ old.now.synced
+  pub ranges : new.now.ranges ≡ old.now.ranges ++ (place, length bytes) ∷ []
+  pub past : new.past ≡ old.past ++ old.now ∷ []
+  pub calls : new.calls ≡ told_more old.calls (Wrote place bytes false ∷ [])
+  pub cause : Rose old.faults new.faults
+
+-- a sync that succeeded
+pub record HasSynced (old new : DiskState) : Type 0 where
+  pub seen : new.now.seen ≡ old.now.seen
+  pub synced : new.now.synced ≡ old.now.seen
+  pub ranges : new.now.ranges ≡ []
+  pub past : new.past ≡ old.past ++ old.now ∷ []
+  pub calls : new.calls ≡ told_more old.calls (Synced true ∷ [])
+
+-- a sync that failed is no sync, and a read may then give another image
+pub record HasFailedToSync (old new : DiskState) : Type 0 where
+  pub seen : length new.now.seen ≡ length old.now.seen
+  pub synced : new.now.synced ≡ old.now.synced
+  pub ranges : new.now.ranges ≡ old.now.ranges
+  pub past : new.past ≡ old.past ++ old.now ∷ []
+  pub calls : new.calls ≡ told_more old.calls (Synced false ∷ [])
+  pub cause : Rose old.faults new.faults
+
+-- nothing was done to the disk
+pub record IsSame (old new : DiskState) : Type 0 where
+  pub now : new.now ≡ old.now
+  pub past : new.past ≡ old.past
+  pub calls : new.calls ≡ old.calls
+
+-- A crash at any moment from old to new, both included, leaves an image that has P.
+pub record LeavesOnly (old new : DiskState) (P : List ℕ → Type 0) : Type 0 where
+  pub since : List Moment
+  pub past : new.past ≡ old.past ++ since
+  pub during : (image : List ℕ) → HadImage since image → P image
+  pub after : (image : List ℕ) → IsImage new.now image → P image
+
+-- what is told more of these device calls is those in front, done, and then one that failed
+pub record IsCutShort (calls : List DeviceCall) (old new : Option (List DeviceCall)) : Type 0 where
+  pub did : List DeviceCall
+  pub next : DeviceCall
+  pub rest : List DeviceCall
+  pub whole : calls ≡ did ++ next ∷ rest
+  pub told : new ≡ told_more old (did ++ failing next ∷ [])
+
+-- what is told more of these device calls is those in front, done
+pub record IsFront (calls : List DeviceCall) (old new : Option (List DeviceCall)) : Type 0 where
+  pub did : List DeviceCall
+  pub rest : List DeviceCall
+  pub whole : calls ≡ did ++ rest
+  pub told : new ≡ told_more old did

@@ -1,0 +1,11 @@
+pub mod Disk
+pub mod Compose
+pub mod Frames
+pub mod Images
+pub mod Log
+pub mod Record
+pub mod MemoryLaws
+pub mod Memory
+pub mod Cut
+pub mod LogWords
+pub mod Errors

@@ -1,0 +1,64 @@
+-- A disk in memory, as every contract sees it.
+use Rattle.std.specs.Prelude.{◌≡◌, ℕ, ◌+◌, List, [], ◌∷◌, ◌++◌, length, Bool, true, false, ◌||◌, Option, Some, None}
+use Rattle.node_disk.specs.Disk.{DiskState}
+use Rattle.node_disk.specs.Record.{Request, Entry, Held, held_after, past_of, told_calls, moment_of, done_writes, decided, reopened_still, outcome_at, is_reached, is_listed}
+use Rattle.node_disk.specs.declared.record.Outcome.{Outcome}
+use Rattle.node_disk.specs.declared.record.Stop.{Stop}
+
+-- The record of its device calls, whether it was reopened since the last of them, the stop that is armed, the numbers of
+-- the device calls that fail, how often a call failed, and how often a device call was tried.
+pub record MemoryState : Type 0 where
+  pub calls : List Entry
+  pub reopened : Bool
+  pub stop : Option Stop
+  pub failing : List ℕ
+  pub faults : ℕ
+  pub tries : ℕ
+
+-- a new disk, with these numbers of calls that fail
+abbrev pub new_disk : List ℕ → MemoryState
+new_disk failing = record { calls = []; reopened = false; stop = None; failing = failing; faults = 0; tries = 0 }
+
+-- the disk after a restart: no stop is armed
+abbrev pub reopened_disk : MemoryState → MemoryState
+reopened_disk disk = record disk { reopened = true; stop = None }
+
+-- what it tells of itself
+abbrev pub memory_state : MemoryState → DiskState
+memory_state disk = record { now = moment_of (held_after disk.calls disk.reopened); past = past_of disk.calls; calls = Some (told_calls disk.calls); faults = disk.faults; tries = disk.tries }
+
+-- its bytes, and the writes that wait for a sync, are those that it holds
+pub record Keeps (held : Held) (bytes : List ℕ) (pending : List (ℕ × List ℕ)) : Type 0 where
+  pub seen : bytes ≡ held.seen
+  pub unsynced : pending ≡ done_writes held.writes
+
+-- a stop was reached, and the disk not reopened since
+abbrev pub is_stopped : MemoryState → Bool
+is_stopped disk = is_reached disk.stop (length disk.calls)
+
+-- the next device call fails: a stop stands at it or was reached before it, or its number is one of those that fail
+abbrev pub next_fails : MemoryState → Bool
+next_fails disk = is_reached disk.stop (length disk.calls + 1) || is_listed disk.failing (length disk.calls + 1)
+
+-- how the next device call goes
+abbrev pub next_outcome : MemoryState → Outcome
+next_outcome disk = outcome_at disk.stop disk.failing (length disk.calls)
+
+-- a stop at this device call from now, the first being 1
+abbrev pub stop_from_now : MemoryState → ℕ → ℕ → ℕ → Option Stop
+stop_from_now disk call cut fill = Some (record { after = length disk.calls; call = call; cut = cut; fill = fill })
+
+-- one device call more, which went as the stop and the numbers that fail decide
+pub record HasCalled (request : Request) (old new : MemoryState) : Type 0 where
+  pub calls : new.calls ≡ old.calls ++ record { reopened = old.reopened; request = request; outcome = next_outcome old } ∷ []
+  pub reopened : new.reopened ≡ false
+  pub stop : new.stop ≡ old.stop
+  pub failing : new.failing ≡ old.failing
+
+-- some device calls more, each of which went as the stop and the numbers that fail decide
+pub record Continues (old new : MemoryState) : Type 0 where
+  pub requests : List Request
+  pub calls : new.calls ≡ old.calls ++ decided old.stop old.failing (length old.calls) old.reopened requests
+  pub reopened : new.reopened ≡ reopened_still old.reopened requests
+  pub stop : new.stop ≡ old.stop
+  pub failing : new.failing ≡ old.failing

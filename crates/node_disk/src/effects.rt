@@ -1,0 +1,188 @@
+//! What a device call does to the bytes of a disk in memory.
+
+ghost use Rattle.std.specs.Prelude.{◌≡◌, ◌==◌, ◌+◌, ◌-◌, ◌≤◌, ◌<◌, ◌^◌, ◌++◌, [], ◌∷◌, ℕ, List, length, map, IfOk, OnOk, OnErr, vec_len, vec_capacity};
+ghost use Rattle.node_disk.specs.Record.{Write, Sync, Held, put_at, put_within, torn, put_torn, done_writes, write_of, effect, entry_of, is_listed, by_number, outcome_at, is_done};
+
+use crate::record::{Action, Call, Outcome, Pending, Stop};
+use std::alloc::{AllocError, Global};
+
+// Writes over what is there, and past the end.
+pub(crate) fn put_bytes(bytes: &mut Vec<u8>, place: u64, new: &[u8]) -> Result<(), AllocError>
+    ensures ok { OnOk result (bytes.new.items ≡ put_at bytes.old.items place new.now) }
+    ensures err { OnErr result (bytes.new.items ≡ bytes.old.items) }
+{
+    let len = bytes.len();
+    let at = (place as usize).min(len);
+    let room = len - at;
+    if new.len() <= room {
+        bytes[at..at + new.len()].copy_from_slice(new);
+    } else {
+        bytes.extend_from_slice(&new[room..])?;
+        bytes[at..len].copy_from_slice(&new[..room]);
+    }
+    Ok(())
+}
+
+// The same, and the bytes end where they did.
+fn put_inside(bytes: &mut Vec<u8>, place: u64, new: &[u8]) -> Result<(), AllocError>
+    ensures ok { OnOk result (bytes.new.items ≡ put_within bytes.old.items place new.now) }
+{
+    let len = bytes.len();
+    put_bytes(bytes, place, new)?;
+    bytes.truncate(len);
+    Ok(())
+}
+
+// The first of these bytes, and then the fill.
+pub(crate) fn make_torn(
+    alloc: Global,
+    bytes: &[u8],
+    cut: u64,
+    fill: u8,
+) -> Result<Vec<u8>, AllocError>
+    ensures { IfOk result (λ v. v.items ≡ torn cut fill bytes.now) }
+{
+    let cut = (cut as usize).min(bytes.len());
+    let mut made = bytes[..cut].to_vec(alloc)?;
+    made.resize(bytes.len(), fill)?;
+    Ok(made)
+}
+
+// What a write does. Where memory is refused nothing changes.
+#[tactic(auto, using(crate::proofs::Writes::done_pushes))]
+pub(crate) fn change_by_write(
+    alloc: Global,
+    bytes: &mut Vec<u8>,
+    pending: &mut Vec<Pending>,
+    place: u64,
+    new: &[u8],
+    outcome: Outcome,
+) -> Result<(), AllocError>
+    ensures seen { OnOk result ((held : Held) → bytes.old.items ≡ held.seen → bytes.new.items ≡ (effect held (Write place new.now) outcome).seen) }
+    ensures unsynced { OnOk result ((held : Held) → map write_of pending.old.items ≡ done_writes held.writes → map write_of pending.new.items ≡ done_writes (effect held (Write place new.now) outcome).writes) }
+    ensures err { OnErr result ((bytes.new.items ≡ bytes.old.items) × (pending.new.items ≡ pending.old.items)) }
+{
+    match outcome {
+        Outcome::Done => {
+            pending.reserve(1)?;
+            let kept = new.to_vec(alloc)?;
+            put_bytes(bytes, place, new)?;
+            let _ = pending.push(Pending { place, bytes: kept });
+            Ok(())
+        }
+        Outcome::Failed => Ok(()),
+        Outcome::Stopped { cut, fill } => {
+            let made = make_torn(alloc, new, cut, fill)?;
+            put_bytes(bytes, place, &made)
+        }
+    }
+}
+
+// Tears the writes since the last sync, joined in order.
+fn tear(
+    alloc: Global,
+    bytes: &mut Vec<u8>,
+    pending: &[Pending],
+    cut: u64,
+    fill: u8,
+) -> Result<(), AllocError>
+    ensures { OnOk result (bytes.new.items ≡ put_torn cut fill (map write_of pending.now) bytes.old.items) }
+{
+    let mut left = cut;
+    for write in pending {
+        let made = make_torn(alloc, &write.bytes, left, fill)?;
+        put_inside(bytes, write.place, &made)?;
+        left = left.saturating_sub(write.bytes.len() as u64);
+    }
+    Ok(())
+}
+
+// What a sync does. Where memory is refused nothing changes.
+pub(crate) fn change_by_sync(
+    alloc: Global,
+    bytes: &mut Vec<u8>,
+    pending: &mut Vec<Pending>,
+    outcome: Outcome,
+) -> Result<(), AllocError>
+    ensures seen { OnOk result ((held : Held) → bytes.old.items ≡ held.seen → map write_of pending.old.items ≡ done_writes held.writes → bytes.new.items ≡ (effect held Sync outcome).seen) }
+    ensures unsynced { OnOk result ((held : Held) → map write_of pending.old.items ≡ done_writes held.writes → map write_of pending.new.items ≡ done_writes (effect held Sync outcome).writes) }
+    ensures err { OnErr result ((bytes.new.items ≡ bytes.old.items) × (pending.new.items ≡ pending.old.items)) }
+{
+    match outcome {
+        Outcome::Done => {
+            pending.clear();
+            Ok(())
+        }
+        Outcome::Failed => Ok(()),
+        Outcome::Stopped { cut, fill } => {
+            let mut next = bytes.to_vec(alloc)?;
+            tear(alloc, &mut next, pending, cut, fill)?;
+            *bytes = next;
+            Ok(())
+        }
+    }
+}
+
+fn is_listed(failing: &[u64], number: u64) -> bool
+    ensures { result ≡ is_listed failing.now number }
+{
+    failing.iter().any(|x| *x == number)
+}
+
+// How it goes by the numbers that fail.
+fn numbered(failing: &[u64], made: u64) -> Outcome
+    requires { made + 1 < 2 ^ 64 }
+    ensures { result ≡ by_number failing.now made }
+{
+    if is_listed(failing, made + 1) {
+        Outcome::Failed
+    } else {
+        Outcome::Done
+    }
+}
+
+// How the next device call goes, after as many as were made.
+pub(crate) fn outcome_of(stop: Option<Stop>, failing: &[u64], made: u64) -> Outcome
+    requires { made + 1 < 2 ^ 64 }
+    ensures { result ≡ outcome_at stop failing.now made }
+{
+    match stop {
+        None => numbered(failing, made),
+        Some(stop) => match stop.after.checked_add(stop.call) {
+            None => numbered(failing, made),
+            Some(end) => {
+                if end <= made {
+                    Outcome::Failed
+                } else if end == made + 1 {
+                    Outcome::Stopped {
+                        cut: stop.cut,
+                        fill: stop.fill,
+                    }
+                } else {
+                    numbered(failing, made)
+                }
+            }
+        },
+    }
+}
+
+pub(crate) fn is_done(outcome: Outcome) -> bool
+    ensures { result ≡ is_done outcome }
+{
+    match outcome {
+        Outcome::Done => true,
+        Outcome::Failed | Outcome::Stopped { .. } => false,
+    }
+}
+
+// Records a device call, for which there is room.
+pub(crate) fn add_call(calls: &mut Vec<Call>, reopened: bool, action: Action, outcome: Outcome)
+    requires { vec_len calls.old < vec_capacity calls.old }
+    ensures { calls.new.items ≡ calls.old.items ++ record { reopened = reopened; action = action; outcome = outcome } ∷ [] }
+{
+    let _ = calls.push(Call {
+        reopened,
+        action,
+        outcome,
+    });
+}

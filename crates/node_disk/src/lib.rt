@@ -1,0 +1,23 @@
+//! The disk of a node as a trait, a disk in memory that can stop at any device call and tear what
+//! was written, and a log of frames that a crash leaves whole.
+//!
+//! What a disk promises stands in `specs/Images.antt` and `specs/Disk.antt`, the log's format in
+//! `specs/Frames.antt`, and what a stop leaves of an append in `specs/Cut.antt`.
+#![tactic(auto)]
+
+mod cut;
+mod disk;
+mod effects;
+mod log;
+mod memory;
+mod reading;
+mod record;
+
+pub use cut::{law_of_a_stop, law_of_reads};
+pub use disk::{Disk, DiskError};
+pub use log::{Log, StoreError};
+pub use memory::MemoryDisk;
+pub use record::{Outcome, Stop};
+
+#[cfg(test)]
+mod tests;

@@ -1,0 +1,347 @@
+//! A log of frames on a disk.
+
+ghost use Rattle.std.specs.Prelude.{◌≡◌, ◌⊎◌, ◌+◌, ◌≤◌, ◌<◌, ◌^◌, ◌++◌, [], ◌∷◌, List, ℕ, length, true, false, IfOk, OnOk, OnErr, IfErr, Err, IsErrOf, Some, None, slice_get};
+ghost use Rattle.node_disk.specs.Images.{IsImage, IsDurable};
+ghost use Rattle.cw_base.specs.Causes.{Rose};
+ghost use Rattle.node_disk.specs.Disk.{Holds, Torn, LeavesOnly, Synced, IsCutShort, IsFront, told_more};
+ghost use Rattle.node_disk.specs.Frames.{body, read_log, IsAtRest, Finds, FindsWithOrWithout};
+ghost use Rattle.node_disk.specs.Log.{IsSettled, all_items, write_then_sync, with_frame, calls_of_append, start_calls, IsBeforeOrSame};
+
+use crate::reading::read_frames;
+use crate::{Disk, DiskError, MemoryDisk};
+use cw_base::{NoMemory, put_be64, put_bytes, put_u8};
+use std::alloc::{AllocError, AllocFailed, Global};
+
+/// Why a store on a disk did not do what it was asked for.
+#[derive(Clone, Copy, Debug, PartialEq, Eq)]
+pub enum StoreError {
+    /// The disk failed in this call: its count of faults rose.
+    Disk,
+    /// An earlier call since the start answered `Disk`, or `NoMemory` after a device call was made.
+    /// It is tested before all else; start again on the disk.
+    Failed,
+    /// Memory was refused.
+    NoMemory,
+    /// A start found an open gate byte at this place, in bytes from the start of the file, whose
+    /// frame is cut, and only whole frames before it.
+    Foreign(u64),
+}
+
+impl From<AllocError> for StoreError {
+    ghost use Rattle.std.specs.Prelude.{◌≡◌};
+    ghost use Rattle.node_disk.specs.declared.log.StoreError.TheVariants.{NoMemory};
+
+    ghost from_gives = { λ _ e. e ≡ NoMemory };
+
+    fn from(_: AllocError) -> Self {
+        StoreError::NoMemory
+    }
+}
+
+impl From<NoMemory> for StoreError {
+    ghost use Rattle.std.specs.Prelude.{◌≡◌};
+    ghost use Rattle.node_disk.specs.declared.log.StoreError.TheVariants.{NoMemory};
+
+    ghost from_gives = { λ _ e. e ≡ NoMemory };
+
+    fn from(_: NoMemory) -> Self {
+        StoreError::NoMemory
+    }
+}
+
+impl<T: Drop> From<AllocFailed<T>> for StoreError {
+    ghost use Rattle.std.specs.Prelude.{◌≡◌};
+    ghost use Rattle.node_disk.specs.declared.log.StoreError.TheVariants.{NoMemory};
+
+    ghost from_gives = { λ _ e. e ≡ NoMemory };
+
+    fn from(_: AllocFailed<T>) -> Self {
+        StoreError::NoMemory
+    }
+}
+
+impl From<DiskError> for StoreError {
+    ghost use Rattle.std.specs.Prelude.{◌≡◌};
+    ghost use Rattle.node_disk.specs.Errors.{store_error};
+
+    ghost from_gives = { λ e f. f ≡ store_error e };
+
+    fn from(error: DiskError) -> Self {
+        match error {
+            DiskError::Failed => StoreError::Disk,
+            DiskError::NoMemory => StoreError::NoMemory,
+        }
+    }
+}
+
+/// A log of frames on a disk. It holds its frames in memory too.
+///
+/// The file is read from place 0. A gate byte that is 1 opens a frame: eight bytes of length, high
+/// byte first, the frame, and the next gate byte. Any other gate byte is closed and ends the log;
+/// what stands behind it doesn't count. A file shorter than two bytes has no frames.
+///
+/// An append writes length, frame and a closed gate behind the last gate, syncs, opens the last gate
+/// and syncs. So the gate stands closed on the disk until the frame behind it is there whole, and no
+/// checksum is needed.
+#[derive(Drop)]
+pub struct Log<D: Disk> {
+    alloc: Global,
+    disk: D,
+    frames: Vec<Vec<u8>>,
+    // The place of the last gate, which is closed.
+    gate: u64,
+    // An earlier call left the disk in doubt.
+    failed: bool,
+    ghost settled: { failed ≡ false → IsSettled (all_items frames.items) gate (D.state disk).now },
+}
+
+impl<D: Disk> Log<D> {
+    ghost use Rattle.node_disk.specs.LogWords.{log_frames, log_gate, log_disk, has_failed, LogIsSettled};
+
+    /// Opens the log of a disk: syncs, reads, and where the file is shorter than two bytes writes a
+    /// closed gate and syncs. An `Err` hands the disk back.
+    #[tactic(auto, using(crate::proofs::AtRest::settled_images))]
+    pub fn start(alloc: Global, mut disk: D) -> Result<Log<D>, (D, StoreError)>
+        // The frames are those of the bytes that it found, or a frame there is cut.
+        ensures ok { IfOk result (λ log. (has_failed log ≡ false) × Finds (log_frames log) (D.state disk).now.seen) }
+        ensures settled { IfOk result (λ log. LogIsSettled D.state log) }
+        ensures on_disk { IfOk result (λ log. (image : List ℕ) → IsImage (D.state (log_disk log)).now image → Finds (log_frames log) image) }
+        ensures foreign { (place : ℕ) → IfErr result (λ e. e.1 ≡ StoreError.Foreign place → read_log (D.state disk).now.seen ≡ Err place) }
+
+        // They stay in each image from the first sync on, and before it no other image than before can be left.
+        ensures any_moment { IfOk result (λ log. LeavesOnly (D.state disk) (D.state (log_disk log)) (IsBeforeOrSame (D.state disk).now)) }
+        ensures any_moment_err { IfErr result (λ e. LeavesOnly (D.state disk) (D.state e.0) (IsBeforeOrSame (D.state disk).now)) }
+
+        // The device calls: all of them, or up to the first that fails. A read that fails comes after the sync.
+        ensures calls { IfOk result (λ log. (D.state (log_disk log)).calls ≡ told_more (D.state disk).calls (start_calls (D.state disk).now.seen)) }
+        ensures calls_foreign { (place : ℕ) → IfErr result (λ e. e.1 ≡ StoreError.Foreign place → (D.state e.0).calls ≡ told_more (D.state disk).calls (start_calls (D.state disk).now.seen)) }
+        ensures calls_failed { IfErr result (λ e. e.1 ≡ StoreError.Disk → IsCutShort (start_calls (D.state disk).now.seen) (D.state disk).calls (D.state e.0).calls ⊎ ((D.state e.0).calls ≡ told_more (D.state disk).calls (Synced true ∷ []))) }
+        ensures calls_no_memory { IfErr result (λ e. e.1 ≡ StoreError.NoMemory → IsFront (start_calls (D.state disk).now.seen) (D.state disk).calls (D.state e.0).calls) }
+
+        ensures cause { IfErr result (λ e. e.1 ≡ StoreError.Disk → Rose (D.state disk).faults (D.state e.0).faults) }
+        ensures not_failed { IfErr result (λ e. e.1 ≡ StoreError.Failed → ⊥) }
+        ensures continues { IfOk result (λ log. D.continues disk (log_disk log)) }
+        ensures continues_err { IfErr result (λ e. D.continues disk e.0) }
+    {
+        let bytes = match found_bytes(alloc, &mut disk) {
+            Ok(bytes) => bytes,
+            Err(error) => return Err((disk, StoreError::from(error))),
+        };
+        if bytes.len() < 2 {
+            if let Err(error) = write_and_sync(&mut disk, 0, &[0]) {
+                return Err((disk, StoreError::from(error)));
+            }
+            return Ok(Log {
+                alloc,
+                disk,
+                frames: Vec::new(alloc),
+                gate: 0,
+                failed: false,
+            });
+        }
+        match read_frames(alloc, &bytes) {
+            Ok((frames, gate)) => Ok(Log {
+                alloc,
+                disk,
+                frames,
+                gate,
+                failed: false,
+            }),
+            Err(error) => Err((disk, error)),
+        }
+    }
+
+    /// The number of frames. It takes no memory.
+    pub fn frames(&self) -> usize
+        ensures { result ≡ length (log_frames self.now) }
+    {
+        self.frames.len()
+    }
+
+    /// The frame at this index, the first being 0. It takes no memory.
+    pub fn frame(&self, index: usize) -> &[u8]
+        requires { index < length (log_frames self.now) }
+        ensures { slice_get (log_frames self.now) index ≡ Some result.now }
+    {
+        self.frames[index].as_slice()
+    }
+
+    /// Adds a frame, which is then on the disk, by four device calls: it writes length, frame and a
+    /// closed gate behind the last gate, syncs, opens that gate, and syncs, and makes none after the
+    /// first that fails. An empty frame isn't added and calls no device. Refused for memory before a
+    /// device call, it changes nothing.
+    #[tactic(auto, using(crate::proofs::AtRest::settled_images))]
+    pub fn append(&mut self, frame: &[u8]) -> Result<(), StoreError>
+        ensures ok { OnOk result ((has_failed self.new ≡ false) × (log_frames self.new ≡ with_frame (log_frames self.old) frame.now)) }
+        ensures err { OnErr result (log_frames self.new ≡ log_frames self.old) }
+
+        ensures settled { has_failed self.new ≡ false → LogIsSettled D.state self.new }
+
+        // After it each image has all frames, the new one too.
+        ensures on_disk { OnOk result ((image : List ℕ) → IsImage (D.state (log_disk self.new)).now image → Finds (log_frames self.new) image) }
+
+        // A crash at any moment of the call leaves the frames from before it, with the new one or without.
+        ensures any_moment { has_failed self.old ≡ false → LeavesOnly (D.state (log_disk self.old)) (D.state (log_disk self.new)) (FindsWithOrWithout (log_frames self.old) frame.now) }
+
+        // The device calls: all of them, or up to the first that fails.
+        ensures calls { OnOk result ((D.state (log_disk self.new)).calls ≡ told_more (D.state (log_disk self.old)).calls (calls_of_append (log_gate self.old) frame.now)) }
+        ensures calls_failed { IsErrOf result StoreError.Disk → IsCutShort (calls_of_append (log_gate self.old) frame.now) (D.state (log_disk self.old)).calls (D.state (log_disk self.new)).calls }
+        ensures calls_no_memory { IsErrOf result StoreError.NoMemory → IsFront (calls_of_append (log_gate self.old) frame.now) (D.state (log_disk self.old)).calls (D.state (log_disk self.new)).calls }
+
+        // Each answer and its cause, and whether later calls answer `Failed`.
+        ensures disk { IsErrOf result StoreError.Disk → (has_failed self.new ≡ true) × Rose (D.state (log_disk self.old)).faults (D.state (log_disk self.new)).faults }
+        ensures failed { has_failed self.old ≡ true → IsErrOf result StoreError.Failed × (has_failed self.new ≡ true) × (log_disk self.new ≡ log_disk self.old) }
+        ensures failed_only { IsErrOf result StoreError.Failed → has_failed self.old ≡ true }
+        ensures no_memory { IsErrOf result StoreError.NoMemory → ((has_failed self.new ≡ true) × Rose (D.state (log_disk self.old)).tries (D.state (log_disk self.new)).tries) ⊎ ((has_failed self.new ≡ has_failed self.old) × (log_gate self.new ≡ log_gate self.old) × (log_disk self.new ≡ log_disk self.old)) }
+        ensures foreign { (place : ℕ) → IsErrOf result (StoreError.Foreign place) → ⊥ }
+        ensures continues { D.continues (log_disk self.old) (log_disk self.new) }
+
+        // Its length fits the eight bytes.
+        ensures short { length frame.now < 2 ^ 64 }
+    {
+        let count = frame.len();
+        if self.failed {
+            return Err(StoreError::Failed);
+        }
+        if count == 0 {
+            return Ok(());
+        }
+        self.frames.reserve(1)?;
+        let kept = frame.to_vec(self.alloc)?;
+        let bytes = bytes_of(self.alloc, frame)?;
+        let Some(next) = self.gate.checked_add(bytes.len() as u64) else {
+            return Err(StoreError::NoMemory);
+        };
+        self.failed = true;
+        add_frame(&mut self.disk, self.gate, &bytes)?;
+        let _ = self.frames.push(kept);
+        self.gate = next;
+        self.failed = false;
+        Ok(())
+    }
+
+    /// The disk of the log, as it stands.
+    pub fn into_disk(self) -> D
+        ensures { result ≡ log_disk self }
+    {
+        let Log {
+            alloc: _,
+            disk,
+            frames: _,
+            gate: _,
+            failed: _,
+        } = self;
+        disk
+    }
+}
+
+// Syncs a disk and reads it.
+fn found_bytes<D: Disk>(alloc: Global, disk: &mut D) -> Result<Vec<u8>, DiskError>
+    ensures bytes { IfOk result (λ bytes. bytes.items ≡ (D.state disk.old).now.seen) }
+    ensures seen { OnOk result ((D.state disk.new).now.seen ≡ (D.state disk.old).now.seen) }
+    ensures durable { OnOk result (IsDurable (D.state disk.new).now) }
+    ensures any_moment { LeavesOnly (D.state disk.old) (D.state disk.new) (IsImage (D.state disk.old).now) }
+    ensures calls { OnOk result ((D.state disk.new).calls ≡ told_more (D.state disk.old).calls (Synced true ∷ [])) }
+    ensures failed { IsErrOf result DiskError.Failed → IsCutShort (Synced true ∷ []) (D.state disk.old).calls (D.state disk.new).calls ⊎ ((D.state disk.new).calls ≡ told_more (D.state disk.old).calls (Synced true ∷ [])) }
+    ensures no_memory { IsErrOf result DiskError.NoMemory → IsFront (Synced true ∷ []) (D.state disk.old).calls (D.state disk.new).calls }
+    ensures cause { IsErrOf result DiskError.Failed → Rose (D.state disk.old).faults (D.state disk.new).faults }
+    ensures faults { (D.state disk.old).faults ≤ (D.state disk.new).faults }
+    ensures continues { D.continues disk.old disk.new }
+{
+    match disk.sync() {
+        Ok(()) => disk.read_all(alloc),
+        Err(error) => Err(error),
+    }
+}
+
+// What an append writes behind the last gate: length, frame and a closed gate.
+fn bytes_of(alloc: Global, frame: &[u8]) -> Result<Vec<u8>, NoMemory>
+    ensures { IfOk result (λ bytes. bytes.items ≡ body frame.now ++ 0 ∷ []) }
+{
+    let mut bytes = Vec::new(alloc);
+    put_be64(&mut bytes, frame.len() as u64)?;
+    put_bytes(&mut bytes, frame)?;
+    put_u8(&mut bytes, 0)?;
+    Ok(bytes)
+}
+
+// Writes bytes on a disk that is all synced, and syncs it.
+fn write_and_sync<D: Disk>(disk: &mut D, place: u64, bytes: &[u8]) -> Result<(), DiskError>
+    requires inside { place ≤ length (D.state disk.old).now.seen }
+    requires durable { IsDurable (D.state disk.old).now }
+    ensures written { OnOk result (Holds (D.state disk.old).now.seen place bytes.now (D.state disk.new).now.seen) }
+    ensures durable { OnOk result (IsDurable (D.state disk.new).now) }
+    ensures any_moment { LeavesOnly (D.state disk.old) (D.state disk.new) (Torn place (length bytes.now) (D.state disk.old).now.seen) }
+    ensures calls { OnOk result ((D.state disk.new).calls ≡ told_more (D.state disk.old).calls (write_then_sync place bytes.now)) }
+    ensures failed { IsErrOf result DiskError.Failed → IsCutShort (write_then_sync place bytes.now) (D.state disk.old).calls (D.state disk.new).calls }
+    ensures no_memory { IsErrOf result DiskError.NoMemory → IsFront (write_then_sync place bytes.now) (D.state disk.old).calls (D.state disk.new).calls }
+    ensures cause { IsErrOf result DiskError.Failed → Rose (D.state disk.old).faults (D.state disk.new).faults }
+    ensures faults { (D.state disk.old).faults ≤ (D.state disk.new).faults }
+    ensures tried { Rose (D.state disk.old).tries (D.state disk.new).tries }
+    ensures continues { D.continues disk.old disk.new }
+{
+    match disk.write_at(place, bytes) {
+        Ok(()) => disk.sync(),
+        Err(error) => Err(error),
+    }
+}
+
+// Writes a frame's bytes and a closed gate behind the last gate, and then opens that gate.
+fn add_frame<D: Disk>(disk: &mut D, gate: u64, bytes: &[u8]) -> Result<(), DiskError>
+    requires inside { gate < length (D.state disk.old).now.seen }
+    requires fits { gate + 1 < 2 ^ 64 }
+    requires durable { IsDurable (D.state disk.old).now }
+    ensures ok { OnOk result ((frames : List (List ℕ)) (frame : List ℕ) → IsAtRest frames gate (D.state disk.old).now.seen → bytes.now ≡ body frame ++ 0 ∷ [] → length frame < 2 ^ 64
+        → IsSettled (frames ++ frame ∷ []) (gate + length bytes.now) (D.state disk.new).now) }
+    ensures any_moment { (frames : List (List ℕ)) (frame : List ℕ) → IsAtRest frames gate (D.state disk.old).now.seen → bytes.now ≡ body frame ++ 0 ∷ [] → length frame < 2 ^ 64
+        → LeavesOnly (D.state disk.old) (D.state disk.new) (FindsWithOrWithout frames frame) }
+    ensures calls { OnOk result ((D.state disk.new).calls ≡ told_more (D.state disk.old).calls (write_then_sync (gate + 1) bytes.now ++ write_then_sync gate (1 ∷ []))) }
+    ensures failed { IsErrOf result DiskError.Failed → IsCutShort (write_then_sync (gate + 1) bytes.now ++ write_then_sync gate (1 ∷ [])) (D.state disk.old).calls (D.state disk.new).calls }
+    ensures no_memory { IsErrOf result DiskError.NoMemory → IsFront (write_then_sync (gate + 1) bytes.now ++ write_then_sync gate (1 ∷ [])) (D.state disk.old).calls (D.state disk.new).calls }
+    ensures cause { IsErrOf result DiskError.Failed → Rose (D.state disk.old).faults (D.state disk.new).faults }
+    ensures faults { (D.state disk.old).faults ≤ (D.state disk.new).faults }
+    ensures tried { Rose (D.state disk.old).tries (D.state disk.new).tries }
+    ensures continues { D.continues disk.old disk.new }
+{
+    match write_and_sync(disk, gate + 1, bytes) {
+        Ok(()) => write_and_sync(disk, gate, &[1]),
+        Err(error) => Err(error),
+    }
+}
+
+/// What a log over a disk in memory shows of it.
+impl Log<MemoryDisk> {
+    ghost use Rattle.node_disk.specs.LogWords.{log_frames, log_gate, log_disk, has_failed};
+    ghost use Rattle.node_disk.specs.Memory.{memory_state, is_stopped, stop_from_now};
+
+    /// Arms a stop of the disk, as [`MemoryDisk::stop_at`] does.
+    pub fn stop_at(&mut self, call: u64, cut: u64, fill: u8)
+        ensures armed { is_stopped (log_disk self.old) ≡ false → log_disk self.new ≡ record (log_disk self.old) { stop = stop_from_now (log_disk self.old) call cut fill } }
+        ensures stopped { is_stopped (log_disk self.old) ≡ true → log_disk self.new ≡ log_disk self.old }
+        ensures state { memory_state (log_disk self.new) ≡ memory_state (log_disk self.old) }
+        ensures frames { log_frames self.new ≡ log_frames self.old }
+        ensures gate { log_gate self.new ≡ log_gate self.old }
+        ensures failed { has_failed self.new ≡ has_failed self.old }
+    {
+        self.disk.stop_at(call, cut, fill);
+    }
+
+    /// Drops a stop of the disk that wasn't reached.
+    pub fn disarm(&mut self)
+        ensures dropped { is_stopped (log_disk self.old) ≡ false → log_disk self.new ≡ record (log_disk self.old) { stop = None } }
+        ensures stopped { is_stopped (log_disk self.old) ≡ true → log_disk self.new ≡ log_disk self.old }
+        ensures state { memory_state (log_disk self.new) ≡ memory_state (log_disk self.old) }
+        ensures frames { log_frames self.new ≡ log_frames self.old }
+        ensures gate { log_gate self.new ≡ log_gate self.old }
+        ensures failed { has_failed self.new ≡ has_failed self.old }
+    {
+        self.disk.disarm();
+    }
+
+    /// What a read of the disk gives.
+    pub fn bytes(&self) -> &[u8]
+        ensures { result.now ≡ (memory_state (log_disk self.now)).now.seen }
+    {
+        self.disk.bytes()
+    }
+}

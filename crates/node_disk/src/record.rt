@@ -1,0 +1,47 @@
+//! The record of a disk in memory.
+
+/// How a device call went.
+#[derive(Clone, Copy)]
+pub enum Outcome {
+    /// It did what it was asked for.
+    Done,
+    /// It did nothing.
+    Failed,
+    /// The disk stopped in it: the first `cut` bytes are as written, and the rest are `fill`.
+    Stopped { cut: u64, fill: u8 },
+}
+
+/// What a device call asks for.
+#[derive(Drop)]
+pub(crate) enum Action {
+    /// These bytes at this place.
+    Write { place: u64, bytes: Vec<u8> },
+    /// That all which was written be kept.
+    Sync,
+}
+
+/// A device call, and how it went.
+#[derive(Drop)]
+pub(crate) struct Call {
+    /// The disk was reopened since the call before.
+    pub reopened: bool,
+    pub action: Action,
+    pub outcome: Outcome,
+}
+
+/// A stop at the device call whose number is the sum of `after`, the calls that were made before
+/// it was armed, and `call`.
+#[derive(Clone, Copy)]
+pub struct Stop {
+    pub after: u64,
+    pub call: u64,
+    pub cut: u64,
+    pub fill: u8,
+}
+
+/// A write that was done since the last sync, at a place in bytes from the start.
+#[derive(Drop)]
+pub(crate) struct Pending {
+    pub place: u64,
+    pub bytes: Vec<u8>,
+}
