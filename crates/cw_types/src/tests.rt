@@ -3,11 +3,11 @@ use cw_base::{Digest32, Sequential, SumHasher};
 use std::alloc::Global;
 use std::test::Fail;
 
-fn first_proposal() -> Proposal {
+fn proposal(view: u64, parent: u64) -> Proposal {
     Proposal {
         epoch: 0,
-        view: 1,
-        parent: 0,
+        view,
+        parent,
         payload: genesis_commitment::<SumHasher>(),
     }
 }
@@ -69,7 +69,7 @@ fn values_are_written_in_their_bytes(rt: HostRuntime) -> Result<(), Fail> {
         assert!(rt; bytes.as_slice() == want);
     }
     let mut bytes = Vec::new(alloc);
-    Vote::Finalize(first_proposal()).write(&mut bytes)?;
+    Vote::Finalize(proposal(1, 0)).write(&mut bytes)?;
     assert_eq!(rt; bytes.len(), 117);
     Ok(())
 }
@@ -83,14 +83,10 @@ fn a_vote_is_well_formed_within_its_views(rt: HostRuntime) {
         (u64::MAX, 0, false),
     ];
     for (view, parent, want) in cases {
-        let proposal = Proposal {
-            epoch: 0,
-            view,
-            parent,
-            payload: genesis_commitment::<SumHasher>(),
-        };
-        assert_eq!(rt; well_formed(&Vote::Notarize(proposal)), want);
-        assert_eq!(rt; well_formed(&Vote::Finalize(proposal)), want);
+        let notarize = Vote::Notarize(proposal(view, parent));
+        assert_eq!(rt; well_formed(&notarize), want);
+        let finalize = Vote::Finalize(proposal(view, parent));
+        assert_eq!(rt; well_formed(&finalize), want);
     }
     assert!(rt; well_formed(&Vote::Nullify { epoch: 3, view: 1 }));
     assert!(rt; !well_formed(&Vote::Nullify { epoch: 3, view: 0 }));
