@@ -1,0 +1,15 @@
+//! One member of a cluster, step by step.
+#![tactic(auto)]
+
+mod accept;
+mod notes;
+mod owe;
+mod propose;
+mod send;
+mod state;
+mod step;
+
+pub use state::{Node, NodeError};
+
+#[cfg(test)]
+mod tests;
