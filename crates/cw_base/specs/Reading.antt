@@ -3,7 +3,7 @@ use Rattle.std.specs.Int.{Width, w16, w32, w64, byte_len, from_be_bytes}
 use Rattle.std.specs.Prelude.{◌≡◌, ℕ, zero, suc, ◌+◌, ◌*◌, ◌-◌, ◌==◌, ◌&&◌, Bool, true, false, not, nat_lt, if◌then◌else◌, List, [], ◌∷◌, length, take, drop, Result, Ok, Err}
 use Rattle.cw_base.specs.Shards.{Shards}
 use Rattle.cw_base.specs.declared.reader.CodecError.{CodecError}
-use Rattle.cw_base.specs.declared.reader.CodecError.TheVariants.{EndOfBuffer, InvalidVarint, TooLong, Invalid, Extra, NoMemory}
+use Rattle.cw_base.specs.declared.reader.CodecError.TheVariants.{EndOfBuffer, InvalidVarint, Invalid, Extra, NoMemory}
 
 -- a value and the bytes after it, or why there is none and the bytes that are left then
 abbrev pub Reading : Type 0 → Type 0

@@ -119,6 +119,9 @@ pub trait Hasher: Send + Sync {
     {
         hash_rows::<Self, R, S>(rt, alloc, rows, width, strategy)
     }
+
+    /// Each digest has `SIZE` bytes.
+    ghost sized: { (bytes : List ℕ) → length (Self.Digest.content (digest_of bytes)) ≡ Self.Digest.SIZE };
 }
 
 /// SHA-256, of FIPS 180-4.
@@ -140,6 +143,10 @@ impl Hasher for Sha256 {
         hasher.update(right);
         Digest32(hasher.finalize())
     }
+
+    ghost use Rattle.cw_base.specs.HashSizes.{length-sha256};
+
+    ghost sized = { length-sha256 };
 }
 
 /// A hash for tests and examples, whose digests can be found by hand and whose collisions are many:
@@ -170,4 +177,8 @@ impl Hasher for SumHasher {
     fn hash_pair(left: &[u8], right: &[u8]) -> Digest32 {
         Digest32([sum_of(left).wrapping_add(sum_of(right)); 32])
     }
+
+    ghost use Rattle.cw_base.specs.HashSizes.{length-sum_bytes};
+
+    ghost sized = { length-sum_bytes };
 }

@@ -1,4 +1,4 @@
-use Rattle.std.proofs.Common.{◌≡◌, ◌<◌, ◌≤◌, ◌*◌, ◌^◌, ◌-◌, ◌+◌, arith}
+use Rattle.std.proofs.Common.{arith}
 use Rattle.cw_base.proofs.Varints.{last_small, more_small, more_fits}
 use Rattle.cw_base.proofs.reader.+varint_of.Goals as goal
 use Rattle.cw_base.proofs.reader.+varint_of.Goals.{else-more-eq0-via-then-more-eq0+else-byte-gt15, else-more-eq0-via-else-more-eq0}

@@ -1,4 +1,4 @@
-use Rattle.std.proofs.Common.{◌≡◌, ℕ, ◌*◌, ◌/◌, List, length, take, drop, map, ap, sym, ◌∙◌, Bor}
+use Rattle.std.proofs.Common.{map, ap, ◌∙◌}
 use Rattle.cw_base.specs.Rows.{mapped_items, hashes_are}
 use Rattle.cw_base.proofs.rows.hash_rows.Goals as goal
 
