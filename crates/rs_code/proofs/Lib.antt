@@ -1,0 +1,13 @@
+pub mod Ring
+pub mod Extension
+pub mod Tower
+pub mod Numbers
+pub mod Field
+pub mod Polynomial
+pub mod Codewords
+pub mod RowBytes
+pub mod RowLaws
+pub mod WeightLaws
+pub mod StripeCuts
+pub mod IndexLaws
+pub mod Mapped
