@@ -1,8 +1,10 @@
 //! What a device call does to the bytes of a disk in memory.
 
 ghost use Rattle.std.specs.Prelude.{◌≡◌, ◌==◌, ◌+◌, ◌-◌, ◌≤◌, ◌<◌, ◌^◌, ◌++◌, [], ◌∷◌, ℕ, List, length, map, IfOk, OnOk, OnErr, vec_len, vec_capacity};
+ghost use Rattle.cw_base.specs.Causes.{Rose};
 ghost use Rattle.node_disk.specs.Record.{Write, Sync, Held, put_at, put_within, torn, put_torn, done_writes, write_of, effect, entry_of, is_listed, by_number, outcome_at, is_done};
 
+use crate::DiskError;
 use crate::record::{Action, Call, Outcome, Pending, Stop};
 use std::alloc::{AllocError, Global};
 
@@ -173,6 +175,16 @@ pub(crate) fn is_done(outcome: Outcome) -> bool
         Outcome::Done => true,
         Outcome::Failed | Outcome::Stopped { .. } => false,
     }
+}
+
+// A count that stays at its greatest value once it is there, and the answer of a call that failed.
+pub(crate) fn count_fault(faults: &mut u64) -> DiskError
+    ensures failed { result ≡ DiskError.Failed }
+    ensures cause { Rose faults.old faults.new }
+    ensures later { faults.old ≤ faults.new }
+{
+    *faults = faults.saturating_add(1);
+    DiskError::Failed
 }
 
 // Records a device call, for which there is room.

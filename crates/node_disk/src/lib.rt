@@ -5,16 +5,16 @@
 //! `specs/Frames.antt`, and what a stop leaves of an append in `specs/Cut.antt`.
 #![tactic(auto)]
 
-mod cut;
 mod disk;
 mod effects;
+mod laws;
 mod log;
 mod memory;
 mod reading;
 mod record;
 
-pub use cut::{law_of_a_stop, law_of_reads};
 pub use disk::{Disk, DiskError};
+pub use laws::{law_of_a_stop, law_of_reads};
 pub use log::{Log, StoreError};
 pub use memory::MemoryDisk;
 pub use record::{Outcome, Stop};

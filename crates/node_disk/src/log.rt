@@ -107,6 +107,7 @@ impl<D: Disk> Log<D> {
         ensures settled { IfOk result (λ log. LogIsSettled D.state log) }
         ensures on_disk { IfOk result (λ log. (image : List ℕ) → IsImage (D.state (log_disk log)).now image → Finds (log_frames log) image) }
         ensures foreign { (place : ℕ) → IfErr result (λ e. e.1 ≡ StoreError.Foreign place → read_log (D.state disk).now.seen ≡ Err place) }
+        ensures foreign_same { (place : ℕ) → IfErr result (λ e. e.1 ≡ StoreError.Foreign place → (D.state e.0).now.seen ≡ (D.state disk).now.seen) }
 
         // They stay in each image from the first sync on, and before it no other image than before can be left.
         ensures any_moment { IfOk result (λ log. LeavesOnly (D.state disk) (D.state (log_disk log)) (IsBeforeOrSame (D.state disk).now)) }

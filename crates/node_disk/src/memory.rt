@@ -4,7 +4,7 @@ ghost use Rattle.std.specs.Prelude.{◌≡◌, ◌+◌, [], ◌∷◌, ◌++◌,
 ghost use Rattle.node_disk.specs.Images.{IsDurable};
 ghost use Rattle.node_disk.specs.Memory.{memory_state, new_disk, reopened_disk, is_stopped, stop_from_now};
 
-use crate::effects::{add_call, change_by_sync, change_by_write, is_done, outcome_of};
+use crate::effects::{add_call, change_by_sync, change_by_write, count_fault, is_done, outcome_of};
 use crate::record::{Action, Call, Pending, Stop};
 use crate::{Disk, DiskError};
 use std::alloc::Global;
@@ -174,12 +174,13 @@ impl Disk for MemoryDisk {
         ensures cause { IsErrOf result DiskError.Failed → Rose (memory_state self.old).faults (memory_state self.new).faults }
         ensures continues { Continues self.old self.new }
 
+        ensures kept { self.new ≡ record self.old { faults = self.new.faults } }
+        ensures calm { IfOk result (λ bytes. self.new.faults ≡ self.old.faults) }
         ensures stopped { is_stopped self.old ≡ true → IsErrOf result DiskError.Failed }
         ensures only_stopped { IsErrOf result DiskError.Failed → is_stopped self.old ≡ true }
     {
         if self.is_stopped() {
-            self.faults = self.faults.saturating_add(1);
-            return Err(DiskError::Failed);
+            return Err(count_fault(&mut self.faults));
         }
         Ok(self.bytes.to_vec(alloc)?)
     }
@@ -196,6 +197,7 @@ impl Disk for MemoryDisk {
 
         ensures recorded { OnOk result (HasCalled (Write place bytes.now) self.old self.new) }
         ensures failure_recorded { IsErrOf result DiskError.Failed → HasCalled (Write place bytes.now) self.old self.new }
+        ensures calm { OnOk result (self.new.faults ≡ self.old.faults) }
         ensures succeeds { OnOk result (next_fails self.old ≡ false) }
         ensures fails { IsErrOf result DiskError.Failed → next_fails self.old ≡ true }
     {
@@ -217,8 +219,7 @@ impl Disk for MemoryDisk {
         if is_done(outcome) {
             return Ok(());
         }
-        self.faults = self.faults.saturating_add(1);
-        Err(DiskError::Failed)
+        Err(count_fault(&mut self.faults))
     }
 
     // The same of a sync.
@@ -232,6 +233,7 @@ impl Disk for MemoryDisk {
 
         ensures recorded { OnOk result (HasCalled Sync self.old self.new) }
         ensures failure_recorded { IsErrOf result DiskError.Failed → HasCalled Sync self.old self.new }
+        ensures calm { OnOk result (self.new.faults ≡ self.old.faults) }
         ensures succeeds { OnOk result (next_fails self.old ≡ false) }
         ensures fails { IsErrOf result DiskError.Failed → next_fails self.old ≡ true }
     {
@@ -244,7 +246,6 @@ impl Disk for MemoryDisk {
         if is_done(outcome) {
             return Ok(());
         }
-        self.faults = self.faults.saturating_add(1);
-        Err(DiskError::Failed)
+        Err(count_fault(&mut self.faults))
     }
 }

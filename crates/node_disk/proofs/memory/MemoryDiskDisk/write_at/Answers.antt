@@ -28,7 +28,7 @@ invariant_of-self-2 c =
     let m = c.self.inside in
     let o = c.outcome_of-outcome.result in
     let old : MemoryState = record { calls = map entry_of m.calls.items; reopened = m.reopened; stop = m.stop; failing = m.failing.items; faults = m.faults; tries = m.tries } in
-    let new : MemoryState = record { calls = map entry_of c.add_call.new.calls.items; reopened = false; stop = m.stop; failing = m.failing.items; faults = c.saturating_add-self-inside-2.result; tries = c.saturating_add-self-inside.result } in
+    let new : MemoryState = record { calls = map entry_of c.add_call.new.calls.items; reopened = false; stop = m.stop; failing = m.failing.items; faults = c.count_fault.new.faults; tries = c.saturating_add-self-inside.result } in
     let call : Call = record { reopened = m.reopened; action = action.Write c.args.place c.in_ok-kept.kept; outcome = o } in
     let request : Request = Write c.args.place c.args.bytes.now in
     let pushed : c.add_call.new.calls.items ≡ m.calls.items ++ call ∷ [] = search rules in
@@ -74,7 +74,7 @@ returns-clause-continues c =
     let m = c.self.inside in
     let o = c.outcome_of-outcome.result in
     let old : MemoryState = record { calls = map entry_of m.calls.items; reopened = m.reopened; stop = m.stop; failing = m.failing.items; faults = m.faults; tries = m.tries } in
-    let new : MemoryState = record { calls = map entry_of c.add_call.new.calls.items; reopened = false; stop = m.stop; failing = m.failing.items; faults = c.saturating_add-self-inside-2.result; tries = c.saturating_add-self-inside.result } in
+    let new : MemoryState = record { calls = map entry_of c.add_call.new.calls.items; reopened = false; stop = m.stop; failing = m.failing.items; faults = c.count_fault.new.faults; tries = c.saturating_add-self-inside.result } in
     let call : Call = record { reopened = m.reopened; action = action.Write c.args.place c.in_ok-kept.kept; outcome = o } in
     let request : Request = Write c.args.place c.args.bytes.now in
     let pushed : c.add_call.new.calls.items ≡ m.calls.items ++ call ∷ [] = search rules in
@@ -89,7 +89,7 @@ returns-clause-failed c e =
     let m = c.self.inside in
     let o = c.outcome_of-outcome.result in
     let old : MemoryState = record { calls = map entry_of m.calls.items; reopened = m.reopened; stop = m.stop; failing = m.failing.items; faults = m.faults; tries = m.tries } in
-    let new : MemoryState = record { calls = map entry_of c.add_call.new.calls.items; reopened = false; stop = m.stop; failing = m.failing.items; faults = c.saturating_add-self-inside-2.result; tries = c.saturating_add-self-inside.result } in
+    let new : MemoryState = record { calls = map entry_of c.add_call.new.calls.items; reopened = false; stop = m.stop; failing = m.failing.items; faults = c.count_fault.new.faults; tries = c.saturating_add-self-inside.result } in
     let call : Call = record { reopened = m.reopened; action = action.Write c.args.place c.in_ok-kept.kept; outcome = o } in
     let request : Request = Write c.args.place c.args.bytes.now in
     let pushed : c.add_call.new.calls.items ≡ m.calls.items ++ call ∷ [] = search rules in
@@ -98,5 +98,5 @@ returns-clause-failed c e =
     let known : o ≡ outcome_at m.stop m.failing.items (length m.calls.items) = search rules in
     let called : HasCalled request old new = called_by request m.calls.items c.add_call.new.calls.items call old new pushed asked known refl refl refl refl refl refl in
     let not_done : is_done o ≡ false = search rules in
-    let rose : Rose old.faults new.faults = search rules in
+    let rose : Rose old.faults new.faults = c.count_fault.ensures.cause in
     subst (λ (s : MemoryState). HasFailedToWrite c.args.place c.args.bytes.now (memory_state s) (memory_state new)) c.self.view_is (write_failed c.args.place c.args.bytes.now old new called (outcome_was request old new called o m.calls.items false known refl not_done) (rw (← c.self.view_is) at c.requires) rose)
