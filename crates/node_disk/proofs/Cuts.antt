@@ -3,7 +3,7 @@ use Rattle.std.proofs.Common.{◌≡◌, ◌≢◌, inl, inr, ℕ, zero, suc, �
 use Rattle.std.proofs.lemmas.List.{map-append, append_cancel_left, take_at, drop_at, take_all}
 use Rattle.std.proofs.lemmas.Bool.{cases_lt}
 use Rattle.std.proofs.lemmas.Bool.Decides.{nat_tests}
-use Rattle.node_disk.specs.Disk.{DeviceCall, Wrote, Synced, failing, told_more, Holds, IsCutShort}
+use Rattle.node_disk.specs.Disk.{DeviceCall, Wrote, Synced, failing, told_more, HasTold, Holds, IsCutShort}
 use Rattle.node_disk.specs.Frames.{body, blocks, IsAtRest, Finds}
 use Rattle.node_disk.specs.Log.{IsSettled, append_calls}
 use Rattle.node_disk.specs.Record.{Held, Written, Entry, Request, Write, Sync, range_of, put_at, put_within, torn, put_torn, done_writes, effect, opened, step, run, empty_disk, held_after, told_calls, told_entry, told_request, is_done, outcome_at, decided, reopened_still}
@@ -295,7 +295,7 @@ module _ (old new : MemoryState) (frames : List (List ℕ)) (gate : ℕ) (frame 
       (subst (λ (l : List ℕ). Finds (kept_frames 4 cut fill frames frame) l) (sym bytes) finds_now)
 
   -- a stop leaves this of an append that it cuts short
-  pub cut_leaves : IsCutShort (append_calls gate frame) (memory_state old).calls (memory_state new).calls → Leaves
+  pub cut_leaves : IsCutShort (append_calls gate frame) (memory_state old) (memory_state new) → Leaves
   cut_leaves short_of =
       cut_cases (Wrote (gate + 1) new_bytes true) (Synced true) (Wrote gate (1 ∷ []) true) (Synced true) short_of.did short_of.next short_of.rest short_of.whole
       (λ e. first (short_of.told ∙ ap (λ l. told_more (memory_state old).calls l) e))
@@ -304,7 +304,7 @@ module _ (old new : MemoryState) (frames : List (List ℕ)) (gate : ℕ) (frame 
       (λ e. fourth (short_of.told ∙ ap (λ l. told_more (memory_state old).calls l) e))
 
   -- and an append that it doesn't cut short made all four
-  pub whole_leaves : (memory_state new).calls ≡ told_more (memory_state old).calls (append_calls gate frame) → 4 < call
+  pub whole_leaves : HasTold (append_calls gate frame) (memory_state old) (memory_state new) → 4 < call
   whole_leaves is =
       let requests : List Request = Write (gate + 1) new_bytes ∷ Sync ∷ Write gate (1 ∷ []) ∷ Sync ∷ [] in
       let told = told_of requests (append_calls gate frame) is refl in

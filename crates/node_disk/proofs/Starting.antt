@@ -1,7 +1,7 @@
 -- A start on a file shorter than two bytes.
-use Rattle.std.proofs.Common.{◌≡◌, ◌⊎◌, inl, inr, ℕ, ◌<◌, List, [], ◌∷◌, length, Ok, Option, true, refl, sym, ◌∙◌, ap, subst, arith}
+use Rattle.std.proofs.Common.{◌≡◌, ◌⊎◌, inl, inr, ℕ, ◌<◌, List, [], ◌∷◌, length, Ok, true, refl, sym, ◌∙◌, ap, subst, arith}
 use Rattle.node_disk.specs.Images.{IsImage}
-use Rattle.node_disk.specs.Disk.{DiskState, DeviceCall, Synced, told_more, IsCutShort, IsFront, Torn, LeavesOnly}
+use Rattle.node_disk.specs.Disk.{DiskState, DeviceCall, Synced, HasTold, IsCutShort, IsFront, Torn, LeavesOnly}
 use Rattle.node_disk.specs.Frames.{read_log}
 use Rattle.node_disk.specs.Log.{IsBeforeOrSame, write_then_sync, first_gate, start_calls}
 use Rattle.node_disk.specs.Errors.{store_error}
@@ -27,15 +27,15 @@ gate_calls (a ∷ []) short = refl
 gate_calls (a ∷ b ∷ seen) short = absurd (omega arith)
 
 -- the sync failed, or the read after it
-pub cut_first : (seen : List ℕ) (old new : Option (List DeviceCall)) → IsCutShort (Synced true ∷ []) old new ⊎ (new ≡ told_more old (Synced true ∷ [])) → IsCutShort (start_calls seen) old new ⊎ (new ≡ told_more old (Synced true ∷ []))
+pub cut_first : (seen : List ℕ) (old new : DiskState) → IsCutShort (Synced true ∷ []) old new ⊎ HasTold (Synced true ∷ []) old new → IsCutShort (start_calls seen) old new ⊎ HasTold (Synced true ∷ []) old new
 cut_first seen old new (inl cut) = inl (cut_earlier (Synced true ∷ []) (first_gate seen) old new cut)
 cut_first seen old new (inr read) = inr read
 
 -- the first gate was not written or not synced
-pub cut_gate : (seen : List ℕ) (old mid new : Option (List DeviceCall)) → length seen < 2 → mid ≡ told_more old (Synced true ∷ []) → IsCutShort (write_then_sync 0 (0 ∷ [])) mid new → IsCutShort (start_calls seen) old new
+pub cut_gate : (seen : List ℕ) (old mid new : DiskState) → length seen < 2 → HasTold (Synced true ∷ []) old mid → IsCutShort (write_then_sync 0 (0 ∷ [])) mid new → IsCutShort (start_calls seen) old new
 cut_gate seen old mid new short synced cut = cut_later (Synced true ∷ []) (first_gate seen) old mid new synced (subst (λ (l : List DeviceCall). IsCutShort l mid new) (gate_calls seen short) cut)
 
-pub front_gate : (seen : List ℕ) (old mid new : Option (List DeviceCall)) → length seen < 2 → mid ≡ told_more old (Synced true ∷ []) → IsFront (write_then_sync 0 (0 ∷ [])) mid new → IsFront (start_calls seen) old new
+pub front_gate : (seen : List ℕ) (old mid new : DiskState) → length seen < 2 → HasTold (Synced true ∷ []) old mid → IsFront (write_then_sync 0 (0 ∷ [])) mid new → IsFront (start_calls seen) old new
 front_gate seen old mid new short synced front = front_later (Synced true ∷ []) (first_gate seen) old mid new synced (subst (λ (l : List DeviceCall). IsFront l mid new) (gate_calls seen short) front)
 
 -- which error of a disk a store answers so

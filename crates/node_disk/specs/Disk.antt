@@ -31,6 +31,10 @@ abbrev pub told_more : Option (List DeviceCall) → List DeviceCall → Option (
 told_more None calls = None
 told_more (Some told) calls = Some (told ++ calls)
 
+-- what the disk tells more is these device calls
+abbrev pub HasTold : List DeviceCall → DiskState → DiskState → Type 0
+HasTold calls old new = new.calls ≡ told_more old.calls calls
+
 -- new is old with these bytes at this place
 abbrev pub Holds : List ℕ → ℕ → List ℕ → List ℕ → Type 0
 Holds old place bytes new = new ≡ take place old ++ bytes ++ drop (place + length bytes) old
@@ -90,16 +94,16 @@ pub record LeavesOnly (old new : DiskState) (P : List ℕ → Type 0) : Type 0 w
   pub after : (image : List ℕ) → IsImage new.now image → P image
 
 -- what is told more of these device calls is those in front, done, and then one that failed
-pub record IsCutShort (calls : List DeviceCall) (old new : Option (List DeviceCall)) : Type 0 where
+pub record IsCutShort (calls : List DeviceCall) (old new : DiskState) : Type 0 where
   pub did : List DeviceCall
   pub next : DeviceCall
   pub rest : List DeviceCall
   pub whole : calls ≡ did ++ next ∷ rest
-  pub told : new ≡ told_more old (did ++ failing next ∷ [])
+  pub told : HasTold (did ++ failing next ∷ []) old new
 
 -- what is told more of these device calls is those in front, done
-pub record IsFront (calls : List DeviceCall) (old new : Option (List DeviceCall)) : Type 0 where
+pub record IsFront (calls : List DeviceCall) (old new : DiskState) : Type 0 where
   pub did : List DeviceCall
   pub rest : List DeviceCall
   pub whole : calls ≡ did ++ rest
-  pub told : new ≡ told_more old did
+  pub told : HasTold did old new

@@ -60,8 +60,10 @@ pub(crate) fn change_by_write(
     new: &[u8],
     outcome: Outcome,
 ) -> Result<(), AllocError>
-    ensures seen { OnOk result ((held : Held) → bytes.old.items ≡ held.seen → bytes.new.items ≡ (effect held (Write place new.now) outcome).seen) }
-    ensures unsynced { OnOk result ((held : Held) → map write_of pending.old.items ≡ done_writes held.writes → map write_of pending.new.items ≡ done_writes (effect held (Write place new.now) outcome).writes) }
+    ensures seen { OnOk result ((held : Held) → bytes.old.items ≡ held.seen
+        → bytes.new.items ≡ (effect held (Write place new.now) outcome).seen) }
+    ensures unsynced { OnOk result ((held : Held) → map write_of pending.old.items ≡ done_writes held.writes
+        → map write_of pending.new.items ≡ done_writes (effect held (Write place new.now) outcome).writes) }
     ensures err { OnErr result ((bytes.new.items ≡ bytes.old.items) × (pending.new.items ≡ pending.old.items)) }
 {
     match outcome {
@@ -106,8 +108,10 @@ pub(crate) fn change_by_sync(
     pending: &mut Vec<Pending>,
     outcome: Outcome,
 ) -> Result<(), AllocError>
-    ensures seen { OnOk result ((held : Held) → bytes.old.items ≡ held.seen → map write_of pending.old.items ≡ done_writes held.writes → bytes.new.items ≡ (effect held Sync outcome).seen) }
-    ensures unsynced { OnOk result ((held : Held) → map write_of pending.old.items ≡ done_writes held.writes → map write_of pending.new.items ≡ done_writes (effect held Sync outcome).writes) }
+    ensures seen { OnOk result ((held : Held) → bytes.old.items ≡ held.seen → map write_of pending.old.items ≡ done_writes held.writes
+        → bytes.new.items ≡ (effect held Sync outcome).seen) }
+    ensures unsynced { OnOk result ((held : Held) → map write_of pending.old.items ≡ done_writes held.writes
+        → map write_of pending.new.items ≡ done_writes (effect held Sync outcome).writes) }
     ensures err { OnErr result ((bytes.new.items ≡ bytes.old.items) × (pending.new.items ≡ pending.old.items)) }
 {
     match outcome {

@@ -3,7 +3,7 @@
 ghost use Rattle.std.specs.Prelude.{◌≡◌, ◌⊎◌, ◌+◌, ◌≤◌, ◌<◌, ◌^◌, ◌++◌, [], ◌∷◌, List, ℕ, length, true, false, IfOk, OnOk, OnErr, IfErr, Err, IsErrOf, Some, None, slice_get};
 ghost use Rattle.node_disk.specs.Images.{IsImage, IsDurable};
 ghost use Rattle.cw_base.specs.Causes.{Rose};
-ghost use Rattle.node_disk.specs.Disk.{Holds, Torn, LeavesOnly, Synced, IsCutShort, IsFront, told_more};
+ghost use Rattle.node_disk.specs.Disk.{Holds, Torn, LeavesOnly, Synced, HasTold, IsCutShort, IsFront};
 ghost use Rattle.node_disk.specs.Frames.{body, read_log, IsAtRest, Finds, FindsWithOrWithout};
 ghost use Rattle.node_disk.specs.Log.{IsSettled, all_items, write_then_sync, with_frame, calls_of_append, start_calls, IsBeforeOrSame};
 
@@ -96,7 +96,7 @@ pub struct Log<D: Disk> {
 }
 
 impl<D: Disk> Log<D> {
-    ghost use Rattle.node_disk.specs.LogWords.{log_frames, log_gate, log_disk, has_failed, LogIsSettled};
+    ghost use Rattle.node_disk.specs.LogWords.{log_frames, log_gate, log_disk, has_failed, LogIsSettled, IsUnchanged};
 
     /// Opens the log of a disk: syncs, reads, and where the file is shorter than two bytes writes a
     /// closed gate and syncs. An `Err` hands the disk back.
@@ -105,19 +105,29 @@ impl<D: Disk> Log<D> {
         // The frames are those of the bytes that it found, or a frame there is cut.
         ensures ok { IfOk result (λ log. (has_failed log ≡ false) × Finds (log_frames log) (D.state disk).now.seen) }
         ensures settled { IfOk result (λ log. LogIsSettled D.state log) }
-        ensures on_disk { IfOk result (λ log. (image : List ℕ) → IsImage (D.state (log_disk log)).now image → Finds (log_frames log) image) }
-        ensures foreign { (place : ℕ) → IfErr result (λ e. e.1 ≡ StoreError.Foreign place → read_log (D.state disk).now.seen ≡ Err place) }
-        ensures foreign_same { (place : ℕ) → IfErr result (λ e. e.1 ≡ StoreError.Foreign place → (D.state e.0).now.seen ≡ (D.state disk).now.seen) }
+        ensures on_disk { IfOk result (λ log. (image : List ℕ)
+            → IsImage (D.state (log_disk log)).now image → Finds (log_frames log) image) }
+        ensures foreign { (place : ℕ) → IfErr result (λ e. e.1 ≡ StoreError.Foreign place
+            → read_log (D.state disk).now.seen ≡ Err place) }
+        ensures foreign_same { (place : ℕ) → IfErr result (λ e. e.1 ≡ StoreError.Foreign place
+            → (D.state e.0).now.seen ≡ (D.state disk).now.seen) }
 
         // They stay in each image from the first sync on, and before it no other image than before can be left.
-        ensures any_moment { IfOk result (λ log. LeavesOnly (D.state disk) (D.state (log_disk log)) (IsBeforeOrSame (D.state disk).now)) }
-        ensures any_moment_err { IfErr result (λ e. LeavesOnly (D.state disk) (D.state e.0) (IsBeforeOrSame (D.state disk).now)) }
+        ensures any_moment { IfOk result (λ log.
+            LeavesOnly (D.state disk) (D.state (log_disk log)) (IsBeforeOrSame (D.state disk).now)) }
+        ensures any_moment_err { IfErr result (λ e.
+            LeavesOnly (D.state disk) (D.state e.0) (IsBeforeOrSame (D.state disk).now)) }
 
         // The device calls: all of them, or up to the first that fails. A read that fails comes after the sync.
-        ensures calls { IfOk result (λ log. (D.state (log_disk log)).calls ≡ told_more (D.state disk).calls (start_calls (D.state disk).now.seen)) }
-        ensures calls_foreign { (place : ℕ) → IfErr result (λ e. e.1 ≡ StoreError.Foreign place → (D.state e.0).calls ≡ told_more (D.state disk).calls (start_calls (D.state disk).now.seen)) }
-        ensures calls_failed { IfErr result (λ e. e.1 ≡ StoreError.Disk → IsCutShort (start_calls (D.state disk).now.seen) (D.state disk).calls (D.state e.0).calls ⊎ ((D.state e.0).calls ≡ told_more (D.state disk).calls (Synced true ∷ []))) }
-        ensures calls_no_memory { IfErr result (λ e. e.1 ≡ StoreError.NoMemory → IsFront (start_calls (D.state disk).now.seen) (D.state disk).calls (D.state e.0).calls) }
+        ensures calls { IfOk result (λ log.
+            HasTold (start_calls (D.state disk).now.seen) (D.state disk) (D.state (log_disk log))) }
+        ensures calls_foreign { (place : ℕ) → IfErr result (λ e. e.1 ≡ StoreError.Foreign place
+            → HasTold (start_calls (D.state disk).now.seen) (D.state disk) (D.state e.0)) }
+        ensures calls_failed { IfErr result (λ e. e.1 ≡ StoreError.Disk
+            → IsCutShort (start_calls (D.state disk).now.seen) (D.state disk) (D.state e.0)
+            ⊎ HasTold (Synced true ∷ []) (D.state disk) (D.state e.0)) }
+        ensures calls_no_memory { IfErr result (λ e. e.1 ≡ StoreError.NoMemory
+            → IsFront (start_calls (D.state disk).now.seen) (D.state disk) (D.state e.0)) }
 
         ensures cause { IfErr result (λ e. e.1 ≡ StoreError.Disk → Rose (D.state disk).faults (D.state e.0).faults) }
         ensures not_failed { IfErr result (λ e. e.1 ≡ StoreError.Failed → ⊥) }
@@ -175,26 +185,35 @@ impl<D: Disk> Log<D> {
     pub fn append(&mut self, frame: &[u8]) -> Result<(), StoreError>
         ensures ok { OnOk result ((has_failed self.new ≡ false) × (log_frames self.new ≡ with_frame (log_frames self.old) frame.now)) }
         ensures err { OnErr result (log_frames self.new ≡ log_frames self.old) }
-
+        ensures empty { length frame.now ≡ 0 → IsUnchanged self.old self.new }
         ensures settled { has_failed self.new ≡ false → LogIsSettled D.state self.new }
 
         // After it each image has all frames, the new one too.
-        ensures on_disk { OnOk result ((image : List ℕ) → IsImage (D.state (log_disk self.new)).now image → Finds (log_frames self.new) image) }
+        ensures on_disk { OnOk result ((image : List ℕ)
+            → IsImage (D.state (log_disk self.new)).now image → Finds (log_frames self.new) image) }
 
         // A crash at any moment of the call leaves the frames from before it, with the new one or without.
-        ensures any_moment { has_failed self.old ≡ false → LeavesOnly (D.state (log_disk self.old)) (D.state (log_disk self.new)) (FindsWithOrWithout (log_frames self.old) frame.now) }
+        ensures any_moment { has_failed self.old ≡ false
+            → LeavesOnly (D.state (log_disk self.old)) (D.state (log_disk self.new)) (FindsWithOrWithout (log_frames self.old) frame.now) }
 
         // The device calls: all of them, or up to the first that fails.
-        ensures calls { OnOk result ((D.state (log_disk self.new)).calls ≡ told_more (D.state (log_disk self.old)).calls (calls_of_append (log_gate self.old) frame.now)) }
-        ensures calls_failed { IsErrOf result StoreError.Disk → IsCutShort (calls_of_append (log_gate self.old) frame.now) (D.state (log_disk self.old)).calls (D.state (log_disk self.new)).calls }
-        ensures calls_no_memory { IsErrOf result StoreError.NoMemory → IsFront (calls_of_append (log_gate self.old) frame.now) (D.state (log_disk self.old)).calls (D.state (log_disk self.new)).calls }
+        ensures calls { OnOk result
+            (HasTold (calls_of_append (log_gate self.old) frame.now) (D.state (log_disk self.old)) (D.state (log_disk self.new))) }
+        ensures calls_failed { IsErrOf result StoreError.Disk
+            → IsCutShort (calls_of_append (log_gate self.old) frame.now) (D.state (log_disk self.old)) (D.state (log_disk self.new)) }
+        ensures calls_no_memory { IsErrOf result StoreError.NoMemory
+            → IsFront (calls_of_append (log_gate self.old) frame.now) (D.state (log_disk self.old)) (D.state (log_disk self.new)) }
 
         // Each answer and its cause, and whether later calls answer `Failed`.
-        ensures disk { IsErrOf result StoreError.Disk → (has_failed self.new ≡ true) × Rose (D.state (log_disk self.old)).faults (D.state (log_disk self.new)).faults }
-        ensures failed { has_failed self.old ≡ true → IsErrOf result StoreError.Failed × (has_failed self.new ≡ true) × (log_disk self.new ≡ log_disk self.old) }
+        ensures disk { IsErrOf result StoreError.Disk → has_failed self.new ≡ true }
+        ensures disk_cause { IsErrOf result StoreError.Disk
+            → Rose (D.state (log_disk self.old)).faults (D.state (log_disk self.new)).faults }
+        ensures failed { has_failed self.old ≡ true → IsErrOf result StoreError.Failed }
+        ensures failed_same { has_failed self.old ≡ true → IsUnchanged self.old self.new }
         ensures failed_only { IsErrOf result StoreError.Failed → has_failed self.old ≡ true }
-        ensures no_memory { IsErrOf result StoreError.NoMemory → ((has_failed self.new ≡ true) × Rose (D.state (log_disk self.old)).tries (D.state (log_disk self.new)).tries) ⊎ ((has_failed self.new ≡ has_failed self.old) × (log_gate self.new ≡ log_gate self.old) × (log_disk self.new ≡ log_disk self.old)) }
-        ensures foreign { (place : ℕ) → IsErrOf result (StoreError.Foreign place) → ⊥ }
+        ensures no_memory { IsErrOf result StoreError.NoMemory → IsUnchanged self.old self.new
+            ⊎ ((has_failed self.new ≡ true) × Rose (D.state (log_disk self.old)).tries (D.state (log_disk self.new)).tries) }
+        ensures not_foreign { (place : ℕ) → IsErrOf result (StoreError.Foreign place) → ⊥ }
         ensures continues { D.continues (log_disk self.old) (log_disk self.new) }
 
         // Its length fits the eight bytes.
@@ -210,11 +229,13 @@ impl<D: Disk> Log<D> {
         self.frames.reserve(1)?;
         let kept = frame.to_vec(self.alloc)?;
         let bytes = bytes_of(self.alloc, frame)?;
+        // No memory holds the frames of so long a file.
         let Some(next) = self.gate.checked_add(bytes.len() as u64) else {
             return Err(StoreError::NoMemory);
         };
         self.failed = true;
         add_frame(&mut self.disk, self.gate, &bytes)?;
+        // Room was reserved, so this takes no memory.
         let _ = self.frames.push(kept);
         self.gate = next;
         self.failed = false;
@@ -242,9 +263,10 @@ fn found_bytes<D: Disk>(alloc: Global, disk: &mut D) -> Result<Vec<u8>, DiskErro
     ensures seen { OnOk result ((D.state disk.new).now.seen ≡ (D.state disk.old).now.seen) }
     ensures durable { OnOk result (IsDurable (D.state disk.new).now) }
     ensures any_moment { LeavesOnly (D.state disk.old) (D.state disk.new) (IsImage (D.state disk.old).now) }
-    ensures calls { OnOk result ((D.state disk.new).calls ≡ told_more (D.state disk.old).calls (Synced true ∷ [])) }
-    ensures failed { IsErrOf result DiskError.Failed → IsCutShort (Synced true ∷ []) (D.state disk.old).calls (D.state disk.new).calls ⊎ ((D.state disk.new).calls ≡ told_more (D.state disk.old).calls (Synced true ∷ [])) }
-    ensures no_memory { IsErrOf result DiskError.NoMemory → IsFront (Synced true ∷ []) (D.state disk.old).calls (D.state disk.new).calls }
+    ensures calls { OnOk result (HasTold (Synced true ∷ []) (D.state disk.old) (D.state disk.new)) }
+    ensures failed { IsErrOf result DiskError.Failed
+        → IsCutShort (Synced true ∷ []) (D.state disk.old) (D.state disk.new) ⊎ HasTold (Synced true ∷ []) (D.state disk.old) (D.state disk.new) }
+    ensures no_memory { IsErrOf result DiskError.NoMemory → IsFront (Synced true ∷ []) (D.state disk.old) (D.state disk.new) }
     ensures cause { IsErrOf result DiskError.Failed → Rose (D.state disk.old).faults (D.state disk.new).faults }
     ensures faults { (D.state disk.old).faults ≤ (D.state disk.new).faults }
     ensures continues { D.continues disk.old disk.new }
@@ -273,9 +295,9 @@ fn write_and_sync<D: Disk>(disk: &mut D, place: u64, bytes: &[u8]) -> Result<(),
     ensures written { OnOk result (Holds (D.state disk.old).now.seen place bytes.now (D.state disk.new).now.seen) }
     ensures durable { OnOk result (IsDurable (D.state disk.new).now) }
     ensures any_moment { LeavesOnly (D.state disk.old) (D.state disk.new) (Torn place (length bytes.now) (D.state disk.old).now.seen) }
-    ensures calls { OnOk result ((D.state disk.new).calls ≡ told_more (D.state disk.old).calls (write_then_sync place bytes.now)) }
-    ensures failed { IsErrOf result DiskError.Failed → IsCutShort (write_then_sync place bytes.now) (D.state disk.old).calls (D.state disk.new).calls }
-    ensures no_memory { IsErrOf result DiskError.NoMemory → IsFront (write_then_sync place bytes.now) (D.state disk.old).calls (D.state disk.new).calls }
+    ensures calls { OnOk result (HasTold (write_then_sync place bytes.now) (D.state disk.old) (D.state disk.new)) }
+    ensures failed { IsErrOf result DiskError.Failed → IsCutShort (write_then_sync place bytes.now) (D.state disk.old) (D.state disk.new) }
+    ensures no_memory { IsErrOf result DiskError.NoMemory → IsFront (write_then_sync place bytes.now) (D.state disk.old) (D.state disk.new) }
     ensures cause { IsErrOf result DiskError.Failed → Rose (D.state disk.old).faults (D.state disk.new).faults }
     ensures faults { (D.state disk.old).faults ≤ (D.state disk.new).faults }
     ensures tried { Rose (D.state disk.old).tries (D.state disk.new).tries }
@@ -296,9 +318,9 @@ fn add_frame<D: Disk>(disk: &mut D, gate: u64, bytes: &[u8]) -> Result<(), DiskE
         → IsSettled (frames ++ frame ∷ []) (gate + length bytes.now) (D.state disk.new).now) }
     ensures any_moment { (frames : List (List ℕ)) (frame : List ℕ) → IsAtRest frames gate (D.state disk.old).now.seen → bytes.now ≡ body frame ++ 0 ∷ [] → length frame < 2 ^ 64
         → LeavesOnly (D.state disk.old) (D.state disk.new) (FindsWithOrWithout frames frame) }
-    ensures calls { OnOk result ((D.state disk.new).calls ≡ told_more (D.state disk.old).calls (write_then_sync (gate + 1) bytes.now ++ write_then_sync gate (1 ∷ []))) }
-    ensures failed { IsErrOf result DiskError.Failed → IsCutShort (write_then_sync (gate + 1) bytes.now ++ write_then_sync gate (1 ∷ [])) (D.state disk.old).calls (D.state disk.new).calls }
-    ensures no_memory { IsErrOf result DiskError.NoMemory → IsFront (write_then_sync (gate + 1) bytes.now ++ write_then_sync gate (1 ∷ [])) (D.state disk.old).calls (D.state disk.new).calls }
+    ensures calls { OnOk result (HasTold (write_then_sync (gate + 1) bytes.now ++ write_then_sync gate (1 ∷ [])) (D.state disk.old) (D.state disk.new)) }
+    ensures failed { IsErrOf result DiskError.Failed → IsCutShort (write_then_sync (gate + 1) bytes.now ++ write_then_sync gate (1 ∷ [])) (D.state disk.old) (D.state disk.new) }
+    ensures no_memory { IsErrOf result DiskError.NoMemory → IsFront (write_then_sync (gate + 1) bytes.now ++ write_then_sync gate (1 ∷ [])) (D.state disk.old) (D.state disk.new) }
     ensures cause { IsErrOf result DiskError.Failed → Rose (D.state disk.old).faults (D.state disk.new).faults }
     ensures faults { (D.state disk.old).faults ≤ (D.state disk.new).faults }
     ensures tried { Rose (D.state disk.old).tries (D.state disk.new).tries }

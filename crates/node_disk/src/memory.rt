@@ -37,9 +37,17 @@ impl Model for MemoryDisk {
 
     ghost Value = { MemoryState };
 
-    ghost view = { λ disk. record { calls = map entry_of disk.calls.items; reopened = disk.reopened; stop = disk.stop; failing = disk.failing.items; faults = disk.faults; tries = disk.tries } };
+    ghost view = { λ disk. record {
+      calls = map entry_of disk.calls.items;
+      reopened = disk.reopened;
+      stop = disk.stop;
+      failing = disk.failing.items;
+      faults = disk.faults;
+      tries = disk.tries;
+    } };
 
-    ghost invariant = { λ disk. Keeps (held_after (map entry_of disk.calls.items) disk.reopened) disk.bytes.items (map write_of disk.pending.items) };
+    ghost invariant = { λ disk.
+        Keeps (held_after (map entry_of disk.calls.items) disk.reopened) disk.bytes.items (map write_of disk.pending.items) };
 }
 
 impl MemoryDisk {
@@ -189,7 +197,8 @@ impl Disk for MemoryDisk {
     fn write_at(&mut self, place: u64, bytes: &[u8]) -> Result<(), DiskError>
         requires { place ≤ length (memory_state self.old).now.seen }
         ensures ok { OnOk result (HasWritten place bytes.now (memory_state self.old) (memory_state self.new)) }
-        ensures failed { IsErrOf result DiskError.Failed → HasFailedToWrite place bytes.now (memory_state self.old) (memory_state self.new) }
+        ensures failed { IsErrOf result DiskError.Failed
+            → HasFailedToWrite place bytes.now (memory_state self.old) (memory_state self.new) }
         ensures no_memory { IsErrOf result DiskError.NoMemory → IsSame (memory_state self.old) (memory_state self.new) }
         ensures tried { Rose (memory_state self.old).tries (memory_state self.new).tries }
         ensures faults { (memory_state self.old).faults ≤ (memory_state self.new).faults }

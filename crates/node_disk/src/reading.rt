@@ -20,7 +20,9 @@ fn read_count(bytes: &[u8]) -> u64
 
 // The frame that follows an open gate, if it is whole and a gate follows it.
 fn first_frame(alloc: Global, rest: &[u8]) -> Result<Option<Vec<u8>>, AllocError>
-    ensures { IfOk result (λ found. MatchOption found (length rest.now ≤ 8 + count_of rest.now) (λ frame. (8 + count_of rest.now < length rest.now) × (frame.items ≡ take (count_of rest.now) (drop 8 rest.now)))) }
+    ensures { IfOk result (λ found. MatchOption found
+        (length rest.now ≤ 8 + count_of rest.now)
+        (λ frame. (8 + count_of rest.now < length rest.now) × (frame.items ≡ take (count_of rest.now) (drop 8 rest.now)))) }
 {
     if rest.len() < 8 {
         return Ok(None);

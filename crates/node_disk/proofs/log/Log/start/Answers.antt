@@ -25,16 +25,16 @@ returns-in-Ok-read_frames-clause-ok g c =
 pub returns-in-Err-clause-calls_failed : goal.returns-in-Err-clause-calls_failed
 returns-in-Err-clause-calls_failed g c is =
     let failed : c.in-Err.error ≡ Failed = disk_only c.in-Err.error (sym c.from.ensures ∙ is) in
-    cut_first (g.D.Disk.state c.args.disk).now.seen (g.D.Disk.state c.args.disk).calls (g.D.Disk.state c.found_bytes.new.disk).calls (c.found_bytes.ensures.failed (c.in-Err.is ∙ ap (λ e. Err e) failed))
+    cut_first (g.D.Disk.state c.args.disk).now.seen (g.D.Disk.state c.args.disk) (g.D.Disk.state c.found_bytes.new.disk) (c.found_bytes.ensures.failed (c.in-Err.is ∙ ap (λ e. Err e) failed))
 
 pub returns-in-Err-write_and_sync-clause-calls_failed : goal.returns-in-Err-write_and_sync-clause-calls_failed
 returns-in-Err-write_and_sync-clause-calls_failed g c is =
     let short : length (g.D.Disk.state c.args.disk).now.seen < 2 = search rules in
     let failed : c.in-Err-write_and_sync.error ≡ Failed = disk_only c.in-Err-write_and_sync.error (sym c.from-in-Err-write_and_sync.ensures ∙ is) in
-    inl (cut_gate (g.D.Disk.state c.args.disk).now.seen (g.D.Disk.state c.args.disk).calls (g.D.Disk.state c.found_bytes.new.disk).calls (g.D.Disk.state c.write_and_sync.new.disk).calls short c.in-Ok.ensures.calls (c.write_and_sync.ensures.failed (c.in-Err-write_and_sync.is ∙ ap (λ e. Err e) failed)))
+    inl (cut_gate (g.D.Disk.state c.args.disk).now.seen (g.D.Disk.state c.args.disk) (g.D.Disk.state c.found_bytes.new.disk) (g.D.Disk.state c.write_and_sync.new.disk) short c.in-Ok.ensures.calls (c.write_and_sync.ensures.failed (c.in-Err-write_and_sync.is ∙ ap (λ e. Err e) failed)))
 
 pub returns-in-Err-write_and_sync-clause-calls_no_memory : goal.returns-in-Err-write_and_sync-clause-calls_no_memory
 returns-in-Err-write_and_sync-clause-calls_no_memory g c is =
     let short : length (g.D.Disk.state c.args.disk).now.seen < 2 = search rules in
     let refused : c.in-Err-write_and_sync.error ≡ NoMemory = memory_only c.in-Err-write_and_sync.error (sym c.from-in-Err-write_and_sync.ensures ∙ is) in
-    front_gate (g.D.Disk.state c.args.disk).now.seen (g.D.Disk.state c.args.disk).calls (g.D.Disk.state c.found_bytes.new.disk).calls (g.D.Disk.state c.write_and_sync.new.disk).calls short c.in-Ok.ensures.calls (c.write_and_sync.ensures.no_memory (c.in-Err-write_and_sync.is ∙ ap (λ e. Err e) refused))
+    front_gate (g.D.Disk.state c.args.disk).now.seen (g.D.Disk.state c.args.disk) (g.D.Disk.state c.found_bytes.new.disk) (g.D.Disk.state c.write_and_sync.new.disk) short c.in-Ok.ensures.calls (c.write_and_sync.ensures.no_memory (c.in-Err-write_and_sync.is ∙ ap (λ e. Err e) refused))
