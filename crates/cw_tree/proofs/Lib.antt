@@ -1,0 +1,3 @@
+pub mod WidthLaws
+pub mod ReadLoop
+pub mod TreeLaws

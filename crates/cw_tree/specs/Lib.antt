@@ -1,1 +1,7 @@
 pub mod Chunks
+pub mod Tree
+pub mod TreeRoots
+pub mod Widths
+pub mod Formats
+pub mod Sizes
+pub mod FormatLaws

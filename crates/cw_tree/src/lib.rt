@@ -3,5 +3,11 @@
 
 pub mod bmt;
 mod chunk;
+mod codec;
+mod laws;
+mod sizes;
+mod width;
 
 pub use chunk::Chunk;
+pub use laws::{chunks_read_back, chunks_with_digests_read_back, paths_lead_to_the_root};
+pub use width::canonical_shard_len;

@@ -1,0 +1,43 @@
+-- Reading digests one behind the other, as a loop does.
+use Rattle.std.proofs.Common.{◌≡◌, ℕ, suc, ◌-◌, ◌+◌, ◌≤◌, ◌<◌, List, [], ◌∷◌, ◌++◌, Result, Ok, Err, refl, sym, ap, ◌∙◌, append_assoc, arith}
+use Rattle.std.proofs.lemmas.List.{append-nil}
+use Rattle.cw_base.specs.declared.reader.CodecError.{CodecError}
+use Rattle.cw_base.specs.declared.reader.CodecError.TheVariants as codec
+use Rattle.cw_base.specs.Reading.{Reading, ◌>>=◌, IsRefused, bytes_at}
+use Rattle.cw_tree.specs.Formats.{digests_at}
+
+-- what was read before, and what is still read
+abbrev pub with_front : List (List ℕ) → Reading (List (List ℕ)) → Reading (List (List ℕ))
+with_front front read = read >>= λ x. Ok (front ++ x.0, x.1)
+
+regroup : (front : List (List ℕ)) (d : List ℕ) (read : Reading (List (List ℕ))) → with_front front (read >>= λ x. Ok (d ∷ x.0, x.1)) ≡ with_front (front ++ d ∷ []) read
+regroup front d (Ok x) = ap (λ (ds : List (List ℕ)). Ok (ds, x.1)) (simp append_assoc)
+regroup front d (Err f) = refl
+
+pub goes_on : (size : ℕ) (front : List (List ℕ)) (count i : ℕ) (bytes d after : List ℕ) (total : Reading (List (List ℕ))) → i < count → bytes_at size bytes ≡ Ok (d, after)
+    → with_front front (digests_at size (count - i) bytes) ≡ total → with_front (front ++ d ∷ []) (digests_at size (count - (i + 1)) after) ≡ total
+goes_on size front count i bytes d after total lt h so_far =
+    let k : count - i ≡ suc (count - (i + 1)) = omega arith in
+    let one : with_front front (digests_at size (count - i) bytes) ≡ with_front (front ++ d ∷ []) (digests_at size (count - (i + 1)) after) = rw (k, h) (regroup front d (digests_at size (count - (i + 1)) after)) in
+    sym one ∙ so_far
+
+pub ends : (size : ℕ) (e : CodecError) (front : List (List ℕ)) (count i : ℕ) (bytes left : List ℕ) (total : Reading (List (List ℕ))) → i < count → bytes_at size bytes ≡ Err (e, left)
+    → with_front front (digests_at size (count - i) bytes) ≡ total → IsRefused e left total
+ends size e front count i bytes left total lt h so_far =
+    let k : count - i ≡ suc (count - (i + 1)) = omega arith in
+    let one : with_front front (digests_at size (count - i) bytes) ≡ Err (e, left) = rw (k, h) refl in
+    refused e (sym so_far ∙ one)
+  where
+    refused : (e : CodecError) → total ≡ Err (e, left) → IsRefused e left total
+    refused codec.NoMemory h = tt
+    refused codec.EndOfBuffer h = h
+    refused codec.InvalidVarint h = h
+    refused codec.TooLong h = h
+    refused codec.Invalid h = h
+    refused codec.Extra h = h
+
+pub is_done : (size : ℕ) (front : List (List ℕ)) (count i : ℕ) (bytes : List ℕ) (total : Reading (List (List ℕ))) → count ≤ i → with_front front (digests_at size (count - i) bytes) ≡ total → total ≡ Ok (front, bytes)
+is_done size front count i bytes total le so_far =
+    let k : count - i ≡ 0 = omega arith in
+    let one : with_front front (digests_at size (count - i) bytes) ≡ Ok (front, bytes) = rw k (ap (λ (ds : List (List ℕ)). Ok (ds, bytes)) (append-nil front)) in
+    sym so_far ∙ one

@@ -1,0 +1,18 @@
+use Rattle.std.proofs.Common.{◌≡◌, ◌<◌, length, ap, ◌∙◌, arith}
+use Rattle.cw_tree.specs.Tree.{leaves_from}
+use Rattle.cw_tree.proofs.TreeLaws.{length-leaves, root_over}
+use Rattle.cw_tree.proofs.bmt.tree.Builder.build.Goals as goal
+
+pub top_over-requires-clause-some : goal.top_over-requires-clause-some
+top_over-requires-clause-some g c =
+    let hash = g.H.Hasher.digest_of in
+    let content = g.H.Digest.Digest.content in
+    let is : c.in_ok-leaves.leaves ≡ leaves_from hash content 0 c.self.inside.digests = rw c.as_slice.ensures at c.in_ok-leaves.ensures in
+    omega (arith, ap length is, length-leaves hash content 0 c.self.inside.digests, ap length c.self.view_is, c.requires)
+
+pub invariant_of-result : goal.invariant_of-result
+invariant_of-result g c =
+    let hash = g.H.Hasher.digest_of in
+    let content = g.H.Digest.Digest.content in
+    let is : c.in_ok-leaves.leaves ≡ leaves_from hash content 0 c.self.inside.digests = rw c.as_slice.ensures at c.in_ok-leaves.ensures in
+    (root_over hash content _ _ _ _ is c.in_ok-top.ensures (rw c.len-count.ensures at c.rooted_of.ensures), c.self.invariant)

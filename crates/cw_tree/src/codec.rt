@@ -1,0 +1,188 @@
+//! The bytes of proofs and chunks.
+
+ghost use Rattle.std.specs.Prelude.{◌≡◌, ℕ, ◌+◌, ◌*◌, ◌-◌, ◌^◌, ◌<◌, ◌≤◌, ◌%◌, min, [], ◌∷◌, ◌++◌, List, length, map, take, IfOk, OnOk, OnErr};
+ghost use Rattle.std.specs.List.{flat_map};
+ghost use Rattle.cw_base.specs.Reading.{IsRead, Gives, bytes_at};
+ghost use Rattle.cw_tree.specs.Formats.{proof_bytes, chunk_bytes, digests_at, siblings_at, proof_at, shard_at, chunk_at, widest, piece_of_bytes};
+
+use crate::bmt::Proof;
+use crate::chunk::Chunk;
+use crate::width::canonical_shard_len;
+use bytes::Bytes;
+use cw_base::{
+    CodecError, Config, Digest, Items, NoMemory, Reader, put_be16, put_be32, put_bytes, put_u8,
+    put_varint,
+};
+use std::alloc::Global;
+
+// Adds the bytes of digests.
+fn put_digests<D: Digest>(out: &mut Vec<u8>, digests: &[D]) -> Result<(), NoMemory>
+    ensures ok { OnOk result (out.new.items ≡ out.old.items ++ flat_map D.content digests.now) }
+    ensures err { OnErr result (take (length out.old.items) out.new.items ≡ out.old.items) }
+{
+    for digest in digests {
+        put_bytes(out, digest.as_bytes())?;
+    }
+    Ok(())
+}
+
+impl<D: Digest> Proof<D> {
+    // The parts of a proof, of which some may stay where memory is short.
+    #[tactic(auto, unfolding(crate::specs::Formats::proof_bytes))]
+    fn write_parts(&self, out: &mut Vec<u8>) -> Result<(), NoMemory>
+        ensures ok { OnOk result (out.new.items ≡ out.old.items ++ proof_bytes D.content self.now.leaf_count self.now.siblings) }
+        ensures err { OnErr result (take (length out.old.items) out.new.items ≡ out.old.items) }
+    {
+        put_be32(out, self.leaf_count)?;
+        put_u8(out, (self.siblings.len() % 256) as u8)?;
+        match put_digests(out, self.siblings.as_slice()) {
+            Ok(()) => Ok(()),
+            Err(NoMemory) => Err(NoMemory),
+        }
+    }
+
+    /// Adds the bytes of the proof: four of the leaf count, one for the number of siblings, and the
+    /// siblings. Where memory is short nothing changes.
+    pub fn write(&self, out: &mut Vec<u8>) -> Result<(), NoMemory>
+        ensures ok { OnOk result (out.new.items ≡ out.old.items ++ proof_bytes D.content self.now.leaf_count self.now.siblings) }
+        ensures err { OnErr result (out.new.items ≡ out.old.items) }
+    {
+        let start = out.len();
+        let written = self.write_parts(out);
+        if written.is_err() {
+            out.truncate(start);
+        }
+        written
+    }
+}
+
+impl<D: Digest> Chunk<D> {
+    // The parts of a chunk, of which some may stay where memory is short.
+    #[tactic(auto, unfolding(crate::specs::Formats::chunk_bytes))]
+    fn write_parts(&self, out: &mut Vec<u8>) -> Result<(), NoMemory>
+        ensures ok { OnOk result (out.new.items ≡ out.old.items ++ chunk_bytes D.content self.now) }
+        ensures err { OnErr result (take (length out.old.items) out.new.items ≡ out.old.items) }
+    {
+        put_varint(out, (self.shard().len() % (1 << 32)) as u32)?;
+        put_bytes(out, self.shard())?;
+        put_be16(out, self.index())?;
+        self.proof().write(out)?;
+        Ok(())
+    }
+
+    /// Adds the bytes of the chunk: the shard's length, the shard, the index and the proof. Where
+    /// memory is short nothing changes.
+    pub fn write(&self, out: &mut Vec<u8>) -> Result<(), NoMemory>
+        ensures ok { OnOk result (out.new.items ≡ out.old.items ++ chunk_bytes D.content self.now) }
+        ensures err { OnErr result (out.new.items ≡ out.old.items) }
+    {
+        let start = out.len();
+        let written = self.write_parts(out);
+        if written.is_err() {
+            out.truncate(start);
+        }
+        written
+    }
+}
+
+// The digest at the front.
+fn read_digest<D: Digest>(reader: &mut Reader) -> Result<D, CodecError>
+    ensures { IsRead D.content result reader.new (bytes_at D.SIZE reader.old) }
+{
+    let bytes = reader.take(D::SIZE)?;
+    match D::from_slice(bytes) {
+        Some(digest) => Ok(digest),
+        None => Err(CodecError::Invalid),
+    }
+}
+
+// So many digests, one behind the other.
+fn read_digests<D: Digest>(
+    alloc: Global,
+    reader: &mut Reader,
+    count: u8,
+) -> Result<Items<D>, CodecError>
+    ensures { Gives (λ digests. map D.content digests) result reader.new (digests_at D.SIZE count reader.old) }
+{
+    let mut digests = Items::new(alloc);
+    for i in 0..count {
+        match read_digest::<D>(reader) {
+            Ok(digest) => digests.push(digest)?,
+            Err(error) => return Err(error),
+        }
+    }
+    Ok(digests)
+}
+
+// At most 32 digests, behind their number.
+#[tactic(auto, unfolding(crate::specs::Formats::siblings_at))]
+fn read_siblings<D: Digest>(alloc: Global, reader: &mut Reader) -> Result<Items<D>, CodecError>
+    ensures { Gives (λ digests. map D.content digests) result reader.new (siblings_at D.SIZE reader.old) }
+{
+    let count = reader.u8()?;
+    if count > 32 {
+        return Err(CodecError::TooLong);
+    }
+    match read_digests::<D>(alloc, reader, count) {
+        Ok(digests) => Ok(digests),
+        Err(error) => Err(error),
+    }
+}
+
+impl<D: Digest> Proof<D> {
+    /// The proof at the front: `TooLong` above 32 siblings, `EndOfBuffer` where it is cut.
+    ///
+    /// Refused, the reader stands behind the parts that were taken, a refused number among them.
+    #[tactic(auto, unfolding(crate::specs::Formats::proof_at))]
+    pub fn read(alloc: Global, reader: &mut Reader) -> Result<Proof<D>, CodecError>
+        ensures { Gives (λ proof. (proof.leaf_count, map D.content proof.siblings)) result reader.new (proof_at D.SIZE reader.old) }
+    {
+        let leaf_count = reader.be32()?;
+        let siblings = read_siblings::<D>(alloc, reader)?;
+        Ok(Proof {
+            leaf_count,
+            siblings,
+        })
+    }
+}
+
+// A shard of at most so many bytes, behind its length.
+#[tactic(auto, unfolding(crate::specs::Formats::shard_at))]
+fn read_shard<'a>(reader: &mut Reader<'a>, bound: usize) -> Result<&'a [u8], CodecError>
+    ensures { IsRead (λ bytes. bytes.now) result reader.new (shard_at bound reader.old) }
+{
+    let length = reader.varint()? as usize;
+    if length > bound {
+        return Err(CodecError::TooLong);
+    }
+    match reader.take(length) {
+        Ok(bytes) => Ok(bytes),
+        Err(error) => Err(error),
+    }
+}
+
+impl<D: Digest> Chunk<D> {
+    /// The chunk at the front, of a config and of data of at most `maximum` bytes: `TooLong` where
+    /// its shard is wider than the shards of data of `maximum` bytes, or of `u32::MAX` bytes if that
+    /// is less, and above 32 siblings; `InvalidVarint` for a length in another form than its
+    /// shortest; `EndOfBuffer` where it is cut.
+    ///
+    /// Refused, the reader stands behind the parts that were taken, a refused number among them.
+    #[tactic(auto, unfolding(crate::specs::Formats::chunk_at))]
+    pub fn read(
+        alloc: Global,
+        reader: &mut Reader,
+        config: &Config,
+        maximum: usize,
+    ) -> Result<Chunk<D>, CodecError>
+        ensures { Gives (λ chunk. piece_of_bytes D.content chunk) result reader.new
+            (chunk_at D.SIZE (widest config.now.minimum maximum) reader.old) }
+    {
+        let bound = canonical_shard_len(maximum.min(0xffff_ffff), config.minimum_shards.get());
+        let shard = read_shard(reader, bound)?;
+        let index = reader.be16()?;
+        let proof = Proof::<D>::read(alloc, reader)?;
+        let shard = Bytes::copy_from_slice(alloc, shard)?;
+        Ok(Chunk::new(shard, index, proof))
+    }
+}
