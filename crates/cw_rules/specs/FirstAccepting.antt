@@ -30,14 +30,14 @@ is_acceptable s signs came signer v = nat_lt signer s.members && (well_formed v 
 -- the ballots behind a message: an acceptable vote goes last
 abbrev pub ballots_with : Setting → (ℕ → Vote → Bool) → List Ballot → Message → List Ballot
 ballots_with s signs came (message.Vote signer v) = if is_acceptable s signs came signer v then came ++ record { signer = signer; vote = v } ∷ [] else came
-ballots_with s signs came (message.Block b) = came
+ballots_with s signs came _ = came
 
 -- the blocks behind a message: one that has not arrived goes last, under its commitment
 abbrev pub blocks_with : Setting → List Arrived → Message → List Arrived
-blocks_with s came (message.Vote signer v) = came
 blocks_with s came (message.Block b) = if list_any (is_arrival b) came then came else came ++ record { commitment = commit s.hash b; block = b } ∷ []
+blocks_with s came _ = came
 
 -- what came, behind an event
 abbrev pub came_with : Setting → (ℕ → Vote → Bool) → Came → Event → Came
-came_with s signs came (event.Propose payload) = came
 came_with s signs came (event.Deliver m) = record { ballots = ballots_with s signs came.ballots m; blocks = blocks_with s came.blocks m }
+came_with s signs came _ = came

@@ -16,14 +16,12 @@ notes_of m = flat_map (λ step. step) m.notes
 -- the note is a block of this commitment
 abbrev pub is_block_of : Commitment → Note → Bool
 is_block_of c (note.Block d b) = same_commitment d c
-is_block_of c (note.Verified e v d) = false
-is_block_of c (note.Vote v) = false
+is_block_of c _ = false
 
 -- the note is an own vote of epoch 0 and this view
 abbrev pub is_vote_in : ℕ → Note → Bool
 is_vote_in view (note.Vote v) = (vote_epoch v == 0) && (vote_view v == view)
-is_vote_in view (note.Block d b) = false
-is_vote_in view (note.Verified e v d) = false
+is_vote_in view _ = false
 
 abbrev pub has_block : List Note → Commitment → Bool
 has_block notes c = list_any (is_block_of c) notes
@@ -35,5 +33,4 @@ has_voted notes view = list_any (is_vote_in view) notes
 abbrev pub noted_block : List Note → Commitment → Option Block
 noted_block [] c = None
 noted_block (note.Block d b ∷ notes) c = if same_commitment d c then Some b else noted_block notes c
-noted_block (note.Verified e v d ∷ notes) c = noted_block notes c
-noted_block (note.Vote v ∷ notes) c = noted_block notes c
+noted_block (_ ∷ notes) c = noted_block notes c

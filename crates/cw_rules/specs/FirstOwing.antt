@@ -50,10 +50,10 @@ may_propose s id notes b = (id == leader first_view s.members) && (not (has_vote
 
 -- the notes that an event itself gives
 abbrev pub direct_notes : Setting → ℕ → List Note → Event → List Note
-direct_notes s id notes (event.Deliver m) = []
 direct_notes s id notes (event.Propose payload) =
     if may_propose s id notes (first_view_block s payload)
     then proposal_notes notes (commit s.hash (first_view_block s payload)) (first_view_block s payload) else []
+direct_notes s id notes _ = []
 
 -- a commitment shows a block that is to be noted: it isn't that of genesis, and has no note
 unfoldable pub is_missing : Setting → List Note → Commitment → Bool

@@ -18,7 +18,7 @@ block_to_all (Some b) = record { to = All; message = message.Block b } ∷ []
 abbrev pub gives : ℕ → List Note → Note → List Out
 gives id notes (note.Verified e v c) = block_to_all (noted_block notes c)
 gives id notes (note.Vote v) = record { to = All; message = message.Vote id v } ∷ []
-gives id notes (note.Block c b) = []
+gives id notes _ = []
 
 -- what the notes of a step send, in order
 abbrev pub sends : ℕ → List Note → List Note → List Out

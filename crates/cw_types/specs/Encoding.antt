@@ -1,13 +1,18 @@
 -- The bytes of each value, in the order of its fields. Numbers are big-endian.
-use Rattle.std.specs.Prelude.{ℕ, ◌+◌, ◌==◌, List, [], ◌∷◌, ◌++◌, length, if◌then◌else◌}
-use Rattle.cw_base.specs.Bytes.{be16, be64, varint}
+use Rattle.std.specs.Prelude.{ℕ, ◌+◌, ◌%◌, ◌^◌, ◌==◌, List, [], ◌∷◌, ◌++◌, length, flat_map, if◌then◌else◌}
+use Rattle.cw_base.specs.declared.hash.Digest32.{Digest32}
+use Rattle.cw_base.specs.Bytes.{be16, be32, be64, varint}
 use Rattle.cw_base.specs.Config.{config_bytes}
+use Rattle.cw_tree.specs.Chunks.{Piece}
 use Rattle.cw_types.specs.declared.commitment.Commitment.{Commitment}
 use Rattle.cw_types.specs.declared.block.Context.{Context}
 use Rattle.cw_types.specs.Block.{Block}
 use Rattle.cw_types.specs.declared.vote.Proposal.{Proposal}
 use Rattle.cw_types.specs.declared.vote.Vote.{Vote}
 use Rattle.cw_types.specs.declared.vote.Vote.TheVariants as vote
+use Rattle.cw_types.specs.declared.vote.Cert.{Cert}
+use Rattle.cw_types.specs.declared.note.Note.{Note}
+use Rattle.cw_types.specs.declared.note.Note.TheVariants as note
 use Rattle.cw_types.specs.declared.message.Message.{Message}
 use Rattle.cw_types.specs.declared.message.Message.TheVariants as message
 
@@ -37,7 +42,39 @@ vote_bytes (vote.Notarize p) = tag_bytes 0 p.epoch ++ proposal_bytes p
 vote_bytes (vote.Nullify epoch view) = tag_bytes 1 epoch ++ be64 view
 vote_bytes (vote.Finalize p) = tag_bytes 2 p.epoch ++ proposal_bytes p
 
+-- the vote, the number of signers, and each signer
+unfoldable pub cert_bytes : Cert → List ℕ
+cert_bytes c = vote_bytes c.vote ++ be16 (length c.signers % 2 ^ 16) ++ flat_map be16 c.signers
+
+-- the tag of a note of epoch 0, or another tag and the epoch
+unfoldable pub epoch_tag_bytes : ℕ → ℕ → ℕ → List ℕ
+epoch_tag_bytes first later epoch = if epoch == 0 then first ∷ [] else later ∷ be64 epoch
+
 -- a tag, and the fields
+unfoldable pub note_bytes : Note → List ℕ
+note_bytes (note.Block c b) = 0 ∷ commitment_bytes c ++ block_bytes b
+note_bytes (note.Verified epoch view c) = epoch_tag_bytes 1 10 epoch ++ be64 view ++ commitment_bytes c
+note_bytes (note.Certified p) = epoch_tag_bytes 2 9 p.epoch ++ proposal_bytes p
+note_bytes (note.Vote v) = 3 ∷ vote_bytes v
+note_bytes (note.Cert c) = 4 ∷ cert_bytes c
+note_bytes (note.Ack height) = 5 ∷ be64 height
+note_bytes (note.Floor height) = 6 ∷ be64 height
+note_bytes (note.Prune height) = 7 ∷ be64 height
+note_bytes (note.Epoch epoch c) = 8 ∷ be64 epoch ++ commitment_bytes c
+
+abbrev pub digest_bytes : Digest32 → List ℕ
+digest_bytes d = d.0
+
+-- a shard behind its length, its index, the number of leaves of its tree, and its siblings behind their number
+unfoldable pub chunk_bytes : Piece Digest32 → List ℕ
+chunk_bytes x = varint (length x.shard % 2 ^ 32) ++ x.shard ++ be16 x.index ++ be32 x.leaf_count ++ (length x.siblings % 2 ^ 8) ∷ flat_map digest_bytes x.siblings
+
+-- a tag, and the fields; bytes that are no message stand as they are
 unfoldable pub message_bytes : Message → List ℕ
+message_bytes (message.Shard c x) = 0 ∷ commitment_bytes c ++ chunk_bytes x
 message_bytes (message.Vote signer v) = 1 ∷ be16 signer ++ vote_bytes v
+message_bytes (message.Cert c) = 2 ∷ cert_bytes c
+message_bytes (message.Ask from c) = 3 ∷ be16 from ++ commitment_bytes c
+message_bytes (message.AskHeight from height) = 4 ∷ be16 from ++ be64 height
 message_bytes (message.Block b) = 5 ∷ block_bytes b
+message_bytes (message.Junk bytes) = bytes

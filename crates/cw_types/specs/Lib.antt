@@ -1,6 +1,7 @@
 pub mod Block
 pub mod Commit
 pub mod Encoding
+pub mod Epochs
 pub mod Numbers
 pub mod Same
 pub mod Votes

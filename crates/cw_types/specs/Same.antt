@@ -6,6 +6,7 @@ use Rattle.cw_types.specs.declared.commitment.Commitment.{Commitment}
 use Rattle.cw_types.specs.declared.block.Context.{Context}
 use Rattle.cw_types.specs.declared.vote.Proposal.{Proposal}
 use Rattle.cw_types.specs.declared.vote.Vote.{Vote}
+use Rattle.cw_types.specs.declared.vote.Cert.{Cert}
 use Rattle.cw_types.specs.declared.vote.Vote.TheVariants.{Notarize, Nullify, Finalize}
 use Rattle.cw_types.specs.Block.{Block}
 
@@ -26,6 +27,9 @@ same_vote (Notarize p) (Notarize q) = same_proposal p q
 same_vote (Nullify d v) (Nullify e w) = (d == e) && (v == w)
 same_vote (Finalize p) (Finalize q) = same_proposal p q
 same_vote _ _ = false
+
+unfoldable pub same_cert : Cert → Cert → Bool
+same_cert a b = same_vote a.vote b.vote && bytes_eq a.signers b.signers
 
 unfoldable pub same_block : Block → Block → Bool
 same_block a b = same_context a.context b.context && (same_digest a.parent b.parent && ((a.height == b.height) && bytes_eq a.payload b.payload))

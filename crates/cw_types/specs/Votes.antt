@@ -1,5 +1,5 @@
--- Where a vote is cast, and which votes may be counted.
-use Rattle.std.specs.Prelude.{ℕ, ◌-◌, ◌^◌, nat_lt, ◌&&◌, Bool}
+-- Where a vote is cast and on what, and which votes may be counted.
+use Rattle.std.specs.Prelude.{ℕ, ◌-◌, ◌^◌, nat_lt, ◌&&◌, Bool, Option, Some, None}
 use Rattle.cw_types.specs.declared.vote.Proposal.{Proposal}
 use Rattle.cw_types.specs.declared.vote.Vote.{Vote}
 use Rattle.cw_types.specs.declared.vote.Vote.TheVariants.{Notarize, Nullify, Finalize}
@@ -15,6 +15,17 @@ abbrev pub vote_view : Vote → ℕ
 vote_view (Notarize p) = p.view
 vote_view (Nullify epoch view) = view
 vote_view (Finalize p) = p.view
+
+-- the proposal that a vote is on
+abbrev pub proposal_of : Vote → Option Proposal
+proposal_of (Notarize p) = Some p
+proposal_of (Nullify epoch view) = None
+proposal_of (Finalize p) = Some p
+
+-- the proposal of a vote to finalize
+abbrev pub finalized : Vote → Option Proposal
+finalized (Finalize p) = Some p
+finalized _ = None
 
 -- a view from 1 to 2^64 - 2
 abbrev pub is_view : ℕ → Bool

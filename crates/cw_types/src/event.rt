@@ -5,6 +5,7 @@ ghost use Rattle.std.specs.Prelude.{◌≡◌, IfOk};
 use crate::block::Payload;
 use crate::commitment::Commitment;
 use crate::message::Message;
+use crate::vote::Cert;
 use cw_base::{Digest32, Items, NoMemory};
 use std::alloc::Global;
 
@@ -13,8 +14,24 @@ use std::alloc::Global;
 pub enum Event {
     /// It is asked for a block with this payload.
     Propose(Payload),
+    /// The view is over.
+    Timeout(u64),
     /// A message reaches it.
     Deliver(Message),
+    /// The least height that was handed out, and wasn't acknowledged before, is acknowledged.
+    Ack,
+    /// Blocks below the height are to be let go.
+    Prune(u64),
+    /// What a finalization finalizes becomes the floor once its block is held.
+    Floor(Cert),
+    /// The finalized block of the height is asked for, where it isn't there.
+    Hint(u64),
+    /// A ticket is asked for, which waits for a block of this digest.
+    WatchDigest(Digest32),
+    /// A ticket is asked for, which waits for the block under this commitment.
+    WatchCommitment(Commitment),
+    /// The ticket of this number waits no more.
+    Cancel(u64),
 }
 
 impl Event {
@@ -24,7 +41,15 @@ impl Event {
     {
         match self {
             Event::Propose(payload) => Ok(Event::Propose(payload.copy(alloc)?)),
+            Event::Timeout(view) => Ok(Event::Timeout(*view)),
             Event::Deliver(message) => Ok(Event::Deliver(message.copy(alloc)?)),
+            Event::Ack => Ok(Event::Ack),
+            Event::Prune(height) => Ok(Event::Prune(*height)),
+            Event::Floor(cert) => Ok(Event::Floor(cert.copy(alloc)?)),
+            Event::Hint(height) => Ok(Event::Hint(*height)),
+            Event::WatchDigest(digest) => Ok(Event::WatchDigest(*digest)),
+            Event::WatchCommitment(commitment) => Ok(Event::WatchCommitment(*commitment)),
+            Event::Cancel(number) => Ok(Event::Cancel(*number)),
         }
     }
 }

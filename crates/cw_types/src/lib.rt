@@ -7,6 +7,7 @@ mod application;
 mod block;
 mod chain;
 mod commitment;
+pub mod committees;
 mod event;
 mod message;
 mod note;
@@ -17,11 +18,12 @@ pub use application::{AcceptAll, Application, Verifier};
 pub use block::{ChainBlock, Context, Payload};
 pub use chain::{commit, genesis, genesis_commitment};
 pub use commitment::Commitment;
+pub use committees::Committees;
 pub use event::{Event, Handed, Out, StepOut, TicketOut, To};
 pub use message::Message;
 pub use note::Note;
 pub use numbers::{leader, max_faults, quorum};
-pub use vote::{Proposal, Vote, well_formed};
+pub use vote::{Cert, Proposal, Vote, well_formed};
 
 #[cfg(test)]
 mod tests;

@@ -1,20 +1,33 @@
 //! Messages between members.
 
-ghost use Rattle.std.specs.Prelude.{◌≡◌, ◌++◌, IfOk, OnOk, OnErr, take, length};
-ghost use Rattle.cw_types.specs.Encoding.{message_bytes};
+ghost use Rattle.std.specs.Prelude.{◌≡◌, ◌++◌, IfOk, OnOk, OnErr, take, length, flat_map};
+ghost use Rattle.cw_types.specs.Encoding.{chunk_bytes, digest_bytes, message_bytes};
 
 use crate::block::ChainBlock;
-use crate::vote::Vote;
-use cw_base::{NoMemory, put_be16, put_u8};
+use crate::commitment::Commitment;
+use crate::vote::{Cert, Vote};
+use cw_base::{
+    Digest32, Items, NoMemory, put_be16, put_be32, put_be64, put_bytes, put_u8, put_varint,
+};
+use cw_tree::Chunk;
 use std::alloc::Global;
 
 /// What a member sends.
 #[derive(Debug, Drop, PartialEq, Eq)]
 pub enum Message {
+    /// A chunk of the block under the commitment.
+    Shard(Commitment, Chunk<Digest32>),
     /// The signer, and its vote.
     Vote(u16, Vote),
+    Cert(Cert),
+    /// A member asks for the block under the commitment.
+    Ask(u16, Commitment),
+    /// A member asks for the finalized block of the height.
+    AskHeight(u16, u64),
     /// A whole block.
     Block(ChainBlock),
+    /// Bytes that don't read as a message.
+    Junk(Items<u8>),
 }
 
 impl Message {
@@ -23,12 +36,22 @@ impl Message {
         ensures { IfOk result (λ copy. copy ≡ self.now) }
     {
         match self {
+            Message::Shard(commitment, chunk) => {
+                Ok(Message::Shard(*commitment, chunk.copy(alloc)?))
+            }
             Message::Vote(signer, vote) => Ok(Message::Vote(*signer, *vote)),
+            Message::Cert(cert) => Ok(Message::Cert(cert.copy(alloc)?)),
+            Message::Ask(from, commitment) => Ok(Message::Ask(*from, *commitment)),
+            Message::AskHeight(from, height) => Ok(Message::AskHeight(*from, *height)),
             Message::Block(block) => Ok(Message::Block(block.copy(alloc)?)),
+            Message::Junk(bytes) => {
+                let bytes = Vec::from_slice(alloc, bytes.as_slice())?;
+                Ok(Message::Junk(Items::from_vec(bytes)))
+            }
         }
     }
 
-    /// Appends its bytes: a tag, and its fields. Where memory is short nothing changes.
+    /// Appends its bytes: a tag, and its fields, or those that are no message. Where memory is short nothing changes.
     pub fn write(&self, out: &mut Vec<u8>) -> Result<(), NoMemory>
         ensures ok { OnOk result (out.new.items ≡ out.old.items ++ message_bytes self.now) }
         ensures err { OnErr result (out.new.items ≡ out.old.items) }
@@ -48,10 +71,33 @@ impl Message {
         ensures err { OnErr result (take (length out.old.items) out.new.items ≡ out.old.items) }
     {
         match self {
+            Message::Shard(commitment, chunk) => {
+                put_u8(out, 0)?;
+                commitment.write(out)?;
+                put_chunk(out, chunk)?;
+                Ok(())
+            }
             Message::Vote(signer, vote) => {
                 put_u8(out, 1)?;
                 put_be16(out, *signer)?;
                 vote.write(out)?;
+                Ok(())
+            }
+            Message::Cert(cert) => {
+                put_u8(out, 2)?;
+                cert.write(out)?;
+                Ok(())
+            }
+            Message::Ask(from, commitment) => {
+                put_u8(out, 3)?;
+                put_be16(out, *from)?;
+                commitment.write(out)?;
+                Ok(())
+            }
+            Message::AskHeight(from, height) => {
+                put_u8(out, 4)?;
+                put_be16(out, *from)?;
+                put_be64(out, *height)?;
                 Ok(())
             }
             Message::Block(block) => {
@@ -59,6 +105,34 @@ impl Message {
                 block.write(out)?;
                 Ok(())
             }
+            Message::Junk(bytes) => put_bytes(out, bytes.as_slice()),
         }
     }
+}
+
+// A shard behind its length, its index, and its way up.
+#[tactic(auto, unfolding(crate::specs::Encoding::chunk_bytes))]
+fn put_chunk(out: &mut Vec<u8>, chunk: &Chunk<Digest32>) -> Result<(), NoMemory>
+    ensures ok { OnOk result (out.new.items ≡ out.old.items ++ chunk_bytes chunk.now) }
+    ensures err { OnErr result (take (length out.old.items) out.new.items ≡ out.old.items) }
+{
+    let shard = chunk.shard();
+    let proof = chunk.proof();
+    put_varint(out, (shard.len() % (1 << 32)) as u32)?;
+    put_bytes(out, shard)?;
+    put_be16(out, chunk.index())?;
+    put_be32(out, proof.leaf_count)?;
+    put_u8(out, (proof.siblings.len() % 256) as u8)?;
+    put_digests(out, proof.siblings.as_slice())?;
+    Ok(())
+}
+
+fn put_digests(out: &mut Vec<u8>, digests: &[Digest32]) -> Result<(), NoMemory>
+    ensures ok { OnOk result (out.new.items ≡ out.old.items ++ flat_map digest_bytes digests.now) }
+    ensures err { OnErr result (take (length out.old.items) out.new.items ≡ out.old.items) }
+{
+    for digest in digests {
+        put_bytes(out, &digest.0)?;
+    }
+    Ok(())
 }

@@ -1,5 +1,5 @@
 use super::*;
-use cw_base::{Digest32, Sequential, SumHasher};
+use cw_base::{Digest32, Items, Sequential, SumHasher};
 use std::alloc::Global;
 use std::test::Fail;
 
@@ -101,6 +101,71 @@ fn a_committee_has_its_numbers(rt: HostRuntime) {
         assert_eq!(rt; quorum(n), members);
         assert_eq!(rt; leader(9, n), (9 % u64::from(n)) as u16);
     }
+}
+
+// two committees of four among five members, for epochs of one height each
+fn two_committees(alloc: Global) -> Result<Committees, Fail> {
+    let mut lists = Vec::new(alloc);
+    lists.push([0u16, 1, 2, 3].to_vec(alloc)?)?;
+    lists.push([1u16, 2, 3, 4].to_vec(alloc)?)?;
+    Ok(Committees::new(alloc, 5, 1, &lists)?.copy(alloc)?)
+}
+
+#[test]
+fn a_later_epoch_has_the_last_committee(rt: HostRuntime) -> Result<(), Fail> {
+    let committees = two_committees(rt.alloc())?;
+    assert_eq!(rt; committees.total(), 5);
+    assert!(rt; committees.members(0) == [0u16, 1, 2, 3].as_slice());
+    assert!(rt; committees.members(7) == [1u16, 2, 3, 4].as_slice());
+    let places = [(0, 0, Some(0)), (1, 0, None), (1, 4, Some(3))];
+    for (epoch, member, want) in places {
+        assert_eq!(rt; committees.place(epoch, member), want);
+    }
+    let heights = [(0, Some(1)), (1, Some(2)), (u64::MAX, None)];
+    for (epoch, want) in heights {
+        assert_eq!(rt; committees.last_height(epoch), want);
+    }
+    assert_eq!(rt; committees::leader(&committees, 1, 1), 2);
+    let one = Committees::single(rt.alloc(), 4)?;
+    assert_eq!(rt; one.last_height(0), None);
+    assert_eq!(rt; committees::leader(&one, 9, 6), 2);
+    Ok(())
+}
+
+fn note_bytes(alloc: Global, note: &Note) -> Result<Vec<u8>, Fail> {
+    let mut out = Vec::new(alloc);
+    note.copy(alloc)?.write(&mut out)?;
+    Ok(out)
+}
+
+#[test]
+fn notes_and_messages_are_written_behind_their_tags(rt: HostRuntime) -> Result<(), Fail> {
+    let alloc = rt.alloc();
+    let nullify = Vote::Nullify { epoch: 0, view: 1 };
+    let signers = Items::from_vec([0u16, 1, 2].to_vec(alloc)?);
+    let cert = Cert {
+        vote: nullify,
+        signers,
+    };
+    assert!(rt;
+        note_bytes(alloc, &Note::Vote(nullify))?.as_slice()
+            == [3u8, 1, 0, 0, 0, 0, 0, 0, 0, 1].as_slice()
+    );
+    assert!(rt;
+        note_bytes(alloc, &Note::Floor(2))?.as_slice() == [6u8, 0, 0, 0, 0, 0, 0, 0, 2].as_slice()
+    );
+    assert_eq!(rt;
+        note_bytes(alloc, &Note::Certified(proposal(1, 0)))?.len(),
+        117
+    );
+    let mut sent = Vec::new(alloc);
+    Message::Vote(0, nullify).write(&mut sent)?;
+    assert_eq!(rt; sum_of(&sent), 3);
+    let mut sent = Vec::new(alloc);
+    Message::Cert(cert).write(&mut sent)?;
+    let want = [2u8, 1, 0, 0, 0, 0, 0, 0, 0, 1, 0, 3, 0, 0, 0, 1, 0, 2];
+    assert!(rt; sent.as_slice() == want.as_slice());
+    Ok(())
 }
 
 fn copied(alloc: Global) -> Result<bool, Fail> {

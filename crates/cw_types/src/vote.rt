@@ -1,12 +1,14 @@
-//! Proposals and votes.
+//! Proposals, votes and certificates.
 
-ghost use Rattle.std.specs.Prelude.{◌≡◌, ◌++◌, ◌<◌, OnOk, OnErr, take, length};
-ghost use Rattle.cw_types.specs.Encoding.{proposal_bytes, tag_bytes, vote_bytes};
-ghost use Rattle.cw_types.specs.Same.{same_proposal, same_vote};
+ghost use Rattle.std.specs.Prelude.{◌≡◌, ◌++◌, ◌<◌, IfOk, OnOk, OnErr, take, length, flat_map};
+ghost use Rattle.cw_base.specs.Bytes.{be16};
+ghost use Rattle.cw_types.specs.Encoding.{cert_bytes, proposal_bytes, tag_bytes, vote_bytes};
+ghost use Rattle.cw_types.specs.Same.{same_cert, same_proposal, same_vote};
 ghost use Rattle.cw_types.specs.Votes as votes;
 
 use crate::commitment::Commitment;
-use cw_base::{NoMemory, put_be64, put_u8};
+use cw_base::{Items, NoMemory, put_be16, put_be64, put_u8};
+use std::alloc::Global;
 
 /// A block that is proposed in a view of an epoch, over the block of an earlier view.
 #[derive(Clone, Copy, Debug, PartialEq, Eq)]
@@ -27,6 +29,13 @@ pub enum Vote {
     Nullify { epoch: u64, view: u64 },
     /// The block stays.
     Finalize(Proposal),
+}
+
+/// A vote with the numbers of the members that signed it.
+#[derive(Debug, Drop, PartialEq, Eq)]
+pub struct Cert {
+    pub vote: Vote,
+    pub signers: Items<u16>,
 }
 
 impl Proposal {
@@ -148,6 +157,64 @@ impl Vote {
             }
         }
     }
+}
+
+impl Cert {
+    /// Whether the two are the same.
+    #[tactic(auto, unfolding(crate::specs::Same::same_cert))]
+    pub fn is_same(&self, other: &Cert) -> bool
+        ensures { result ≡ same_cert self.now other.now }
+    {
+        self.vote.is_same(&other.vote) && self.signers.as_slice() == other.signers.as_slice()
+    }
+
+    /// An equal certificate.
+    pub fn copy(&self, alloc: Global) -> Result<Cert, NoMemory>
+        ensures { IfOk result (λ copy. copy ≡ self.now) }
+    {
+        let signers = Vec::from_slice(alloc, self.signers.as_slice())?;
+        Ok(Cert {
+            vote: self.vote,
+            signers: Items::from_vec(signers),
+        })
+    }
+
+    /// Appends its bytes: its vote, 2 of the number of signers, and 2 of each. Where memory is short
+    /// nothing changes.
+    pub fn write(&self, out: &mut Vec<u8>) -> Result<(), NoMemory>
+        ensures ok { OnOk result (out.new.items ≡ out.old.items ++ cert_bytes self.now) }
+        ensures err { OnErr result (out.new.items ≡ out.old.items) }
+    {
+        let start = out.len();
+        let written = self.write_parts(out);
+        if written.is_err() {
+            out.truncate(start);
+        }
+        written
+    }
+
+    // What was written before memory ran short stays.
+    #[tactic(auto, unfolding(crate::specs::Encoding::cert_bytes))]
+    fn write_parts(&self, out: &mut Vec<u8>) -> Result<(), NoMemory>
+        ensures ok { OnOk result (out.new.items ≡ out.old.items ++ cert_bytes self.now) }
+        ensures err { OnErr result (take (length out.old.items) out.new.items ≡ out.old.items) }
+    {
+        self.vote.write(out)?;
+        put_be16(out, (self.signers.len() % 65536) as u16)?;
+        put_signers(out, self.signers.as_slice())?;
+        Ok(())
+    }
+}
+
+// Two bytes of each.
+fn put_signers(out: &mut Vec<u8>, signers: &[u16]) -> Result<(), NoMemory>
+    ensures ok { OnOk result (out.new.items ≡ out.old.items ++ flat_map be16 signers.now) }
+    ensures err { OnErr result (take (length out.old.items) out.new.items ≡ out.old.items) }
+{
+    for signer in signers {
+        put_be16(out, *signer)?;
+    }
+    Ok(())
 }
 
 // The tag of a vote, and the epoch where it isn't 0.

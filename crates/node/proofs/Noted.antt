@@ -17,8 +17,7 @@ pub appended : (xs ys : List Note) (c : Commitment) → noted_block (xs ++ ys) c
 appended [] ys c = refl
 appended (note.Block d b ∷ xs) ys c =
     ap (cond (same_commitment d c) (Some b)) (appended xs ys c) ∙ chosen (same_commitment d c) b (noted_block xs c) (noted_block ys c)
-appended (note.Verified e v d ∷ xs) ys c = appended xs ys c
-appended (note.Vote v ∷ xs) ys c = appended xs ys c
+appended (_ ∷ xs) ys c = appended xs ys c
 
 -- the notes of one step after another
 pub stepped : (steps : List (List Note)) (i : ℕ) (step written : List Note) (c : Commitment) → i < length steps → step ≡ get_or steps i step → noted_block (flat_map (λ notes. notes) (drop i steps) ++ written) c ≡ option_or (noted_block step c) (noted_block (flat_map (λ notes. notes) (drop (i + 1) steps) ++ written) c)

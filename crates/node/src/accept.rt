@@ -93,7 +93,6 @@ impl<H: Hasher<Digest = Digest32>, A: Application> Node<H, A> {
         ensures kept { self.new ≡ record self.old { member = record self.old.member { came = self.new.member.came } } }
     {
         match event {
-            Event::Propose(_) => Ok(()),
             Event::Deliver(Message::Vote(signer, vote)) => {
                 self.accept_vote(verifier, *signer, vote)?;
                 Ok(())
@@ -102,6 +101,7 @@ impl<H: Hasher<Digest = Digest32>, A: Application> Node<H, A> {
                 self.accept_block(rt, alloc, block, strategy)?;
                 Ok(())
             }
+            _ => Ok(()),
         }
     }
 }

@@ -13,8 +13,7 @@ fn is_block_of(note: &Note, commitment: &Commitment) -> bool
 {
     match note {
         Note::Block(other, _) => other.is_same(commitment),
-        Note::Verified(..) => false,
-        Note::Vote(_) => false,
+        _ => false,
     }
 }
 
@@ -23,8 +22,7 @@ fn is_vote_in(note: &Note, view: u64) -> bool
 {
     match note {
         Note::Vote(vote) => vote.epoch() == 0 && vote.view() == view,
-        Note::Block(..) => false,
-        Note::Verified(..) => false,
+        _ => false,
     }
 }
 

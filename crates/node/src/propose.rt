@@ -29,7 +29,6 @@ impl<H: Hasher<Digest = Digest32>, A: Application> Node<H, A> {
         ensures { IfOk result (λ notes. notes.items ≡ rule.direct_notes (setting_of H.digest_of A.accepts self.now) self.now.id (notes_of self.now.member) event.now) }
     {
         match event {
-            Event::Deliver(_) => Ok(Vec::new(alloc)),
             Event::Propose(payload) => {
                 let block = self.first_view_block(alloc, payload)?;
                 if !self.may_propose(alloc, &block) {
@@ -37,6 +36,7 @@ impl<H: Hasher<Digest = Digest32>, A: Application> Node<H, A> {
                 }
                 self.proposal_notes(rt, alloc, block, strategy)
             }
+            _ => Ok(Vec::new(alloc)),
         }
     }
 

@@ -32,7 +32,6 @@ impl<H, A> Node<H, A> {
         ensures { OnOk result (out.new ≡ out.old ++ rule.gives self.now.id (notes_of self.now.member ++ written.now) note.now) }
     {
         let message = match note {
-            Note::Block(..) => return Ok(()),
             Note::Vote(vote) => Message::Vote(self.id, *vote),
             Note::Verified(_, _, commitment) => {
                 match noted_block(self.member.notes.as_slice(), written, commitment) {
@@ -40,6 +39,7 @@ impl<H, A> Node<H, A> {
                     Some(block) => Message::Block(block.copy(alloc)?),
                 }
             }
+            _ => return Ok(()),
         };
         out.push(Out {
             to: To::All,
