@@ -1,19 +1,21 @@
 -- The report's chain is one, on which all lies that was handed out.
-use Rattle.std.proofs.Common.{◌≡◌, ℕ, zero, suc, ◌+◌, ◌<◌, ◌≤◌, Bool, true, false, cond, nat_lt, List, [], ◌∷◌, ◌++◌, Option, Some, None, length, count_by, flat_map, option_map, option_and_then, refl, sym, ◌∙◌, ap, subst, inl, inr, ◌⊎◌, arith, ltb-true}
+use Rattle.std.proofs.Common.{◌≡◌, ℕ, zero, suc, ◌+◌, ◌<◌, ◌≤◌, Bool, true, false, cond, nat_lt, List, [], ◌∷◌, ◌++◌, Option, Some, None, length, count_by, flat_map, option_map, option_and_then, refl, sym, ◌∙◌, ap, subst, inl, inr, ◌⊎◌, arith, length-append, ltb-true, slice_get}
 use Rattle.std.specs.List.{AllByRecursion, list_any, range_with_len}
 use Rattle.std.specs.Option.{option_map_or}
 use Rattle.std.proofs.lemmas.Bool.{cases_Bool, cond-true, cond-false, lt-ltb, ltb-false}
 use Rattle.std.proofs.lemmas.List.Sums.{sum_by-cons}
 use Rattle.std.proofs.lemmas.Option.{same_Some}
+use Rattle.cw_types.specs.declared.commitment.Commitment.{Commitment}
 use Rattle.cw_types.specs.declared.event.Handed.{Handed}
+use Rattle.cw_types.specs.Block.{Block}
 use Rattle.cw_types.specs.Epochs.{members_in, size}
 use Rattle.cw_types.specs.Numbers.{max_faults}
 use Rattle.cw_rules.specs.Accepted.{State}
-use Rattle.cw_rules.specs.Chains.{Ends, IsChain, block_under, chain_to, outcome}
+use Rattle.cw_rules.specs.Chains.{Ends, Follow, IsChain, block_under, chain_to, links_to, outcome}
 use Rattle.cw_rules.specs.Held.{held}
 use Rattle.cw_rules.specs.Reached.{In, IsCluster, IsLinkOf, IsReported}
 use Rattle.cw_rules.specs.Report.{chain_of, handed_in, highest, report_of}
-use Rattle.cw_rules.specs.Rules.{Rules, genesis, genesis_commitment}
+use Rattle.cw_rules.specs.Rules.{Rules, commit, genesis, genesis_commitment}
 use Rattle.cw_rules.specs.Step.{deliveries, deliveries_within, delivery, handing, most_delivered, nothing_came, start, with_given}
 use Rattle.cw_rules.specs.World.{Line, World, faults, opening}
 use Rattle.cw_rules.proofs.Lists.{in_left, in_right}
@@ -88,6 +90,35 @@ in_flat_at f x i low (suc len) le lt h = go (cases_Bool (nat_lt low i)) (in_flat
     go (inl t) later = in_right x (f low) (flat_map f (range_with_len (low + 1) len)) (later (omega (arith, ltb-true low i t)) (omega arith) h)
     go (inr n) later = let e : i ≡ low = omega (arith, ltb-false low i n) in in_left x (f low) (flat_map f (range_with_len (low + 1) len)) (subst (λ j. In x (f j)) e h)
 
+-- ---- how long a chain is
+
+-- each link's height is its place
+follow_height : (r : Rules) (w : World) (c : Commitment) (a : Block) (bs : List Block) → Follow r w c a bs → (i : ℕ) (x : Block) → slice_get (a ∷ bs) i ≡ Some x → x.height ≡ a.height + i
+follow_height r w c a bs f zero x h = let e : a ≡ x = same_Some a x h in omega (arith, ap (λ (b : Block). b.height) e)
+follow_height r w c a [] f (suc i) x h = cc
+follow_height r w c a (b ∷ bs) f (suc i) x h = omega (arith, f.0, follow_height r w (commit r b) b bs f.4 i x h)
+
+chain_height : (r : Rules) (w : World) (links : List Block) → IsChain r w links → (i : ℕ) (x : Block) → slice_get links i ≡ Some x → x.height ≡ i
+chain_height r w [] k i x h = absurd k
+chain_height r w (b ∷ bs) k i x h = omega (arith, ap (λ (y : Block). y.height) k.0, follow_height r w (genesis_commitment r) b bs k.1 i x h)
+
+last_at : (xs : List Block) (b : Block) → slice_get (xs ++ b ∷ []) (length xs) ≡ Some b
+last_at [] b = refl
+last_at (x ∷ xs) b = last_at xs b
+
+-- a list that ends in b is as long as b is high, and genesis
+ends_high : (r : Rules) (w : World) (xs : List Block) (b : Block) → IsChain r w (xs ++ b ∷ []) → length (xs ++ b ∷ []) ≡ b.height + 1
+ends_high r w xs b k = omega (arith, chain_height r w (xs ++ b ∷ []) k (length xs) b (last_at xs b), length-append xs (b ∷ []))
+
+links_end : (r : Rules) (w : World) (steps : ℕ) (b : Block) → (xs : List Block) × (links_to r w steps b ≡ xs ++ b ∷ [])
+links_end r w zero b = ([], refl)
+links_end r w (suc steps) b = (option_map_or (links_to r w steps) (block_under r w b.context.parent) [], refl)
+
+chain_long : (r : Rules) (w : World) (b : Block) → IsChain r w (chain_to r w b) → length (chain_to r w b) ≡ b.height + 1
+chain_long r w b k =
+    let (xs, e) = links_end r w b.height b in
+    ap length e ∙ ends_high r w xs b (subst (IsChain r w) e k)
+
 module _ (r : Rules) (pos : 0 < r.backlog) where
   abbrev pub fresh : State
   fresh = record { notes = []; came = nothing_came; given = [] }
@@ -127,4 +158,5 @@ module _ (r : Rules) (pos : 0 < r.backlog) where
       record {
         chain = subst (IsChain r w) (sym e) one.chain;
         each = λ y i. subst (λ links. IsLinkOf r links y) (sym e) (one.links y i (k.above y i));
+        top = (x, k.there, ap length e ∙ (chain_long r w one.block one.chain ∙ ap (λ n. n + 1) one.height));
       }

@@ -1,5 +1,5 @@
 -- The worlds that a script reaches.
-use Rattle.std.specs.Prelude.{[], ℕ, ◌++◌, ◌+◌, ◌<◌, ◌∷◌, ◌≡◌, ◌≢◌, ◌≤◌, ◌⊎◌, IsTrue, List, Some, count_by, map, option_map, slice_get}
+use Rattle.std.specs.Prelude.{[], ℕ, ◌++◌, ◌+◌, ◌<◌, ◌∷◌, ◌≡◌, ◌≢◌, ◌≤◌, ◌⊎◌, IsTrue, List, Some, count_by, length, map, option_map, slice_get}
 use Rattle.std.specs.List.{AllByRecursion, list_any}
 use Rattle.cw_types.specs.Block.{Block}
 use Rattle.cw_types.specs.Epochs.{Epochs, is_last, members_in, rises_from, size}
@@ -76,10 +76,11 @@ pub record IsOneChain (r : Rules) (w : World) (handed : List Handed) (x : Handed
   pub chain : IsChain r w (chain_to r w block)
   pub links : (y : Handed) → In y handed → y.height ≤ x.height → IsLinkOf r (chain_to r w block) y
 
--- the links are one chain from genesis, and each handed block is the link of its height
+-- the links are one chain from genesis, each handed block is the link of its height, and no link is higher than all of them
 pub record IsReported (r : Rules) (w : World) (handed : List Handed) (links : List Block) : Type 0 where
   pub chain : IsChain r w links
   pub each : (y : Handed) → In y handed → IsLinkOf r links y
+  pub top : (x : Handed) × In x handed × (length links ≡ x.height + 1)
 
 -- a block that is genesis or noted by an honest member
 abbrev pub IsKnown : Rules → World → Block → Type 0

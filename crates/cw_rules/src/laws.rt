@@ -27,81 +27,122 @@ ghost use Rattle.cw_types.specs.Block.{Block};
 
 use cw_types::{Commitment, Event, Handed, Note, Proposal, Vote};
 
-/// Among members of whom at most f are faulty, and the others honest, what stands is one chain.
+/// Among members of whom at most f of each epoch are faulty, and the others honest, what stands is one
+/// chain in each epoch. What it means that the block of a proposal fits is left open, so a payload may be
+/// any commitment.
 pub fn chain_laws()
-    // no two different votes to notarize of one view stand
-    ensures one_notarized { (x : Epochs) (fits : List Note → Proposal → Bool) (members : Members) → AreLawful x fits members → (p q : Proposal) → Stands x members (Vote.Notarize p) → Stands x members (Vote.Notarize q) → p.epoch ≡ q.epoch → p.view ≡ q.view → p ≡ q }
+    // no two different votes to notarize of one epoch and view stand
+    ensures one_notarized { (x : Epochs) (fits : List Note → Proposal → Bool) (members : Members)
+        → AreLawful x fits members
+        → (p q : Proposal) → Stands x members (Vote.Notarize p) → Stands x members (Vote.Notarize q)
+        → p.epoch ≡ q.epoch → p.view ≡ q.view → p ≡ q }
     // a vote to finalize and one to nullify its view never both stand
-    ensures not_both { (x : Epochs) (fits : List Note → Proposal → Bool) (members : Members) → AreLawful x fits members → (p : Proposal) → Stands x members (Vote.Finalize p) → Stands x members (Vote.Nullify p.epoch p.view) → ⊥ }
-    // what stands notarized in a view above a finalized proposal descends from it
-    ensures descent { (x : Epochs) (fits : List Note → Proposal → Bool) (members : Members) → AreLawful x fits members → (p q : Proposal) → Stands x members (Vote.Finalize p) → Stands x members (Vote.Notarize q) → p.epoch ≡ q.epoch → p.view < q.view → Descends x members q p }
+    ensures not_both { (x : Epochs) (fits : List Note → Proposal → Bool) (members : Members)
+        → AreLawful x fits members
+        → (p : Proposal) → Stands x members (Vote.Finalize p) → Stands x members (Vote.Nullify p.epoch p.view) → ⊥ }
+    // what stands notarized in a later view of the epoch than a finalized proposal descends from it
+    ensures descent { (x : Epochs) (fits : List Note → Proposal → Bool) (members : Members)
+        → AreLawful x fits members
+        → (p q : Proposal) → Stands x members (Vote.Finalize p) → Stands x members (Vote.Notarize q)
+        → p.epoch ≡ q.epoch → p.view < q.view → Descends x members q p }
 {}
 
-/// What a member keeps, from step to step, whatever it means to back a vote.
+/// What a member's notes keep, from step to step, whatever it means to back a vote.
 pub fn member_laws()
-    // each note of a step rests on the notes before it, by what it means when it is written
-    ensures step { (r : Rules) (m : List Note → Meaning) (id : ℕ) → IsRising r → AreAlong r m id → (s : State) (e : Event) → AllByRecursion (IsSound (m s.notes)) s.came.ballots
+    // each note of a step rests on the notes before it, by what votes mean when it is written
+    ensures step { (r : Rules) (m : List Note → Meaning) (id : ℕ)
+        → IsRising r → AreAlong r m id
+        → (s : State) (e : Event) → AllByRecursion (IsSound (m s.notes)) s.came.ballots
         → EachAfter (KeepsBy r m) s.notes (step_notes r id s e) }
     // notes that do are an honest member's
-    ensures kept { (r : Rules) (m : Meaning) (x : Epochs) (members : Members) → ((v : Vote) → IsTrue (m.holds v) → Stands x members v) → (notes : List Note) → EachAfter (Keeps r m) [] notes → AreKept x (block_fits r) members notes }
-    // after the notes of a step nothing is owed
-    ensures ends { (r : Rules) (id : ℕ) (s : State) (e : Event) → owed r id (with_notes s (step_notes r id s e)) ≡ None }
+    ensures kept { (r : Rules) (m : Meaning) (x : Epochs) (members : Members)
+        → ((v : Vote) → IsTrue (m.holds v) → Stands x members v)
+        → (notes : List Note) → EachAfter (Keeps r m) [] notes → AreKept x (block_fits r) members notes }
 {}
 
 /// What it means that an epoch is owed.
 pub fn owed_laws()
-    // the epoch that is owed is the greatest above the member's whose beginning is reached
-    ensures greatest { (r : Rules) (s : State) (span : ℕ) → r.epochs.span ≡ Some span → 0 < span → (note : Note) → epoch_owed r s ≡ Some note → IsGreatest r s.notes span note }
-    // where none is owed none is reached
-    ensures none { (r : Rules) (s : State) (span : ℕ) → r.epochs.span ≡ Some span → 0 < span → epoch_owed r s ≡ None → (epoch : ℕ) → epoch_of s.notes < epoch → at_height r s.notes (epoch * span) ≡ None }
+    // it is the greatest above the member's whose beginning is reached
+    ensures greatest { (r : Rules) (s : State) (span : ℕ) → r.epochs.span ≡ Some span → 0 < span
+        → (note : Note) → epoch_owed r s ≡ Some note → IsGreatest r s.notes span note }
+    // where none is owed none above the member's is reached
+    ensures none { (r : Rules) (s : State) (span : ℕ) → r.epochs.span ≡ Some span → 0 < span
+        → epoch_owed r s ≡ None
+        → (epoch : ℕ) → epoch_of s.notes < epoch → at_height r s.notes (epoch * span) ≡ None }
 {}
 
-/// A cluster of n members is one epoch without end.
+/// A cluster of n members is a case: one epoch without end.
 pub fn single_laws()
-    // its members are those below n, its leaders go round, and its quorums are n's
+    // its members are those below n
     ensures members { (n epoch : ℕ) → members_in (single n) epoch ≡ range_with_len 0 n }
+    // so it has n's quorums
     ensures size { (n epoch : ℕ) → size (single n) epoch ≡ n }
+    // they lead in turn
     ensures leader { (n epoch view : ℕ) → 0 < n → leader (single n) epoch view ≡ view % n }
-    // no height is its last, and each is within it
-    ensures no_end { (n epoch height : ℕ) → (is_last (single n) epoch height ≡ false) × (is_within (single n) epoch height ≡ true) }
-    // no other epoch is owed, and no block fits again
+    // no height is the last, and each is within the epoch
+    ensures no_end { (n epoch height : ℕ)
+        → (is_last (single n) epoch height ≡ false) × (is_within (single n) epoch height ≡ true) }
+    // no epoch is ever owed
     ensures no_epoch { (r : Rules) (s : State) → r.epochs.span ≡ None → epoch_owed r s ≡ None }
 {}
 
-/// In every world that a script reaches, with at most f faulty members, what stands is one chain.
+/// In every world that a script reaches, with at most f faulty members of each epoch, what stands is one
+/// chain in each epoch, whatever is delivered, lost, repeated, cut or forged.
 pub fn cluster_laws()
     // each such world is lawful: each honest member's notes rest on those before them
-    ensures lawful { (r : Rules) (script : List Line) (w : World) → IsCluster r script → Reaches r script w → AreLawful r.epochs (block_fits r) (members_of w) }
-    ensures one_notarized { (r : Rules) (script : List Line) (w : World) → IsCluster r script → Reaches r script w
-        → (p q : Proposal) → Stands r.epochs (members_of w) (Vote.Notarize p) → Stands r.epochs (members_of w) (Vote.Notarize q) → p.epoch ≡ q.epoch → p.view ≡ q.view → p ≡ q }
-    ensures not_both { (r : Rules) (script : List Line) (w : World) → IsCluster r script → Reaches r script w
-        → (p : Proposal) → Stands r.epochs (members_of w) (Vote.Finalize p) → Stands r.epochs (members_of w) (Vote.Nullify p.epoch p.view) → ⊥ }
-    ensures descent { (r : Rules) (script : List Line) (w : World) → IsCluster r script → Reaches r script w
-        → (p q : Proposal) → Stands r.epochs (members_of w) (Vote.Finalize p) → Stands r.epochs (members_of w) (Vote.Notarize q) → p.epoch ≡ q.epoch → p.view < q.view → Descends r.epochs (members_of w) q p }
-    // each honest member keeps what it must: its notes rest on those before them, what came was signed, and what it sent is noted
-    ensures kept { (r : Rules) (script : List Line) (w : World) → IsCluster r script → Reaches r script w → (i : ℕ) (m : Member) → slice_get w.members i ≡ Some (Some m) → IsMemberKept r w i m }
+    ensures lawful { (r : Rules) (script : List Line) (w : World)
+        → IsCluster r script → Reaches r script w → AreLawful r.epochs (block_fits r) (members_of w) }
+    // no two different votes to notarize of one epoch and view stand
+    ensures one_notarized { (r : Rules) (script : List Line) (w : World)
+        → IsCluster r script → Reaches r script w
+        → (p q : Proposal) → Stands r.epochs (members_of w) (Vote.Notarize p)
+        → Stands r.epochs (members_of w) (Vote.Notarize q) → p.epoch ≡ q.epoch → p.view ≡ q.view → p ≡ q }
+    // a vote to finalize and one to nullify its view never both stand
+    ensures not_both { (r : Rules) (script : List Line) (w : World)
+        → IsCluster r script → Reaches r script w
+        → (p : Proposal) → Stands r.epochs (members_of w) (Vote.Finalize p)
+        → Stands r.epochs (members_of w) (Vote.Nullify p.epoch p.view) → ⊥ }
+    // what stands notarized in a later view of the epoch than a finalized proposal descends from it
+    ensures descent { (r : Rules) (script : List Line) (w : World)
+        → IsCluster r script → Reaches r script w
+        → (p q : Proposal) → Stands r.epochs (members_of w) (Vote.Finalize p)
+        → Stands r.epochs (members_of w) (Vote.Notarize q) → p.epoch ≡ q.epoch → p.view < q.view
+        → Descends r.epochs (members_of w) q p }
     // a finalized proposal, and each from which it descends, was certified by an honest member that noted its block
-    ensures certified { (r : Rules) (script : List Line) (w : World) → IsCluster r script → Reaches r script w
-        → (p q : Proposal) → Stands r.epochs (members_of w) (Vote.Finalize p) → Descends r.epochs (members_of w) p q → IsCertifiedIn (members_of w) q }
+    ensures certified { (r : Rules) (script : List Line) (w : World)
+        → IsCluster r script → Reaches r script w
+        → (p q : Proposal) → Stands r.epochs (members_of w) (Vote.Finalize p)
+        → Descends r.epochs (members_of w) p q → IsCertifiedIn (members_of w) q }
+    // each honest member keeps what it must: its notes rest on those before them, what came was signed, what it sent is noted
+    ensures kept { (r : Rules) (script : List Line) (w : World)
+        → IsCluster r script → Reaches r script w
+        → (i : ℕ) (m : Member) → slice_get w.members i ≡ Some (Some m) → IsMemberKept r w i m }
 {}
 
-/// In every world that a script reaches without a clash, the epochs follow one another.
+/// In every world that a script reaches without a clash, the epochs follow one another. With two blocks
+/// of one digest these laws would fail, since then one commitment may be that of two blocks.
 pub fn epoch_laws()
     // a note that enters an epoch names the payload of a proposal of the epoch before that stands finalized
-    ensures anchored { (r : Rules) (script : List Line) (w : World) → IsCluster r script → ReachesClear r script w → AllAnchored r.epochs (members_of w) }
+    ensures anchored { (r : Rules) (script : List Line) (w : World)
+        → IsCluster r script → ReachesClear r script w → AllAnchored r.epochs (members_of w) }
     // all notes of honest members that enter one epoch have one commitment
-    ensures one_entry { (r : Rules) (script : List Line) (w : World) → IsCluster r script → ReachesClear r script w
-        → (i j : ℕ) (notes others : List Note) → slice_get (members_of w) i ≡ Some (Some notes) → slice_get (members_of w) j ≡ Some (Some others)
+    ensures one_entry { (r : Rules) (script : List Line) (w : World)
+        → IsCluster r script → ReachesClear r script w
+        → (i j : ℕ) (notes others : List Note)
+        → slice_get (members_of w) i ≡ Some (Some notes) → slice_get (members_of w) j ≡ Some (Some others)
         → (epoch : ℕ) (c d : Commitment) → In (Note.Epoch epoch c) notes → In (Note.Epoch epoch d) others → c ≡ d }
     // a step of a descent from what an honest member certified goes to the height below, or keeps the payload at the epoch's last height
-    ensures goes_down { (r : Rules) (script : List Line) (w : World) → IsCluster r script → ReachesClear r script w
-        → (q p : Proposal) → IsCertifiedIn (members_of w) q → Stands r.epochs (members_of w) (Vote.Notarize p) → p.epoch ≡ q.epoch → p.view ≡ q.parent → GoesDown r w q p }
+    ensures goes_down { (r : Rules) (script : List Line) (w : World)
+        → IsCluster r script → ReachesClear r script w
+        → (q p : Proposal) → IsCertifiedIn (members_of w) q → Stands r.epochs (members_of w) (Vote.Notarize p)
+        → p.epoch ≡ q.epoch → p.view ≡ q.parent → GoesDown r w q p }
 {}
 
-/// Where a script ends without a clash, all that is handed out is one chain.
+/// Where a script ends without a clash, all that is handed out is one chain: the blocks below one that is
+/// handed out are a chain from genesis, and each handed block that isn't higher is one of them.
 pub fn one_chain()
-    // the blocks below one that is handed out are a chain from genesis, and each handed block that isn't higher is one of them
-    ensures { (r : Rules) (script : List Line) (w : World) → IsCluster r script → outcome r (opening r script) script ≡ Ends w
+    ensures { (r : Rules) (script : List Line) (w : World)
+        → IsCluster r script → outcome r (opening r script) script ≡ Ends w
         → (x : Handed) → In x (handed_in r script) → IsOneChain r w (handed_in r script) x }
 {}
 
@@ -109,34 +150,46 @@ pub fn one_chain()
 /// any entry hands out is the link of its height. Something is handed out, since each honest member
 /// starts with genesis.
 pub fn report_laws()
-    ensures { (r : Rules) (script : List Line) (w : World) → IsCluster r script → 0 < r.backlog → outcome r (opening r script) script ≡ Ends w
+    ensures { (r : Rules) (script : List Line) (w : World)
+        → IsCluster r script → 0 < r.backlog → outcome r (opening r script) script ≡ Ends w
         → IsReported r w (handed_in r script) (report_of r script w).chain }
 {}
 
-/// What a clash shows.
+/// What a clash shows: in a world that the script reaches, two different blocks of one digest, each
+/// genesis or noted by an honest member.
 pub fn clash_laws()
-    // in a world that the script reaches, two different blocks of one digest, each genesis or noted by an honest member
-    ensures { (r : Rules) (script : List Line) (earlier later : List ℕ) → outcome r (opening r script) script ≡ Clashes earlier later
+    ensures { (r : Rules) (script : List Line) (earlier later : List ℕ)
+        → outcome r (opening r script) script ≡ Clashes earlier later
         → (w : World) × Reaches r script w × IsClash r w earlier later }
 {}
 
 /// The bounds in the definitions never run out.
 pub fn bound_laws()
     // after the notes of a step nothing more is owed
-    ensures settled { (r : Rules) (id : ℕ) (s : State) (e : Event) → owed r id (with_notes s (step_notes r id s e)) ≡ None }
+    ensures settled { (r : Rules) (id : ℕ) (s : State) (e : Event)
+        → owed r id (with_notes s (step_notes r id s e)) ≡ None }
     // after its deliveries as many blocks are pending as may be, or the next height isn't reached
-    ensures delivered { (r : Rules) (s : State) → (r.backlog ≤ length (pending (with_handed s (deliveries r s)))) ⊎ (at_height r s.notes (next (with_handed s (deliveries r s))) ≡ None) }
+    ensures delivered { (r : Rules) (s : State)
+        → (r.backlog ≤ length (pending (with_handed s (deliveries r s))))
+        ⊎ (at_height r s.notes (next (with_handed s (deliveries r s))) ≡ None) }
     // what stands at a height is held
-    ensures held { (r : Rules) (notes : List Note) (height : ℕ) (c : Commitment) → at_height r notes height ≡ Some c → (b : Block) × (held r notes c ≡ Some b) }
+    ensures held { (r : Rules) (notes : List Note) (height : ℕ) (c : Commitment)
+        → at_height r notes height ≡ Some c → (b : Block) × (held r notes c ≡ Some b) }
 {}
 
 /// What chunks show, by what the rules ask of the codewords below them.
 pub fn coding_laws()
-    // the chunks of a commitment that a member accepts are of different places
-    ensures apart { (r : Rules) (signed : ℕ → Vote → Bool) (came : Came) (e : Event) → ((c : Commitment) → AreApart (filter_map (row_of c) came.parts)) → (c : Commitment) → AreApart (filter_map (row_of c) (taken_came r signed came e).parts) }
+    // the chunks of a commitment that a member accepts stay at different places
+    ensures apart { (r : Rules) (signed : ℕ → Vote → Bool) (came : Came) (e : Event)
+        → ((c : Commitment) → AreApart (filter_map (row_of c) came.parts))
+        → (c : Commitment) → AreApart (filter_map (row_of c) (taken_came r signed came e).parts) }
     // where no whole block came, a commitment is shown as exactly the block of whose codeword its first k chunks are rows
-    ensures shown { (r : Rules) → IsCoder r → (came : Came) (c : Commitment) (b : Block) → 0 < c.config.minimum → total_of c.config ≤ 65535 → ((d : Commitment) → AreApart (filter_map (row_of d) came.parts)) → first_some (whole_of r c) came.parts ≡ None
+    ensures shown { (r : Rules) → IsCoder r
+        → (came : Came) (c : Commitment) (b : Block) → 0 < c.config.minimum → total_of c.config ≤ 65535
+        → ((d : Commitment) → AreApart (filter_map (row_of d) came.parts))
+        → first_some (whole_of r c) came.parts ≡ None
         → (shown r came c ≡ Some b) ↔ IsCodeword r c (first_chunks came c) b }
     // each chunk that a block is cut in stands under its commitment
-    ensures cut { (r : Rules) → IsCoder r → (b : Block) → AllByRecursion (λ x. IsTrue (is_under r (commit r b) x)) (chunks r b) }
+    ensures cut { (r : Rules) → IsCoder r
+        → (b : Block) → AllByRecursion (λ x. IsTrue (is_under r (commit r b) x)) (chunks r b) }
 {}

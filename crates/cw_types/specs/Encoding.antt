@@ -1,9 +1,8 @@
 -- The bytes of each value, in the order of its fields. Numbers are big-endian.
 use Rattle.std.specs.Prelude.{ℕ, ◌+◌, ◌%◌, ◌^◌, ◌==◌, List, [], ◌∷◌, ◌++◌, length, flat_map, if◌then◌else◌}
-use Rattle.cw_base.specs.declared.hash.Digest32.{Digest32}
-use Rattle.cw_base.specs.Bytes.{be16, be32, be64, varint}
+use Rattle.cw_base.specs.Bytes.{be16, be64, varint}
 use Rattle.cw_base.specs.Config.{config_bytes}
-use Rattle.cw_tree.specs.Chunks.{Piece}
+use Rattle.cw_tree.specs.Formats.{chunk_bytes}
 use Rattle.cw_types.specs.declared.commitment.Commitment.{Commitment}
 use Rattle.cw_types.specs.declared.block.Context.{Context}
 use Rattle.cw_types.specs.Block.{Block}
@@ -62,16 +61,9 @@ note_bytes (note.Floor height) = 6 ∷ be64 height
 note_bytes (note.Prune height) = 7 ∷ be64 height
 note_bytes (note.Epoch epoch c) = 8 ∷ be64 epoch ++ commitment_bytes c
 
-abbrev pub digest_bytes : Digest32 → List ℕ
-digest_bytes d = d.0
-
--- a shard behind its length, its index, the number of leaves of its tree, and its siblings behind their number
-unfoldable pub chunk_bytes : Piece Digest32 → List ℕ
-chunk_bytes x = varint (length x.shard % 2 ^ 32) ++ x.shard ++ be16 x.index ++ be32 x.leaf_count ++ (length x.siblings % 2 ^ 8) ∷ flat_map digest_bytes x.siblings
-
 -- a tag, and the fields; bytes that are no message stand as they are
 unfoldable pub message_bytes : Message → List ℕ
-message_bytes (message.Shard c x) = 0 ∷ commitment_bytes c ++ chunk_bytes x
+message_bytes (message.Shard c x) = 0 ∷ commitment_bytes c ++ chunk_bytes (λ d. d.0) x
 message_bytes (message.Vote signer v) = 1 ∷ be16 signer ++ vote_bytes v
 message_bytes (message.Cert c) = 2 ∷ cert_bytes c
 message_bytes (message.Ask from c) = 3 ∷ be16 from ++ commitment_bytes c

@@ -1,7 +1,7 @@
 //! Messages between members.
 
-ghost use Rattle.std.specs.Prelude.{◌≡◌, ◌++◌, IfOk, OnOk, OnErr, take, length, flat_map};
-ghost use Rattle.cw_types.specs.Encoding.{chunk_bytes, digest_bytes, message_bytes};
+ghost use Rattle.std.specs.Prelude.{◌≡◌, ◌++◌, IfOk, OnOk, OnErr, take, length};
+ghost use Rattle.cw_types.specs.Encoding.{message_bytes};
 
 use crate::block::ChainBlock;
 use crate::commitment::Commitment;
@@ -74,7 +74,7 @@ impl Message {
             Message::Shard(commitment, chunk) => {
                 put_u8(out, 0)?;
                 commitment.write(out)?;
-                put_chunk(out, chunk)?;
+                chunk.write(out)?;
                 Ok(())
             }
             Message::Vote(signer, vote) => {
@@ -108,31 +108,4 @@ impl Message {
             Message::Junk(bytes) => put_bytes(out, bytes.as_slice()),
         }
     }
-}
-
-// A shard behind its length, its index, and its way up.
-#[tactic(auto, unfolding(crate::specs::Encoding::chunk_bytes))]
-fn put_chunk(out: &mut Vec<u8>, chunk: &Chunk<Digest32>) -> Result<(), NoMemory>
-    ensures ok { OnOk result (out.new.items ≡ out.old.items ++ chunk_bytes chunk.now) }
-    ensures err { OnErr result (take (length out.old.items) out.new.items ≡ out.old.items) }
-{
-    let shard = chunk.shard();
-    let proof = chunk.proof();
-    put_varint(out, (shard.len() % (1 << 32)) as u32)?;
-    put_bytes(out, shard)?;
-    put_be16(out, chunk.index())?;
-    put_be32(out, proof.leaf_count)?;
-    put_u8(out, (proof.siblings.len() % 256) as u8)?;
-    put_digests(out, proof.siblings.as_slice())?;
-    Ok(())
-}
-
-fn put_digests(out: &mut Vec<u8>, digests: &[Digest32]) -> Result<(), NoMemory>
-    ensures ok { OnOk result (out.new.items ≡ out.old.items ++ flat_map digest_bytes digests.now) }
-    ensures err { OnErr result (take (length out.old.items) out.new.items ≡ out.old.items) }
-{
-    for digest in digests {
-        put_bytes(out, &digest.0)?;
-    }
-    Ok(())
 }

@@ -1,5 +1,4 @@
 use Rattle.cw_rules.proofs.StepKeeps.{step_keeps}
-use Rattle.cw_rules.proofs.Settles.{step_ends}
 use Rattle.cw_rules.proofs.KeptNotes.{kept_from_keeps}
 use Rattle.cw_rules.proofs.laws.member_laws.Goals as goal
 
@@ -8,6 +7,3 @@ returns-clause-step c = step_keeps
 
 pub returns-clause-kept : goal.returns-clause-kept
 returns-clause-kept c = kept_from_keeps
-
-pub returns-clause-ends : goal.returns-clause-ends
-returns-clause-ends c = step_ends
