@@ -5,7 +5,7 @@ use Rattle.std.proofs.lemmas.Bool.{cases_lt}
 use Rattle.std.proofs.lemmas.Bool.Decides.{nat_tests}
 use Rattle.node_disk.specs.Disk.{DeviceCall, Wrote, Synced, failing, told_more, HasTold, Holds, IsCutShort}
 use Rattle.node_disk.specs.Frames.{body, blocks, IsAtRest, Finds}
-use Rattle.node_disk.specs.Log.{IsSettled, append_calls}
+use Rattle.node_disk.specs.Log.{IsSettled, with_frame, append_calls, calls_of_append}
 use Rattle.node_disk.specs.Record.{Held, Written, Entry, Request, Write, Sync, range_of, put_at, put_within, torn, put_torn, done_writes, effect, opened, step, run, empty_disk, held_after, told_calls, told_entry, told_request, is_done, outcome_at, decided, reopened_still}
 use Rattle.node_disk.specs.MemoryLaws.{length-torn}
 use Rattle.node_disk.specs.Memory.{MemoryState, memory_state, Continues}
@@ -312,3 +312,18 @@ module _ (old new : MemoryState) (frames : List (List ℕ)) (gate : ℕ) (frame 
       let at3 : made + 1 + 1 + 1 ≡ made + 3 = omega arith in
       let lt = done_before made call cut fill (made + 1 + 1 + 1) 3 at3 d3 in
       omega arith
+
+-- an append of any frame that was cut short
+pub cut_any : (old new : MemoryState) (frames : List (List ℕ)) (gate : ℕ) (frame : List ℕ) (call cut fill : ℕ) → IsSettled frames gate (memory_state old).now → length frame < 2 ^ 64 → IsArmed call cut fill old → Continues old new
+    → IsCutShort (calls_of_append gate frame) (memory_state old) (memory_state new) → (call ≤ 4) × Finds (kept_frames call cut fill frames frame) (memory_state new).now.seen
+cut_any old new frames gate [] call cut fill settled short armed go short_of = absurd (omega (arith, ap length short_of.whole, length-append short_of.did (short_of.next ∷ short_of.rest)))
+cut_any old new frames gate (byte ∷ frame) call cut fill settled short armed go short_of = cut_leaves old new frames gate (byte ∷ frame) call cut fill settled short armed go short_of
+
+-- an append of a frame that isn't empty and was not cut short
+pub whole_any : (old new : MemoryState) (frames more : List (List ℕ)) (gate after : ℕ) (frame : List ℕ) (call cut fill : ℕ) → IsSettled frames gate (memory_state old).now → length frame < 2 ^ 64 → IsArmed call cut fill old → Continues old new
+    → HasTold (calls_of_append gate frame) (memory_state old) (memory_state new) → 0 < length frame → more ≡ with_frame frames frame → IsSettled more after (memory_state new).now → (4 < call) × Finds (frames ++ frame ∷ []) (memory_state new).now.seen
+whole_any old new frames more gate after [] call cut fill settled short armed go told some is settled_after = absurd (omega arith)
+whole_any old new frames more gate after (byte ∷ frame) call cut fill settled short armed go told some is settled_after = (
+  whole_leaves old new frames gate (byte ∷ frame) call cut fill settled short armed go told,
+  subst (λ (fs : List (List ℕ)). Finds fs (memory_state new).now.seen) is (finds_at_rest more after (memory_state new).now.seen settled_after.file),
+)

@@ -1,8 +1,8 @@
 -- The log over a disk.
-use Rattle.std.specs.Prelude.{◌⊎◌, ℕ, List, ◌+◌, [], ◌∷◌, ◌++◌, map, Vec, true}
+use Rattle.std.specs.Prelude.{◌≡◌, ◌⊎◌, ℕ, ◌+◌, ◌^◌, ◌<◌, List, [], ◌∷◌, ◌++◌, length, map, Vec, Bool, true}
 use Rattle.std.specs.declared.alloc.Global.{Global}
 use Rattle.node_disk.specs.Images.{Moment, IsImage, IsDurable}
-use Rattle.node_disk.specs.Disk.{DeviceCall, Wrote, Synced}
+use Rattle.node_disk.specs.Disk.{DiskState, DeviceCall, Wrote, Synced, HasTold, IsCutShort}
 use Rattle.node_disk.specs.Frames.{IsAtRest, ReadsSame, body}
 
 -- the bytes of each
@@ -45,3 +45,29 @@ first_gate (byte ∷ second ∷ bytes) = []
 -- the device calls of a start on these bytes
 abbrev pub start_calls : List ℕ → List DeviceCall
 start_calls bytes = Synced true ∷ first_gate bytes
+
+-- what a log shows: its frames, the place of its last gate, whether an earlier call left the disk in doubt, and its disk
+pub record LogState (D : Type 0) : Type 0 where
+  pub frames : List (List ℕ)
+  pub gate : ℕ
+  pub failed : Bool
+  pub disk : D
+
+-- An append of this frame that succeeded: the frame stands behind the others, the file is at rest before and after, and
+-- the disk went on by the device calls of the append.
+pub record HasAppended {D : Type 0} (state : D → DiskState) (continues : D → D → Type 0) (frame : List ℕ) (old new : LogState D) : Type 0 where
+  pub frames : new.frames ≡ with_frame old.frames frame
+  pub before : IsSettled old.frames old.gate (state old.disk).now
+  pub after : IsSettled new.frames new.gate (state new.disk).now
+  pub calls : HasTold (calls_of_append old.gate frame) (state old.disk) (state new.disk)
+  pub short : length frame < 2 ^ 64
+  pub disk : continues old.disk new.disk
+
+-- An append of this frame that the disk cut short: the file was at rest before, and the disk went on by the device calls
+-- of the append up to one that failed.
+pub record WasCutShort {D : Type 0} (state : D → DiskState) (continues : D → D → Type 0) (frame : List ℕ) (old new : LogState D) : Type 0 where
+  pub frames : new.frames ≡ old.frames
+  pub before : IsSettled old.frames old.gate (state old.disk).now
+  pub calls : IsCutShort (calls_of_append old.gate frame) (state old.disk) (state new.disk)
+  pub short : length frame < 2 ^ 64
+  pub disk : continues old.disk new.disk

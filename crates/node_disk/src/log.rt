@@ -5,7 +5,7 @@ ghost use Rattle.node_disk.specs.Images.{IsImage, IsDurable};
 ghost use Rattle.cw_base.specs.Causes.{Rose};
 ghost use Rattle.node_disk.specs.Disk.{Holds, Torn, LeavesOnly, Synced, HasTold, IsCutShort, IsFront};
 ghost use Rattle.node_disk.specs.Frames.{body, read_log, IsAtRest, Finds, FindsWithOrWithout};
-ghost use Rattle.node_disk.specs.Log.{IsSettled, all_items, write_then_sync, with_frame, calls_of_append, start_calls, IsBeforeOrSame};
+ghost use Rattle.node_disk.specs.Log.{IsSettled, all_items, write_then_sync, with_frame, calls_of_append, start_calls, IsBeforeOrSame, HasAppended, WasCutShort};
 
 use crate::reading::read_frames;
 use crate::{Disk, DiskError, MemoryDisk};
@@ -96,7 +96,7 @@ pub struct Log<D: Disk> {
 }
 
 impl<D: Disk> Log<D> {
-    ghost use Rattle.node_disk.specs.LogWords.{log_frames, log_gate, log_disk, has_failed, LogIsSettled, IsUnchanged};
+    ghost use Rattle.node_disk.specs.LogWords.{log_frames, log_gate, log_disk, has_failed, log_state, LogIsSettled, IsUnchanged};
 
     /// Opens the log of a disk: syncs, reads, and where the file is shorter than two bytes writes a
     /// closed gate and syncs. An `Err` hands the disk back.
@@ -197,10 +197,9 @@ impl<D: Disk> Log<D> {
             → LeavesOnly (D.state (log_disk self.old)) (D.state (log_disk self.new)) (FindsWithOrWithout (log_frames self.old) frame.now) }
 
         // The device calls: all of them, or up to the first that fails.
-        ensures calls { OnOk result
-            (HasTold (calls_of_append (log_gate self.old) frame.now) (D.state (log_disk self.old)) (D.state (log_disk self.new))) }
-        ensures calls_failed { IsErrOf result StoreError.Disk
-            → IsCutShort (calls_of_append (log_gate self.old) frame.now) (D.state (log_disk self.old)) (D.state (log_disk self.new)) }
+        ensures appended { OnOk result (HasAppended D.state D.continues frame.now (log_state self.old) (log_state self.new)) }
+        ensures cut_short { IsErrOf result StoreError.Disk
+            → WasCutShort D.state D.continues frame.now (log_state self.old) (log_state self.new) }
         ensures calls_no_memory { IsErrOf result StoreError.NoMemory
             → IsFront (calls_of_append (log_gate self.old) frame.now) (D.state (log_disk self.old)) (D.state (log_disk self.new)) }
 
