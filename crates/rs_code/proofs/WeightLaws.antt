@@ -1,5 +1,5 @@
 -- Weights and tables give the same sums.
-use Rattle.std.proofs.Common.{◌≡◌, ℕ, ◌+◌, ◌*◌, ◌<◌, ◌^◌, cond, eqb, ◌==◌, bit_xor, List, get_or, refl, sym, ap, ap₂, ◌∙◌, arith, eq-eqb, ne_eqb, ⊎_elim, if◌then◌else◌, subst}
+use Rattle.std.proofs.Common.{◌≡◌, ℕ, ◌+◌, ◌-◌, ◌*◌, ◌/◌, ◌%◌, ◌<◌, ◌^◌, ◌⊎◌, inl, inr, cond, eqb, ◌==◌, bit_xor, List, get_or, refl, sym, ap, ap₂, ◌∙◌, arith, eq-eqb, ne_eqb, ⊎_elim, if◌then◌else◌, subst}
 use Rattle.std.proofs.lemmas.Bool.{cases_eq}
 use Rattle.std.proofs.lemmas.Nat.{xor_block, xor_comm}
 use Rattle.rs_code.specs.Field.{times, inverse}
@@ -56,6 +56,38 @@ table_product c table t fits high low hh hl =
     ∙ sym (is_field.product_sum c (high * 256) low fits (omega arith) (omega arith))
     ∙ ap (times c) (two_bytes high low hl)
     ∙ is_field.product_comm c (high * 256 + low) fits (omega arith)
+
+-- a byte as the sum of its halves, in the lower half of an element or in the upper
+pub byte_halves : (b low high unit : ℕ) → (unit ≡ 1) ⊎ (unit ≡ 256) → low ≡ b % 16 → high ≡ b - low →
+    bit_xor (high * unit) (low * unit) ≡ b * unit
+byte_halves b low high unit (inl u) hl hh =
+    let left : high * unit ≡ b / 16 * 2 ^ 4 + 0 = ap (λ (n : ℕ). high * n) u ∙ omega arith in
+    let right : low * unit ≡ 0 * 2 ^ 4 + low = ap (λ (n : ℕ). low * n) u ∙ omega arith in
+    ap₂ bit_xor left right ∙ xor_block 4 (b / 16) 0 0 low (omega arith) (omega arith)
+    ∙ ap (λ (n : ℕ). n * 2 ^ 4 + low) (xor_zero_r (b / 16))
+    ∙ (let whole : b / 16 * 2 ^ 4 + low ≡ b * 1 = omega arith in whole) ∙ ap (λ (n : ℕ). b * n) (sym u)
+byte_halves b low high unit (inr u) hl hh =
+    let left : high * unit ≡ b / 16 * 2 ^ 12 + 0 = ap (λ (n : ℕ). high * n) u ∙ omega arith in
+    let right : low * unit ≡ 0 * 2 ^ 12 + low * 256 = ap (λ (n : ℕ). low * n) u ∙ omega arith in
+    ap₂ bit_xor left right ∙ xor_block 12 (b / 16) 0 0 (low * 256) (omega arith) (omega arith)
+    ∙ ap (λ (n : ℕ). n * 2 ^ 12 + low * 256) (xor_zero_r (b / 16))
+    ∙ (let whole : b / 16 * 2 ^ 12 + low * 256 ≡ b * 256 = omega arith in whole) ∙ ap (λ (n : ℕ). b * n) (sym u)
+
+-- a product by the products with the halves of a byte
+pub product_by_halves : (c b low high unit : ℕ) (smaller : List ℕ) → c < 2 ^ 16 → b < 256 → (unit ≡ 1) ⊎ (unit ≡ 256) →
+    low ≡ b % 16 → high ≡ b - low → low < b → high < b →
+    ((d : ℕ) → d < b → get_or smaller d 0 ≡ times c (d * unit)) →
+    bit_xor (get_or smaller high 0) (get_or smaller low 0) ≡ times c (b * unit)
+product_by_halves c b low high unit smaller fits byte u hl hh below above each =
+    ap₂ bit_xor (each high above) (each low below)
+    ∙ sym (is_field.product_sum c (high * unit) (low * unit) fits (small high (omega arith)) (small low (omega arith)))
+    ∙ ap (times c) (byte_halves b low high unit u hl hh)
+  where
+    small : (d : ℕ) → d < 256 → d * unit < 2 ^ 16
+    small d h = ⊎_elim (λ one. ap-lt one (omega arith)) (λ more. ap-lt more (omega arith)) u
+      where
+        ap-lt : {n : ℕ} → unit ≡ n → d * n < 2 ^ 16 → d * unit < 2 ^ 16
+        ap-lt {n} e l = subst (λ (m : ℕ). d * m < 2 ^ 16) (sym e) l
 
 -- ---- factors 0 and 1
 

@@ -28,7 +28,7 @@ pub record AreCoefficients (points : List ℕ) (x : ℕ) (coefficients : List �
       slice_index coefficients s ≡ basis (length points) (λ u. slice_index points u) x s
 
 -- the same for each of some targets, one target's behind another's
-pub record AreTargets (points targets coefficients : List ℕ) : Type 0 where
+pub record AreAllCoefficients (points targets coefficients : List ℕ) : Type 0 where
   pub count : length coefficients ≡ length targets * length points
   pub each : (i s : ℕ) → i < length targets → s < length points →
       slice_index coefficients (i * length points + s)

@@ -2,7 +2,7 @@
 
 ghost use Rattle.std.specs.Prelude.{◌≡◌, ◌==◌, if◌then◌else◌, ℕ, ◌<◌, length, slice_index, IfOk};
 ghost use Rattle.rs_code.specs.Codeword.{ArePoints};
-ghost use Rattle.rs_code.specs.Coefficients.{weight, distance, AreWeights, AreCoefficients, AreTargets};
+ghost use Rattle.rs_code.specs.Coefficients.{weight, distance, AreWeights, AreCoefficients, AreAllCoefficients};
 
 use crate::gf16;
 use std::alloc::{AllocError, Global};
@@ -50,7 +50,7 @@ impl Basis {
 
     /// For each target in turn, what the rows at the points count for in it.
     pub fn coefficients(&self, alloc: Global, targets: &[u16]) -> Result<Vec<u16>, AllocError>
-        ensures { IfOk result (λ v. AreTargets self.now targets.now v.items) }
+        ensures { IfOk result (λ v. AreAllCoefficients self.now targets.now v.items) }
     {
         let mut all = Vec::new(alloc);
         for target in targets {
