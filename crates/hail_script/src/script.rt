@@ -21,7 +21,7 @@ pub struct Script {
 }
 
 impl Model for Script {
-    ghost use Rattle.std.specs.Prelude.{◌≡◌, ◌≤◌, None};
+    ghost use Rattle.std.specs.Prelude.{◌≡◌, ◌≤◌, ◌<◌, ◌^◌, None};
     ghost use Rattle.hail_script.specs.Scenario.{Scenario};
     ghost use Rattle.hail_script.specs.Grammar.{first_unknown};
 
@@ -29,7 +29,7 @@ impl Model for Script {
 
     ghost view = { λ s. record { members = s.members; backlog = s.backlog; events = s.events } };
 
-    ghost invariant = { λ s. (4 ≤ s.members) × (1 ≤ s.backlog) × (first_unknown s.members 2 s.events ≡ None) };
+    ghost invariant = { λ s. (4 ≤ s.members) × (s.members < 2 ^ 16) × (1 ≤ s.backlog) × (first_unknown s.members 2 s.events ≡ None) };
 }
 
 impl Script {
@@ -99,6 +99,7 @@ impl Script {
     pub fn lines(&self) -> &[EventLine]
         ensures value { result.now ≡ self.now.events }
         ensures known { unknown_in self.now.members 2 self.now.events ≡ None }
+        ensures few { self.now.members < 2 ^ 16 }
     {
         self.events.as_slice()
     }

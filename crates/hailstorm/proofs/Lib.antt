@@ -1,0 +1,5 @@
+pub mod Members
+pub mod Pieces
+pub mod Turning
+pub mod Running
+pub mod Meaning
