@@ -1,13 +1,13 @@
 -- What a clash names: two different blocks of one digest that are known.
-use Rattle.std.proofs.Common.{◌≡◌, ◌≢◌, ℕ, zero, suc, ◌+◌, Bool, true, false, ◌&&◌, not, cond, List, [], ◌∷◌, ◌++◌, Option, Some, None, slice_get, slice_set, filter_map, flat_map, find, take, drop, length, option_map, refl, sym, ◌∙◌, ap, subst, inl, inr, ◌⊎◌, arith, append_assoc, append-nil}
-use Rattle.std.specs.Option.{option_map_or, option_or}
+use Rattle.std.proofs.Common.{◌≡◌, ℕ, zero, suc, ◌+◌, Bool, true, false, not, List, [], ◌∷◌, ◌++◌, Option, Some, None, slice_get, slice_set, filter_map, find, take, drop, length, option_map, refl, sym, ◌∙◌, ap, subst, inl, inr, ◌⊎◌, arith, append_assoc}
+use Rattle.std.specs.Option.{option_map_or}
 use Rattle.std.proofs.lemmas.Bool.{and_parts, cases_Bool, cond-true, cond-false, false≢true}
 use Rattle.std.proofs.lemmas.List.Elements.{filter_map-append}
 use Rattle.std.proofs.lemmas.Option.{same_Some}
 use Rattle.cw_types.specs.declared.note.Note.{Note}
 use Rattle.cw_types.specs.Block.{Block}
 use Rattle.cw_types.specs.Same.{same_block, same_digest}
-use Rattle.cw_rules.specs.Chains.{Clashes, all_notes, blocks_of, clash_at, collides, first_clash, noted_block, outcome}
+use Rattle.cw_rules.specs.Chains.{Clashes, blocks_of, clash_at, collides, first_clash, noted_block, outcome}
 use Rattle.cw_rules.specs.Reached.{In, IsClash, IsKnown, Reaches}
 use Rattle.cw_rules.specs.Rules.{Rules, digest, genesis}
 use Rattle.cw_rules.specs.Step.{Member, Stepped, member_notes}
@@ -18,7 +18,7 @@ use Rattle.cw_rules.proofs.Lists.{and_then_some, in_cases, in_left, in_right, or
 use Rattle.cw_rules.proofs.Worlds.{get-set_same, member_there}
 use Rattle.cw_rules.proofs.Blocks.{notes_in}
 use Rattle.cw_rules.proofs.Clashes.{block_from, blocks_at, blocks_from, drop_front, flat_drop, flat_take}
-use Rattle.cw_rules.proofs.Runs.{Turned, turn}
+use Rattle.cw_rules.proofs.Runs.{turn}
 
 find_found : (p : Block → Bool) (xs : List Block) (a : Block) → find p xs ≡ Some a → (p a ≡ true) × In a xs
 find_found p [] a h = cc

@@ -1,23 +1,21 @@
 -- What chunks show, by what the rules ask of the codewords below them.
-use Rattle.std.proofs.Common.{◌≡◌, ◌≢◌, ℕ, zero, suc, ◌+◌, ◌%◌, ◌<◌, ◌≤◌, Bool, true, false, ◌&&◌, ◌==◌, not, cond, nat_lt, IsTrue, List, [], ◌∷◌, ◌++◌, length, map, take, Option, Some, None, slice_get, filter_map, option_and_then, refl, sym, ◌∙◌, ap, subst, inl, inr, ◌⊎◌, arith, append-nil, eq-eqb, eqb-true, ◌↔◌}
+use Rattle.std.proofs.Common.{◌≡◌, ◌≢◌, ℕ, zero, suc, ◌+◌, ◌%◌, ◌<◌, ◌≤◌, Bool, true, false, ◌&&◌, ◌==◌, not, cond, nat_lt, IsTrue, List, [], ◌∷◌, ◌++◌, length, map, take, Option, Some, None, slice_get, filter_map, option_and_then, refl, sym, ◌∙◌, ap, subst, inl, inr, ◌⊎◌, arith, append-nil, eq-eqb, ◌↔◌}
 use Rattle.std.specs.List.{AllByRecursion, cons_option, enumerate_from, list_any}
 use Rattle.std.specs.Option.{option_or}
 use Rattle.std.proofs.lemmas.Bool.{and_parts, and_from, or_parts, cases_Bool, cond-true, cond-false, lt-ltb, false≢true}
 use Rattle.std.proofs.lemmas.List.Elements.{filter_map-append}
 use Rattle.std.proofs.lemmas.Option.{same_Some}
-use Rattle.cw_base.specs.Shards.{Shards}
 use Rattle.cw_types.specs.declared.commitment.Commitment.{Commitment}
 use Rattle.cw_types.specs.declared.event.Event.{Event}
 use Rattle.cw_types.specs.declared.message.Message.{Message}
-use Rattle.cw_types.specs.declared.vote.Cert.{Cert}
 use Rattle.cw_types.specs.declared.vote.Proposal.{Proposal}
 use Rattle.cw_types.specs.declared.vote.Vote.{Vote}
 use Rattle.cw_types.specs.Block.{Block}
 use Rattle.cw_types.specs.Epochs.{is_member}
 use Rattle.cw_types.specs.Same.{same_commitment}
 use Rattle.cw_types.specs.Votes.{finalized, vote_epoch, well_formed}
-use Rattle.cw_rules.specs.Accepted.{Ballot, Came, Part, Row, Whole, accepted, add_wish, first_some, is_chunk_of, is_valid, same_ballot, same_part, take_ballot, take_part, wish_for, wished}
-use Rattle.cw_rules.specs.Coding.{AreApart, AreRowsOf, IsCoder, IsCodeword, IsText, first_chunks}
+use Rattle.cw_rules.specs.Accepted.{Ballot, Came, Part, Row, Whole, accepted, add_wish, first_some, is_chunk_of, is_valid, same_ballot, same_part, take_ballot, take_part, wish_for}
+use Rattle.cw_rules.specs.Coding.{AreApart, AreByteChunks, AreRowsOf, IsCoder, IsCodeword, IsText, first_chunks}
 use Rattle.cw_rules.specs.Held.{if_committed, row_of, shown, whole_of}
 use Rattle.cw_rules.specs.Rules.{Chunk, Rules, block_of, chunk_at, chunks, commit, config, is_under, rows_of, total_of}
 use Rattle.cw_rules.specs.Step.{taken_came}
@@ -148,15 +146,15 @@ module _ (r : Rules) (coder : IsCoder r) where
       })
 
   -- and of the codeword of such a block they show it
-  codeword_shown : (came : Came) (c : Commitment) (b : Block) → 0 < c.config.minimum → total_of c.config ≤ 65535 → Apart came → first_some (whole_of r c) came.parts ≡ None → IsCodeword r c (first_chunks came c) b → shown r came c ≡ Some b
-  codeword_shown came c b pos few apart none k =
-      let text = coder.complete c.config (first_chunks came c) (r.block_bytes b) pos few (apart_taken c.config.minimum (rows c came.parts) (apart c)) k.enough k.text k.rows in
+  codeword_shown : (came : Came) (c : Commitment) (b : Block) → 0 < c.config.minimum → total_of c.config ≤ 65535 → Apart came → AreByteChunks (first_chunks came c) → first_some (whole_of r c) came.parts ≡ None → IsCodeword r c (first_chunks came c) b → shown r came c ≡ Some b
+  codeword_shown came c b pos few apart bytes none k =
+      let text = coder.complete c.config (first_chunks came c) (r.block_bytes b) pos few (apart_taken c.config.minimum (rows c came.parts) (apart c)) bytes k.enough k.text k.rows in
       let block : block_of r c.config (first_chunks came c) ≡ Some b = ap (option_and_then r.read_block) text ∙ k.back in
       let same : same_commitment (commit r b) c ≡ true = subst (λ d. same_commitment (commit r b) d ≡ true) k.committed (same_commitment_self (commit r b)) in
       ap (λ o. option_or o (option_and_then (if_committed r c) (block_of r c.config (first_chunks came c)))) none ∙ (ap (option_and_then (if_committed r c)) block ∙ cond-true (same_commitment (commit r b) c) (Some b) None same)
 
-  pub shown_exactly : (came : Came) (c : Commitment) (b : Block) → 0 < c.config.minimum → total_of c.config ≤ 65535 → Apart came → first_some (whole_of r c) came.parts ≡ None → (shown r came c ≡ Some b) ↔ IsCodeword r c (first_chunks came c) b
-  shown_exactly came c b pos few apart none = (shown_codeword came c b none, codeword_shown came c b pos few apart none)
+  pub shown_exactly : (came : Came) (c : Commitment) (b : Block) → 0 < c.config.minimum → total_of c.config ≤ 65535 → Apart came → AreByteChunks (first_chunks came c) → first_some (whole_of r c) came.parts ≡ None → (shown r came c ≡ Some b) ↔ IsCodeword r c (first_chunks came c) b
+  shown_exactly came c b pos few apart bytes none = (shown_codeword came c b none, codeword_shown came c b pos few apart bytes none)
 
   -- ---- what a block is cut in stands under its commitment
 

@@ -8,15 +8,14 @@ use Rattle.std.proofs.lemmas.Option.{same_Some}
 use Rattle.cw_types.specs.declared.commitment.Commitment.{Commitment}
 use Rattle.cw_types.specs.declared.event.Handed.{Handed}
 use Rattle.cw_types.specs.Block.{Block}
-use Rattle.cw_types.specs.Epochs.{members_in, size}
-use Rattle.cw_types.specs.Numbers.{max_faults}
+use Rattle.cw_types.specs.Epochs.{members_in}
 use Rattle.cw_rules.specs.Accepted.{State}
 use Rattle.cw_rules.specs.Chains.{Ends, Follow, IsChain, block_under, chain_to, links_to, outcome}
 use Rattle.cw_rules.specs.Held.{held}
 use Rattle.cw_rules.specs.Reached.{In, IsCluster, IsLinkOf, IsReported}
 use Rattle.cw_rules.specs.Report.{chain_of, handed_in, highest, report_of}
 use Rattle.cw_rules.specs.Rules.{Rules, commit, genesis, genesis_commitment}
-use Rattle.cw_rules.specs.Step.{deliveries, deliveries_within, delivery, handing, most_delivered, nothing_came, start, with_given}
+use Rattle.cw_rules.specs.Step.{deliveries_within, delivery, handing, most_delivered, nothing_came, start, with_given}
 use Rattle.cw_rules.specs.World.{Line, World, faults, opening}
 use Rattle.cw_rules.proofs.Lists.{in_left, in_right}
 use Rattle.cw_rules.proofs.Deliveries.{holds_genesis}

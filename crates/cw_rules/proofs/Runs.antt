@@ -17,7 +17,7 @@ use Rattle.cw_rules.specs.Chains.{Clashes, Ends, clash_at, outcome}
 use Rattle.cw_rules.specs.Held.{at_height, held, next, pending}
 use Rattle.cw_rules.specs.Keeps.{IsCertifiedIn}
 use Rattle.cw_rules.specs.Reached.{AllAnchored, GoesDown, In, IsAnchored, IsCluster, IsKnown, IsOneChain, ReachesClear, members_of}
-use Rattle.cw_rules.specs.Report.{Entry, all_entries, entries_from, handed_in, opening_entries, opening_entry}
+use Rattle.cw_rules.specs.Report.{Entry, entries_from, handed_in, opening_entries, opening_entry}
 use Rattle.cw_rules.specs.Rules.{Rules, digest, genesis}
 use Rattle.cw_rules.specs.Stands.{Stands}
 use Rattle.cw_rules.specs.Step.{Member, Stepped, cut_step, deliveries, deliveries_within, handing, member_notes, most_delivered, start, state_of, step, step_notes, stopped, taken, with_given, with_notes}

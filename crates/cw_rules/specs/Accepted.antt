@@ -48,6 +48,7 @@ abbrev pub is_valid : Rules → (ℕ → Vote → Bool) → Cert → Bool
 is_valid r signed s =
     well_formed s.vote && rises_from 0 s.signers && list_all (λ i. is_member r.epochs (vote_epoch s.vote) i && signed i s.vote) s.signers && nat_le (quorum (size r.epochs (vote_epoch s.vote))) (length s.signers)
 
+-- the same vote of the same signer, or the same certificate
 abbrev pub same_ballot : Ballot → Ballot → Bool
 same_ballot (Single i v) (Single j w) = (i == j) && same_vote v w
 same_ballot (Many s) (Many t) = same_cert s t
@@ -63,6 +64,7 @@ same_part _ _ = false
 abbrev pub take_ballot : Came → Bool → Ballot → Came
 take_ballot came fits x = if fits && not (list_any (same_ballot x) came.ballots) then record { ballots = came.ballots ++ x ∷ []; parts = came.parts; wishes = came.wishes } else came
 
+-- the part goes to the end where it fits and isn't there
 abbrev pub take_part : Came → Bool → Part → Came
 take_part came fits x = if fits && not (list_any (same_part x) came.parts) then record { ballots = came.ballots; parts = came.parts ++ x ∷ []; wishes = came.wishes } else came
 
@@ -78,6 +80,7 @@ accepted r signed came (Message.Shard c x) = take_part came (is_chunk_of r c x) 
 accepted r signed came (Message.Block b) = take_part came true (Whole b)
 accepted r signed came _ = came
 
+-- one more wish
 abbrev pub add_wish : Came → Commitment → Came
 add_wish came c = record { ballots = came.ballots; parts = came.parts; wishes = came.wishes ++ c ∷ [] }
 

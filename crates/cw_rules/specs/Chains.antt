@@ -14,6 +14,7 @@ use Rattle.cw_rules.specs.World.{Line, World, happens, line_member}
 
 -- ---- two blocks of one digest
 
+-- the block that a note is of
 abbrev pub noted_block : Note → Option Block
 noted_block (Note.Block c b) = Some b
 noted_block _ = None

@@ -7,11 +7,18 @@ use Rattle.cw_types.specs.declared.commitment.Commitment.{Commitment}
 use Rattle.cw_rules.specs.Accepted.{Came}
 use Rattle.cw_rules.specs.Held.{row_of}
 use Rattle.cw_rules.specs.Rules.{Chunk, Rules, chunk_at, chunks, commit, rows_under, total_of}
-use Rattle.cw_rules.specs.Sends.{leads}
+
+-- each number is a byte
+abbrev pub AreBytes : List ℕ → Type 0
+AreBytes xs = AllByRecursion (λ x. x < 256) xs
 
 -- fewer than 2^32 bytes
 abbrev pub IsText : List ℕ → Type 0
-IsText text = AllByRecursion (λ x. x < 256) text × (length text < 2 ^ 32)
+IsText text = AreBytes text × (length text < 2 ^ 32)
+
+-- the shards of the chunks are bytes
+abbrev pub AreByteChunks : List Chunk → Type 0
+AreByteChunks chunks = AllByRecursion (λ c. AreBytes c.shard) chunks
 
 -- the chunks are rows of the text's codeword under that config, at their places
 abbrev pub AreRowsOf : Rules → Shards → List Chunk → List ℕ → Type 0
@@ -22,11 +29,12 @@ abbrev pub AreApart : List Chunk → Type 0
 AreApart [] = Unit {0}
 AreApart (c ∷ cs) = AllByRecursion (λ d. c.index ≢ d.index) cs × AreApart cs
 
+-- what the codewords, the tree and the readers below must do
 pub record IsCoder (r : Rules) : Type 0 where
   -- what chunks are decoded to is a text of whose codeword they are k rows
   pub sound : (x : Shards) (chunks : List Chunk) (text : List ℕ) → r.text_of x chunks ≡ Some text → (length chunks ≡ x.minimum) × IsText text × AreRowsOf r x chunks text
   -- k rows of a text's codeword at different places are decoded to it
-  pub complete : (x : Shards) (chunks : List Chunk) (text : List ℕ) → 0 < x.minimum → total_of x ≤ 65535 → AreApart chunks → length chunks ≡ x.minimum → IsText text → AreRowsOf r x chunks text → r.text_of x chunks ≡ Some text
+  pub complete : (x : Shards) (chunks : List Chunk) (text : List ℕ) → 0 < x.minimum → total_of x ≤ 65535 → AreApart chunks → AreByteChunks chunks → length chunks ≡ x.minimum → IsText text → AreRowsOf r x chunks text → r.text_of x chunks ≡ Some text
   -- what is read as a block is the bytes of that block
   pub reads : (text : List ℕ) (b : Block) → r.read_block text ≡ Some b → r.block_bytes b ≡ text
   -- a codeword has k + m rows

@@ -45,6 +45,7 @@ propose_over r notes epoch view payload best =
     then Note.Vote (Notarize (record { epoch = epoch; view = view; parent = best.0; payload = best.1 })) ∷ []
     else propose_new r notes epoch view payload best
 
+-- what the leader of the member's view proposes, where it has no vote in it
 abbrev pub proposed : Rules → ℕ → List Note → List ℕ → List Note
 proposed r id notes payload =
     let epoch = epoch_of notes in

@@ -1,5 +1,5 @@
 -- The first path: which notes an event and what came make a member write.
-use Rattle.std.specs.Prelude.{◌≡◌, ℕ, ◌==◌, ◌&&◌, not, Bool, false, List, [], ◌∷◌, ◌++◌, Option, Some, None, if◌then◌else◌}
+use Rattle.std.specs.Prelude.{◌≡◌, ℕ, ◌==◌, ◌&&◌, not, Bool, List, [], ◌∷◌, ◌++◌, Option, Some, None, if◌then◌else◌}
 use Rattle.std.specs.List.{list_any}
 use Rattle.std.specs.Option.{option_or}
 use Rattle.cw_base.specs.Config.{same_shards}
@@ -16,7 +16,7 @@ use Rattle.cw_types.specs.Block.{Block}
 use Rattle.cw_types.specs.Commit.{commit, genesis, genesis_commitment, uncut}
 use Rattle.cw_types.specs.Encoding.{context_bytes}
 use Rattle.cw_types.specs.Numbers.{leader}
-use Rattle.cw_types.specs.Same.{same_commitment, same_digest, same_vote}
+use Rattle.cw_types.specs.Same.{same_commitment, same_digest}
 use Rattle.cw_rules.specs.declared.first_path.Arrived.{Arrived}
 use Rattle.cw_rules.specs.declared.first_path.Ballot.{Ballot}
 use Rattle.cw_rules.specs.declared.first_path.Came.{Came}

@@ -21,6 +21,7 @@ abbrev pub whole_of : Rules → Commitment → Part → Option Block
 whole_of r c (Whole b) = if_committed r c b
 whole_of r c (Row d x) = None
 
+-- the chunk, where it is of that commitment
 abbrev pub row_of : Commitment → Part → Option Chunk
 row_of c (Row d x) = if same_commitment c d then Some x else None
 row_of c (Whole b) = None
@@ -29,25 +30,31 @@ row_of c (Whole b) = None
 abbrev pub shown : Rules → Came → Commitment → Option Block
 shown r came c = option_or (first_some (whole_of r c) came.parts) (option_and_then (if_committed r c) (block_of r c.config (take c.config.minimum (filter_map (row_of c) came.parts))))
 
+-- the block of a note, where it is under that commitment
 abbrev pub noted_block_of : Commitment → Note → Option Block
 noted_block_of c (Note.Block d b) = if same_commitment c d then Some b else None
 noted_block_of c _ = None
 
+-- the height of a Prune note
 abbrev pub pruned_height : Note → Option ℕ
 pruned_height (Note.Prune h) = Some h
 pruned_height _ = None
 
+-- the height of a Floor note
 abbrev pub floor_height : Note → Option ℕ
 floor_height (Note.Floor h) = Some h
 floor_height _ = None
 
+-- the height of an Ack note
 abbrev pub acked_height : Note → Option ℕ
 acked_height (Note.Ack h) = Some h
 acked_height _ = None
 
+-- the height below which blocks are let go
 abbrev pub greatest_prune : List Note → ℕ
 greatest_prune notes = greatest (filter_map pruned_height notes)
 
+-- the height below which heights are given up
 abbrev pub greatest_floor : List Note → ℕ
 greatest_floor notes = greatest (filter_map floor_height notes)
 
@@ -79,6 +86,7 @@ at_height r notes height =
 
 -- ---- heights
 
+-- the height that was acknowledged last
 abbrev pub last_ack : List Note → Option ℕ
 last_ack notes = last_or None (filter_map acked_height notes)
 

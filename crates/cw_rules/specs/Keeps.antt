@@ -1,7 +1,7 @@
 -- What a member keeps from note to note.
 use Rattle.std.specs.Prelude.{[], ℕ, ⊤, ◌*◌, ◌++◌, ◌<◌, ◌≡◌, ◌≤◌, Bool, IsFalse, IsTrue, List, None, Some, count_by, length, nat_le, slice_get}
 use Rattle.std.specs.List.{AllByRecursion}
-use Rattle.cw_types.specs.Epochs.{Epochs, is_member, members_in, place, rises_from, size}
+use Rattle.cw_types.specs.Epochs.{Epochs, is_member, members_in, rises_from, size}
 use Rattle.cw_types.specs.Numbers.{quorum}
 use Rattle.cw_types.specs.Votes.{vote_epoch, well_formed}
 use Rattle.cw_types.specs.declared.commitment.Commitment.{Commitment}
@@ -15,7 +15,7 @@ use Rattle.cw_rules.specs.Held.{at_height}
 use Rattle.cw_rules.specs.Notes.{epoch_of, has_block, has_cert, has_certified, has_vote}
 use Rattle.cw_rules.specs.Owed.{all_nullified, has_closed, has_voted}
 use Rattle.cw_rules.specs.Rules.{Rules, commit}
-use Rattle.cw_rules.specs.Stands.{EachAfter, IsSettled, Members, backs, backs_at}
+use Rattle.cw_rules.specs.Stands.{EachAfter, IsSettled, Members, backs_at}
 
 -- who backs which vote, and which votes stand, by whatever a reader means by it
 pub record Meaning : Type 0 where

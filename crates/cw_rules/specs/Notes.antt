@@ -30,15 +30,19 @@ abbrev pub is_block : Commitment → Note → Bool
 is_block c (Note.Block d b) = same_commitment c d
 is_block c _ = false
 
+-- the vote is among the notes
 abbrev pub has_vote : List Note → Vote → Bool
 has_vote notes v = list_any (is_vote v) notes
 
+-- a certificate of the vote is among the notes
 abbrev pub has_cert : List Note → Vote → Bool
 has_cert notes v = list_any (is_cert v) notes
 
+-- the proposal is noted to be certified
 abbrev pub has_certified : List Note → Proposal → Bool
 has_certified notes p = list_any (is_certified p) notes
 
+-- a block under the commitment is noted
 abbrev pub has_block : List Note → Commitment → Bool
 has_block notes c = list_any (is_block c) notes
 

@@ -20,21 +20,25 @@ use Rattle.cw_rules.specs.Rules.{Rules, commit, config, genesis_commitment}
 
 -- ---- what names what
 
+-- the vote that what came names
 abbrev pub ballot_vote : Ballot → Vote
 ballot_vote (Single i v) = v
 ballot_vote (Many s) = s.vote
 
+-- the vote that a note names
 abbrev pub note_vote : Note → Option Vote
 note_vote (Note.Vote v) = Some v
 note_vote (Note.Cert s) = Some s.vote
 note_vote _ = None
 
+-- the proposal that a note names
 abbrev pub note_proposal : Note → Option Proposal
 note_proposal (Note.Vote v) = proposal_of v
 note_proposal (Note.Cert s) = proposal_of s.vote
 note_proposal (Note.Certified p) = Some p
 note_proposal _ = None
 
+-- the commitment that a chunk or a block names
 abbrev pub part_commitment : Rules → Part → Commitment
 part_commitment r (Row c x) = c
 part_commitment r (Whole b) = commit r b
@@ -43,14 +47,17 @@ part_commitment r (Whole b) = commit r b
 abbrev pub named_votes : State → List Vote
 named_votes s = map ballot_vote s.came.ballots ++ filter_map note_vote s.notes
 
+-- in the same order, the proposals
 abbrev pub named_proposals : State → List Proposal
 named_proposals s = filter_map (λ x. proposal_of (ballot_vote x)) s.came.ballots ++ filter_map note_proposal s.notes
 
+-- and the commitments
 abbrev pub named_commitments : Rules → State → List Commitment
 named_commitments r s = map (part_commitment r) s.came.parts
 
 -- ---- the cases
 
+-- x, where the test holds
 abbrev pub when : {X : Type 0} → Bool → X → Option X
 when b x = if b then Some x else None
 
@@ -63,6 +70,7 @@ abbrev pub signers_in : Vote → Ballot → Option (List ℕ)
 signers_in v (Many s) = when (same_vote v s.vote) s.signers
 signers_in v (Single i w) = None
 
+-- what came is this vote of that signer
 abbrev pub is_single : ℕ → Vote → Ballot → Bool
 is_single i v (Single j w) = (i == j) && same_vote v w
 is_single i v (Many s) = false
@@ -130,9 +138,11 @@ abbrev pub closes : ℕ → ℕ → Note → Bool
 closes epoch view (Note.Vote v) = is_closing v && is_of epoch view v
 closes epoch view _ = false
 
+-- an own vote of that view is noted
 abbrev pub has_voted : List Note → ℕ → ℕ → Bool
 has_voted notes epoch view = list_any (votes_in epoch view) notes
 
+-- an own vote that ends that view is noted
 abbrev pub has_closed : List Note → ℕ → ℕ → Bool
 has_closed notes epoch view = list_any (closes epoch view) notes
 
@@ -140,6 +150,7 @@ has_closed notes epoch view = list_any (closes epoch view) notes
 abbrev pub views_between : ℕ → ℕ → List ℕ
 views_between low high = range_with_len (low + 1) (high - low - 1)
 
+-- each view between is nullified
 abbrev pub all_nullified : List Note → ℕ → ℕ → ℕ → Bool
 all_nullified notes epoch low high = list_all (nullified notes epoch) (views_between low high)
 
@@ -160,6 +171,7 @@ is_payload_for r p c = same_shards p.payload.config (config r p.epoch) && same_d
 abbrev pub is_again : Rules → List Note → Proposal → Commitment → Bool
 is_again r notes p c = same_commitment p.payload c && nat_lt 0 p.parent && option_map_or (λ a. is_last r.epochs p.epoch a.height) (held r notes c) false
 
+-- the member can vote for the proposal: its own chunk of a fitting payload came, or it is the last block again
 abbrev pub is_ready : Rules → ℕ → State → Proposal → Commitment → Bool
 is_ready r id s p c = (has_own_row r id s p && is_payload_for r p c) || is_again r s.notes p c
 

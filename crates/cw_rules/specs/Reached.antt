@@ -4,7 +4,6 @@ use Rattle.std.specs.List.{AllByRecursion, list_any}
 use Rattle.cw_types.specs.Block.{Block}
 use Rattle.cw_types.specs.Epochs.{Epochs, is_last, members_in, rises_from, size}
 use Rattle.cw_types.specs.Numbers.{max_faults}
-use Rattle.cw_types.specs.Same.{same_commitment, same_digest}
 use Rattle.cw_types.specs.declared.commitment.Commitment.{Commitment}
 use Rattle.cw_types.specs.declared.event.Handed.{Handed}
 use Rattle.cw_types.specs.declared.note.Note.{Note}
@@ -14,7 +13,6 @@ use Rattle.cw_types.specs.declared.vote.Vote.TheVariants.{Finalize}
 use Rattle.cw_rules.specs.Chains.{Ends, IsChain, all_notes, block_under, chain_to, link_commitment, outcome}
 use Rattle.cw_rules.specs.Keeps.{IsSound, Keeps, meaning}
 use Rattle.cw_rules.specs.Notes.{has_vote}
-use Rattle.cw_rules.specs.Owed.{known}
 use Rattle.cw_rules.specs.Rules.{Rules, digest, genesis}
 use Rattle.cw_rules.specs.Stands.{EachAfter, Members, Stands}
 use Rattle.cw_rules.specs.Step.{Member, member_notes}

@@ -8,7 +8,7 @@ use Rattle.cw_types.specs.declared.event.Out.{Out}
 use Rattle.cw_rules.specs.Chains.{block_under, chain_to}
 use Rattle.cw_rules.specs.Held.{last_ack}
 use Rattle.cw_rules.specs.Rules.{Rules}
-use Rattle.cw_rules.specs.Step.{Member, Stepped, found, member_notes, start}
+use Rattle.cw_rules.specs.Step.{Member, Stepped, member_notes, start}
 use Rattle.cw_rules.specs.World.{Faulty, Line, Restart, Sent, World, done_by, fault_sends, faults, happens, line_member, opening, sent_now}
 
 -- what a line brought about. Its line is 0 in the opening, and it names no member for a faulty line
@@ -27,6 +27,7 @@ pub record Acked : Type 0 where
   pub height : Option ℕ
   pub notes : ℕ
 
+-- what is reported of a run
 pub record Report : Type 0 where
   pub opening : List Entry
   pub steps : List Entry
@@ -43,6 +44,7 @@ abbrev pub found_by : World → Line → Stepped → Option ℕ
 found_by w (Restart i) done = Some (length (member_notes done.member))
 found_by w _ done = None
 
+-- what a line sends
 abbrev pub sent_by : Rules → World → Line → List Out
 sent_by r w (Faulty i fault) = fault_sends r w i fault
 sent_by r w line = option_map_or (λ done. done.sent) (done_by r w line) []
@@ -68,9 +70,11 @@ opening_entry r script i =
     if list_any (faults i) script then None
     else Some (record { line = 0; member = Some i; found = None; sent = []; handed = (start r i []).handed })
 
+-- an entry for each honest member, by number
 abbrev pub opening_entries : Rules → List Line → List Entry
 opening_entries r script = filter_map (opening_entry r script) (range_with_len 0 r.epochs.total)
 
+-- the entries of the opening, and then one for each line
 abbrev pub all_entries : Rules → List Line → List Entry
 all_entries r script = opening_entries r script ++ entries_from r (opening r script) 2 script
 
@@ -87,6 +91,7 @@ highest (x ∷ xs) = Some (option_map_or (λ y. if nat_lt x.height y.height then
 abbrev pub chain_of : Rules → List Line → World → List Block
 chain_of r script w = option_map_or (chain_to r w) (option_and_then (λ x. block_under r w x.commitment) (highest (handed_in r script))) []
 
+-- what an honest member came to
 abbrev pub acked_at : ℕ × Option Member → Option Acked
 acked_at at = option_map (λ m. record { member = at.0; live = m.live; height = last_ack (member_notes m); notes = length (member_notes m) }) at.1
 

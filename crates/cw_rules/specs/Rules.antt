@@ -5,7 +5,6 @@ use Rattle.cw_base.specs.Shards.{Shards}
 use Rattle.cw_base.specs.declared.hash.Digest32.{Digest32}
 use Rattle.cw_tree.specs.Chunks.{Piece}
 use Rattle.cw_types.specs.Block.{Block}
-use Rattle.cw_types.specs.Encoding.{block_bytes, context_bytes}
 use Rattle.cw_types.specs.Epochs.{Epochs, size}
 use Rattle.cw_types.specs.Numbers.{extra_chunks, least_chunks}
 use Rattle.cw_types.specs.declared.block.Context.{Context}
@@ -74,12 +73,15 @@ is_under r c x =
 abbrev pub block_of : Rules → Shards → List Chunk → Option Block
 block_of r x chunks = option_and_then r.read_block (r.text_of x chunks)
 
+-- the hash of a block's bytes
 abbrev pub digest : Rules → Block → Digest32
 digest r b = r.hash (r.block_bytes b)
 
+-- what names a block: its digest, the root of its chunks, the digest of its context, and its config
 abbrev pub commit : Rules → Block → Commitment
 commit r b = record { block = digest r b; root = r.root (map r.hash (rows_of r b)); context = r.hash (r.context_bytes b.context); config = config r b.context.epoch }
 
+-- the first block
 abbrev pub genesis : Rules → Block
 genesis r = first.genesis r.hash
 

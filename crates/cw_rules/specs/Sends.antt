@@ -18,6 +18,7 @@ use Rattle.cw_rules.specs.Held.{finalization_of, held, next, noted_block_of}
 use Rattle.cw_rules.specs.Notes.{epoch_of, has_block}
 use Rattle.cw_rules.specs.Rules.{Chunk, Rules, chunks, commit, config, genesis_commitment}
 
+-- the message to every member
 abbrev pub to_all : Message → Out
 to_all m = record { to = To.All; message = m }
 

@@ -10,7 +10,6 @@ use Rattle.cw_types.specs.declared.vote.Vote.{Vote}
 use Rattle.cw_types.specs.declared.vote.Vote.TheVariants.{Finalize, Notarize, Nullify}
 use Rattle.cw_rules.specs.Fits.{fits}
 use Rattle.cw_rules.specs.Notes.{has_cert, has_certified, has_vote, nullified, settler}
-use Rattle.cw_rules.specs.World.{faults}
 
 -- the members by number: an honest one with its notes, a faulty one without
 abbrev pub Members : Type 0

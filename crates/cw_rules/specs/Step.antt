@@ -23,6 +23,7 @@ use Rattle.cw_rules.specs.Sends.{missing, note_sends, sends, to_all}
 
 -- ---- the notes of a step
 
+-- the state with more notes
 abbrev pub with_notes : State → List Note → State
 with_notes s more = record { notes = s.notes ++ more; came = s.came; given = s.given }
 
@@ -41,6 +42,7 @@ taken_came r signed came (Event.Deliver m) = accepted r signed came m
 taken_came r signed came (Event.Floor c) = wished r signed came c
 taken_came r signed came _ = came
 
+-- the state with what a member accepts from an event
 abbrev pub taken : Rules → (ℕ → Vote → Bool) → State → Event → State
 taken r signed s e = record { notes = s.notes; came = taken_came r signed s.came e; given = s.given }
 
@@ -53,6 +55,7 @@ step_notes r id s e =
 
 -- ---- what is handed out
 
+-- what is handed out: a height, the commitment there, and the digest of its block
 abbrev pub handing : Rules → ℕ → Commitment → Block → Handed
 handing r height c b = record { height = height; commitment = c; digest = digest r b }
 
@@ -63,6 +66,7 @@ delivery r s =
     then option_and_then (λ c. option_map (handing r (next s) c) (held r s.notes c)) (at_height r s.notes (next s))
     else None
 
+-- the state once that height is handed out
 abbrev pub with_given : State → ℕ → State
 with_given s height = record { notes = s.notes; came = s.came; given = s.given ++ height ∷ [] }
 
@@ -75,6 +79,7 @@ deliveries_within r (suc steps) s = option_map_or (λ h. h ∷ deliveries_within
 abbrev pub most_delivered : Rules → State → ℕ
 most_delivered r s = option_map_or (λ h. h + 1) (last_ack s.notes) 0 + r.backlog
 
+-- the blocks that a step hands out
 abbrev pub deliveries : Rules → State → List Handed
 deliveries r s = deliveries_within r (most_delivered r s) s
 
@@ -89,6 +94,7 @@ pub data Wanted : Type 0 where
   Of_digest : (digest : Digest32) → Wanted
   Of_commitment : (commitment : Commitment) → Wanted
 
+-- a ticket that waits
 pub record Ticket : Type 0 where
   pub number : ℕ
   pub wanted : Wanted
@@ -98,6 +104,7 @@ pub record Tickets : Type 0 where
   pub coming : ℕ
   pub waiting : List Ticket
 
+-- the tickets of a start
 abbrev pub no_tickets : Tickets
 no_tickets = record { coming = 0; waiting = [] }
 
@@ -132,6 +139,7 @@ found r notes (Of_commitment c) = option_map (λ _. c) (held r notes c)
 abbrev pub served : Rules → List Note → Ticket → Option TicketOut
 served r notes x = option_map (λ c. record { number = x.number; commitment = Some c }) (found r notes x.wanted)
 
+-- the tickets without those that are served
 abbrev pub unserved : Rules → List Note → Tickets → Tickets
 unserved r notes t = record { coming = t.coming; waiting = filter (λ x. is_none (found r notes x.wanted)) t.waiting }
 
@@ -145,12 +153,15 @@ pub record Member : Type 0 where
   pub tickets : Tickets
   pub live : Bool
 
+-- all notes of a member
 abbrev pub member_notes : Member → List Note
 member_notes m = flat_map (λ frame. frame) m.frames
 
+-- what the rules ask about a member
 abbrev pub state_of : Member → State
 state_of m = record { notes = member_notes m; came = m.came; given = m.given }
 
+-- what a start has accepted
 abbrev pub nothing_came : Came
 nothing_came = record { ballots = []; parts = []; wishes = [] }
 
@@ -161,10 +172,12 @@ pub record Stepped : Type 0 where
   pub handed : List Handed
   pub tickets : List TicketOut
 
+-- the frames with one more, unless it is empty
 abbrev pub add_frame : List (List Note) → List Note → List (List Note)
 add_frame frames [] = frames
 add_frame frames (note ∷ notes) = frames ++ (note ∷ notes) ∷ []
 
+-- what an event makes of a member that is live
 abbrev pub step : Rules → ℕ → (ℕ → Vote → Bool) → Member → Event → Stepped
 step r id signed m e =
     let before = state_of m in
@@ -193,6 +206,7 @@ start r id frames =
       tickets = [];
     }
 
+-- the member once it is stopped, with these frames
 abbrev pub stopped : Member → List (List Note) → Member
 stopped m frames = record { frames = frames; came = m.came; given = m.given; tickets = m.tickets; live = false }
 

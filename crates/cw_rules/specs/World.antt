@@ -56,6 +56,7 @@ pub data Line : Type 0 where
   Restart : (member : ℕ) → Line
   Faulty : (member : ℕ) (fault : Fault) → Line
 
+-- the message is addressed to the member
 abbrev pub is_to : ℕ → To → Bool
 is_to member To.All = true
 is_to member (To.One i) = i == member
@@ -88,6 +89,7 @@ is_vote_of i v _ = false
 abbrev pub is_sent_vote : ℕ → Vote → Sent → Bool
 is_sent_vote i v s = (s.from == i) && is_vote_of i v s.message
 
+-- the member is faulty
 abbrev pub is_faulty : World → ℕ → Bool
 is_faulty w i = option_map_or is_none (slice_get w.members i) false
 
@@ -95,6 +97,7 @@ is_faulty w i = option_map_or is_none (slice_get w.members i) false
 abbrev pub signed : World → ℕ → Vote → Bool
 signed w i v = is_faulty w i || list_any (is_sent_vote i v) w.pool
 
+-- the proposal of a vote
 abbrev pub message_proposal : Message → Option Proposal
 message_proposal (Message.Vote i v) = proposal_of v
 message_proposal _ = None
@@ -134,6 +137,7 @@ turned r w i (Cut a c x j ask) m = if m.live then option_map (cut_step r i (sign
 turned r w i (Restart j) m = if m.live then None else Some (start r i m.frames)
 turned r w i (Faulty j fault) m = None
 
+-- the member that a line names
 abbrev pub line_member : Line → ℕ
 line_member (Do i ask) = i
 line_member (Cut a c x i ask) = i
@@ -148,6 +152,7 @@ done_by r w line = option_and_then (turned r w (line_member line) line) (member_
 abbrev pub with_done : World → ℕ → Stepped → World
 with_done w i done = record { members = slice_set w.members i (Some done.member); pool = w.pool ++ sent_now w i done.sent }
 
+-- the world with what a faulty member sent
 abbrev pub with_sends : World → ℕ → List Out → World
 with_sends w i outs = record { members = w.members; pool = w.pool ++ sent_now w i outs }
 

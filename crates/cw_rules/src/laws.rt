@@ -22,7 +22,7 @@ ghost use Rattle.cw_rules.specs.Rules.{Rules, chunks, commit, is_under, total_of
 ghost use Rattle.cw_rules.specs.Stands.{AreKept, AreLawful, Descends, EachAfter, Members, Stands};
 ghost use Rattle.cw_rules.specs.Step.{Member, deliveries, step_notes, taken_came, with_handed, with_notes};
 ghost use Rattle.cw_rules.specs.World.{Line, World, opening};
-ghost use Rattle.cw_rules.specs.Coding.{AreApart, IsCoder, IsCodeword, first_chunks};
+ghost use Rattle.cw_rules.specs.Coding.{AreApart, AreByteChunks, IsCoder, IsCodeword, first_chunks};
 ghost use Rattle.cw_types.specs.Block.{Block};
 
 use cw_types::{Commitment, Event, Handed, Note, Proposal, Vote};
@@ -186,7 +186,7 @@ pub fn coding_laws()
     // where no whole block came, a commitment is shown as exactly the block of whose codeword its first k chunks are rows
     ensures shown { (r : Rules) → IsCoder r
         → (came : Came) (c : Commitment) (b : Block) → 0 < c.config.minimum → total_of c.config ≤ 65535
-        → ((d : Commitment) → AreApart (filter_map (row_of d) came.parts))
+        → ((d : Commitment) → AreApart (filter_map (row_of d) came.parts)) → AreByteChunks (first_chunks came c)
         → first_some (whole_of r c) came.parts ≡ None
         → (shown r came c ≡ Some b) ↔ IsCodeword r c (first_chunks came c) b }
     // each chunk that a block is cut in stands under its commitment

@@ -1,5 +1,5 @@
 -- When two values are the same, as a test: field by field.
-use Rattle.std.specs.Prelude.{ℕ, ◌==◌, ◌&&◌, Bool, false, List, bytes_eq}
+use Rattle.std.specs.Prelude.{◌==◌, ◌&&◌, Bool, false, bytes_eq}
 use Rattle.cw_base.specs.declared.hash.Digest32.{Digest32}
 use Rattle.cw_base.specs.Config.{same_shards}
 use Rattle.cw_types.specs.declared.commitment.Commitment.{Commitment}

@@ -1,4 +1,3 @@
-use Rattle.std.proofs.Common.{◌≡◌}
 use Rattle.cw_types.proofs.FirstBlock.{genesis_parts}
 use Rattle.cw_types.proofs.chain.genesis_commitment.Goals as goal
 

@@ -1,5 +1,5 @@
-use Rattle.std.proofs.Common.{◌<◌, ◌==◌, arith, sym}
-use Rattle.cw_types.proofs.EpochLemmas.{HasSize, committee_size, place_below}
+use Rattle.std.proofs.Common.{◌==◌, arith, sym}
+use Rattle.cw_types.proofs.EpochLemmas.{committee_size, place_below}
 use Rattle.cw_types.proofs.committees.Committees.place.Goals as goal
 
 pub overflow_cast-result : goal.overflow_cast-result

@@ -1,6 +1,5 @@
-use Rattle.std.proofs.Common.{◌≡◌, ◌++◌, ◌∷◌, [], None, true, arith, sym, ◌∙◌, ap, subst}
+use Rattle.std.proofs.Common.{◌≡◌, ◌++◌, ◌∷◌, [], arith, sym, ◌∙◌, ap}
 use Rattle.std.specs.List.{range_with_len}
-use Rattle.cw_types.specs.Epochs.{is_sound}
 use Rattle.cw_types.proofs.EpochLemmas.{range_more, single_sound}
 use Rattle.cw_types.proofs.committees.Committees.single.Goals as goal
 
