@@ -1,9 +1,7 @@
-use Rattle.std.proofs.Common.{◌≡◌, ℕ, ◌+◌, ◌-◌, ◌*◌, ◌/◌, ◌<◌, ◌≤◌, List, length, get_or, sym, ap, ap₂, ◌∙◌, arith, subst, IfOk, Result, Vec, Ok, Err}
-use Rattle.std.specs.declared.alloc.Global.{Global}
-use Rattle.std.specs.declared.alloc.AllocError.{AllocError}
+use Rattle.std.proofs.Common.{ℕ, ◌/◌, ◌<◌, List, length, ap, ap₂, ◌∙◌, arith}
 use Rattle.rs_code.specs.Coefficients.{weighted}
-use Rattle.rs_code.specs.Rows.{joined, symbol_bytes}
-use Rattle.rs_code.specs.Stripes.{stripe_start, AreStripes}
+use Rattle.rs_code.specs.Rows.{symbol_bytes}
+use Rattle.rs_code.specs.Stripes.{AreStripes}
 use Rattle.rs_code.proofs.RowBytes.{joined_same, row_from_coefficients}
 use Rattle.rs_code.proofs.StripeCuts.{stripes_some, long_pieces}
 use Rattle.rs_code.proofs.striped.rows_at.Goals as goal

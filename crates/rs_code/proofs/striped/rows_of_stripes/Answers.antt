@@ -1,6 +1,4 @@
-use Rattle.std.proofs.Common.{◌≡◌, ℕ, ◌+◌, ◌-◌, ◌*◌, ◌/◌, ◌<◌, ◌≤◌, List, length, get_or, take, drop, sym, ap, ◌∙◌, arith, IfOk, Result, Vec, Ok, Err, mul-le-mul_right, suc}
-use Rattle.std.specs.declared.alloc.Global.{Global}
-use Rattle.std.specs.declared.alloc.AllocError.{AllocError}
+use Rattle.std.proofs.Common.{◌≡◌, ℕ, ◌+◌, ◌-◌, ◌*◌, ◌/◌, ◌<◌, ◌≤◌, length, get_or, sym, ap, ◌∙◌, arith, IfOk, Result, Ok, Err, mul-le-mul_right, suc}
 use Rattle.rs_code.specs.Rows.{joined, symbol_bytes}
 use Rattle.rs_code.specs.Stripes.{stripe_start, stripe_bytes}
 use Rattle.rs_code.proofs.RowBytes.{joined_none, push_joined}

@@ -1,6 +1,6 @@
-use Rattle.std.proofs.Common.{◌≡◌, ℕ, ◌+◌, ◌-◌, ◌/◌, List, length, get_or, sym, ap, ap₂, ◌∙◌, arith}
+use Rattle.std.proofs.Common.{ℕ, ◌+◌, ◌-◌, ◌/◌, sym, ap₂, ◌∙◌, arith}
 use Rattle.rs_code.specs.Coefficients.{weighted}
-use Rattle.rs_code.specs.Rows.{symbol, symbol_bytes, joined}
+use Rattle.rs_code.specs.Rows.{symbol_bytes}
 use Rattle.rs_code.specs.Stripes.{stripe_start, stripe_bytes}
 use Rattle.rs_code.proofs.RowBytes.{joined_none, push_joined, symbols_of_sums}
 use Rattle.rs_code.proofs.StripeCuts.{start_rises, start_within}

@@ -1,5 +1,4 @@
 use Rattle.std.proofs.Common.{◌≡◌, ℕ, ◌+◌, ◌<◌, ◌≤◌, get_or, bit_xor}
-use Rattle.rs_code.specs.Field.{times}
 use Rattle.rs_code.specs.Rows.{symbol}
 use Rattle.rs_code.proofs.sums.add_symbols.Given as goal
 

@@ -1,4 +1,4 @@
-use Rattle.std.proofs.Common.{◌≡◌, ℕ, ◌+◌, ◌-◌, ◌/◌, ◌%◌, ◌*◌, ◌<◌, get_or, bit_xor, ap₂, ◌∙◌, arith, refl}
+use Rattle.std.proofs.Common.{ℕ, ◌-◌, ◌%◌, ◌<◌, get_or, bit_xor, ap₂, ◌∙◌, arith, refl}
 use Rattle.rs_code.proofs.WeightLaws.{product_by_halves}
 use Rattle.rs_code.proofs.tables.next_product.Goals as goal
 

@@ -1,4 +1,4 @@
-use Rattle.std.proofs.Common.{◌≡◌, ℕ, List, get_or, refl, sym, ap, ◌∙◌, subst₂}
+use Rattle.std.proofs.Common.{◌≡◌, ℕ, List, get_or, refl, sym, ◌∙◌, subst₂}
 use Rattle.rs_code.specs.Coefficients.{AreCoefficients}
 use Rattle.rs_code.proofs.RowBytes.{targets_more}
 use Rattle.rs_code.proofs.basis.Basis.coefficients.Goals as goal
