@@ -14,7 +14,9 @@ failing (Wrote place bytes done) = Wrote place bytes false
 failing (Synced done) = Synced false
 
 -- What a disk tells of itself: this moment, the moments before each of its device calls, those calls where it tells
--- them, how often a call failed, and how often a device call was tried, those refused for memory included.
+-- them, how often a call failed, and how often a device call was tried, those refused for memory included. A crash in
+-- the middle of a write leaves an image of the moment behind it, and one in the middle of a sync an image of the moment
+-- before it, so the moments between the calls say what any crash leaves.
 pub record DiskState : Type 0 where
   pub now : Moment
   pub past : List Moment

@@ -183,7 +183,8 @@ impl<D: Disk> Log<D> {
     /// device call, it changes nothing.
     #[tactic(auto, using(crate::proofs::AtRest::settled_images))]
     pub fn append(&mut self, frame: &[u8]) -> Result<(), StoreError>
-        ensures ok { OnOk result ((has_failed self.new ≡ false) × (log_frames self.new ≡ with_frame (log_frames self.old) frame.now)) }
+        ensures ok { OnOk result ((has_failed self.new ≡ false)
+            × (log_frames self.new ≡ with_frame (log_frames self.old) frame.now)) }
         ensures err { OnErr result (log_frames self.new ≡ log_frames self.old) }
         ensures empty { length frame.now ≡ 0 → IsUnchanged self.old self.new }
         ensures settled { has_failed self.new ≡ false → LogIsSettled D.state self.new }
@@ -194,14 +195,16 @@ impl<D: Disk> Log<D> {
 
         // A crash at any moment of the call leaves the frames from before it, with the new one or without.
         ensures any_moment { has_failed self.old ≡ false
-            → LeavesOnly (D.state (log_disk self.old)) (D.state (log_disk self.new)) (FindsWithOrWithout (log_frames self.old) frame.now) }
+            → LeavesOnly (D.state (log_disk self.old)) (D.state (log_disk self.new))
+            (FindsWithOrWithout (log_frames self.old) frame.now) }
 
         // The device calls: all of them, or up to the first that fails.
         ensures appended { OnOk result (HasAppended D.state D.continues frame.now (log_state self.old) (log_state self.new)) }
         ensures cut_short { IsErrOf result StoreError.Disk
             → WasCutShort D.state D.continues frame.now (log_state self.old) (log_state self.new) }
         ensures calls_no_memory { IsErrOf result StoreError.NoMemory
-            → IsFront (calls_of_append (log_gate self.old) frame.now) (D.state (log_disk self.old)) (D.state (log_disk self.new)) }
+            → IsFront (calls_of_append (log_gate self.old) frame.now)
+            (D.state (log_disk self.old)) (D.state (log_disk self.new)) }
 
         // Each answer and its cause, and whether later calls answer `Failed`.
         ensures disk { IsErrOf result StoreError.Disk → has_failed self.new ≡ true }
@@ -211,7 +214,8 @@ impl<D: Disk> Log<D> {
         ensures failed_same { has_failed self.old ≡ true → IsUnchanged self.old self.new }
         ensures failed_only { IsErrOf result StoreError.Failed → has_failed self.old ≡ true }
         ensures no_memory { IsErrOf result StoreError.NoMemory → IsUnchanged self.old self.new
-            ⊎ ((has_failed self.new ≡ true) × Rose (D.state (log_disk self.old)).tries (D.state (log_disk self.new)).tries) }
+            ⊎ ((has_failed self.new ≡ true)
+            × Rose (D.state (log_disk self.old)).tries (D.state (log_disk self.new)).tries) }
         ensures not_foreign { (place : ℕ) → IsErrOf result (StoreError.Foreign place) → ⊥ }
         ensures continues { D.continues (log_disk self.old) (log_disk self.new) }
 
@@ -264,7 +268,8 @@ fn found_bytes<D: Disk>(alloc: Global, disk: &mut D) -> Result<Vec<u8>, DiskErro
     ensures any_moment { LeavesOnly (D.state disk.old) (D.state disk.new) (IsImage (D.state disk.old).now) }
     ensures calls { OnOk result (HasTold (Synced true ∷ []) (D.state disk.old) (D.state disk.new)) }
     ensures failed { IsErrOf result DiskError.Failed
-        → IsCutShort (Synced true ∷ []) (D.state disk.old) (D.state disk.new) ⊎ HasTold (Synced true ∷ []) (D.state disk.old) (D.state disk.new) }
+        → IsCutShort (Synced true ∷ []) (D.state disk.old) (D.state disk.new)
+        ⊎ HasTold (Synced true ∷ []) (D.state disk.old) (D.state disk.new) }
     ensures no_memory { IsErrOf result DiskError.NoMemory → IsFront (Synced true ∷ []) (D.state disk.old) (D.state disk.new) }
     ensures cause { IsErrOf result DiskError.Failed → Rose (D.state disk.old).faults (D.state disk.new).faults }
     ensures faults { (D.state disk.old).faults ≤ (D.state disk.new).faults }
@@ -295,8 +300,10 @@ fn write_and_sync<D: Disk>(disk: &mut D, place: u64, bytes: &[u8]) -> Result<(),
     ensures durable { OnOk result (IsDurable (D.state disk.new).now) }
     ensures any_moment { LeavesOnly (D.state disk.old) (D.state disk.new) (Torn place (length bytes.now) (D.state disk.old).now.seen) }
     ensures calls { OnOk result (HasTold (write_then_sync place bytes.now) (D.state disk.old) (D.state disk.new)) }
-    ensures failed { IsErrOf result DiskError.Failed → IsCutShort (write_then_sync place bytes.now) (D.state disk.old) (D.state disk.new) }
-    ensures no_memory { IsErrOf result DiskError.NoMemory → IsFront (write_then_sync place bytes.now) (D.state disk.old) (D.state disk.new) }
+    ensures failed { IsErrOf result DiskError.Failed
+        → IsCutShort (write_then_sync place bytes.now) (D.state disk.old) (D.state disk.new) }
+    ensures no_memory { IsErrOf result DiskError.NoMemory
+        → IsFront (write_then_sync place bytes.now) (D.state disk.old) (D.state disk.new) }
     ensures cause { IsErrOf result DiskError.Failed → Rose (D.state disk.old).faults (D.state disk.new).faults }
     ensures faults { (D.state disk.old).faults ≤ (D.state disk.new).faults }
     ensures tried { Rose (D.state disk.old).tries (D.state disk.new).tries }
@@ -313,13 +320,18 @@ fn add_frame<D: Disk>(disk: &mut D, gate: u64, bytes: &[u8]) -> Result<(), DiskE
     requires inside { gate < length (D.state disk.old).now.seen }
     requires fits { gate + 1 < 2 ^ 64 }
     requires durable { IsDurable (D.state disk.old).now }
-    ensures ok { OnOk result ((frames : List (List ℕ)) (frame : List ℕ) → IsAtRest frames gate (D.state disk.old).now.seen → bytes.now ≡ body frame ++ 0 ∷ [] → length frame < 2 ^ 64
+    ensures ok { OnOk result ((frames : List (List ℕ)) (frame : List ℕ)
+        → IsAtRest frames gate (D.state disk.old).now.seen → bytes.now ≡ body frame ++ 0 ∷ [] → length frame < 2 ^ 64
         → IsSettled (frames ++ frame ∷ []) (gate + length bytes.now) (D.state disk.new).now) }
-    ensures any_moment { (frames : List (List ℕ)) (frame : List ℕ) → IsAtRest frames gate (D.state disk.old).now.seen → bytes.now ≡ body frame ++ 0 ∷ [] → length frame < 2 ^ 64
+    ensures any_moment { (frames : List (List ℕ)) (frame : List ℕ)
+        → IsAtRest frames gate (D.state disk.old).now.seen → bytes.now ≡ body frame ++ 0 ∷ [] → length frame < 2 ^ 64
         → LeavesOnly (D.state disk.old) (D.state disk.new) (FindsWithOrWithout frames frame) }
-    ensures calls { OnOk result (HasTold (write_then_sync (gate + 1) bytes.now ++ write_then_sync gate (1 ∷ [])) (D.state disk.old) (D.state disk.new)) }
-    ensures failed { IsErrOf result DiskError.Failed → IsCutShort (write_then_sync (gate + 1) bytes.now ++ write_then_sync gate (1 ∷ [])) (D.state disk.old) (D.state disk.new) }
-    ensures no_memory { IsErrOf result DiskError.NoMemory → IsFront (write_then_sync (gate + 1) bytes.now ++ write_then_sync gate (1 ∷ [])) (D.state disk.old) (D.state disk.new) }
+    ensures calls { OnOk result
+        (HasTold (write_then_sync (gate + 1) bytes.now ++ write_then_sync gate (1 ∷ [])) (D.state disk.old) (D.state disk.new)) }
+    ensures failed { IsErrOf result DiskError.Failed
+        → IsCutShort (write_then_sync (gate + 1) bytes.now ++ write_then_sync gate (1 ∷ [])) (D.state disk.old) (D.state disk.new) }
+    ensures no_memory { IsErrOf result DiskError.NoMemory
+        → IsFront (write_then_sync (gate + 1) bytes.now ++ write_then_sync gate (1 ∷ [])) (D.state disk.old) (D.state disk.new) }
     ensures cause { IsErrOf result DiskError.Failed → Rose (D.state disk.old).faults (D.state disk.new).faults }
     ensures faults { (D.state disk.old).faults ≤ (D.state disk.new).faults }
     ensures tried { Rose (D.state disk.old).tries (D.state disk.new).tries }
@@ -338,7 +350,8 @@ impl Log<MemoryDisk> {
 
     /// Arms a stop of the disk, as [`MemoryDisk::stop_at`] does.
     pub fn stop_at(&mut self, call: u64, cut: u64, fill: u8)
-        ensures armed { is_stopped (log_disk self.old) ≡ false → log_disk self.new ≡ record (log_disk self.old) { stop = stop_from_now (log_disk self.old) call cut fill } }
+        ensures armed { is_stopped (log_disk self.old) ≡ false
+            → log_disk self.new ≡ record (log_disk self.old) { stop = stop_from_now (log_disk self.old) call cut fill } }
         ensures stopped { is_stopped (log_disk self.old) ≡ true → log_disk self.new ≡ log_disk self.old }
         ensures state { memory_state (log_disk self.new) ≡ memory_state (log_disk self.old) }
         ensures frames { log_frames self.new ≡ log_frames self.old }
@@ -350,7 +363,8 @@ impl Log<MemoryDisk> {
 
     /// Drops a stop of the disk that wasn't reached.
     pub fn disarm(&mut self)
-        ensures dropped { is_stopped (log_disk self.old) ≡ false → log_disk self.new ≡ record (log_disk self.old) { stop = None } }
+        ensures dropped { is_stopped (log_disk self.old) ≡ false
+            → log_disk self.new ≡ record (log_disk self.old) { stop = None } }
         ensures stopped { is_stopped (log_disk self.old) ≡ true → log_disk self.new ≡ log_disk self.old }
         ensures state { memory_state (log_disk self.new) ≡ memory_state (log_disk self.old) }
         ensures frames { log_frames self.new ≡ log_frames self.old }

@@ -89,7 +89,8 @@ impl MemoryDisk {
     /// range is `fill`. If it is a sync, the same is done to the ranges written since the last sync,
     /// joined in order. A stop at 0 is reached at once. A disk that is stopped stays as it is.
     pub fn stop_at(&mut self, call: u64, cut: u64, fill: u8)
-        ensures armed { is_stopped self.old ≡ false → self.new ≡ record self.old { stop = stop_from_now self.old call cut fill } }
+        ensures armed { is_stopped self.old ≡ false
+            → self.new ≡ record self.old { stop = stop_from_now self.old call cut fill } }
         ensures stopped { is_stopped self.old ≡ true → self.new ≡ self.old }
         ensures state { memory_state self.new ≡ memory_state self.old }
     {
@@ -205,7 +206,8 @@ impl Disk for MemoryDisk {
         ensures continues { Continues self.old self.new }
 
         ensures recorded { OnOk result (HasCalled (Write place bytes.now) self.old self.new) }
-        ensures failure_recorded { IsErrOf result DiskError.Failed → HasCalled (Write place bytes.now) self.old self.new }
+        ensures failure_recorded { IsErrOf result DiskError.Failed
+            → HasCalled (Write place bytes.now) self.old self.new }
         ensures calm { OnOk result (self.new.faults ≡ self.old.faults) }
         ensures succeeds { OnOk result (next_fails self.old ≡ false) }
         ensures fails { IsErrOf result DiskError.Failed → next_fails self.old ≡ true }
