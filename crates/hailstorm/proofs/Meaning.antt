@@ -2,7 +2,7 @@
 use Rattle.std.proofs.Common.{◌≡◌, ℕ, ◌<◌, ◌≤◌, Bool, true, false, List, ◌++◌, length, Option, Some, None, Result, Ok, Err, refl, sym, ◌∙◌, ap, subst, inl, inr, append-nil}
 use Rattle.std.specs.Prelude.{◌⊎◌, nat_lt, MatchBool}
 use Rattle.std.specs.Io.KnownBytes.{Appends, Consumes, IsAtEnd, Keeps}
-use Rattle.std.proofs.lemmas.Bool.{le-ltb, lt-ltb}
+use Rattle.std.proofs.lemmas.Bool.{le-ltb}
 use Rattle.cw_base.specs.declared.hash.Digest32.{Digest32}
 use Rattle.hail_script.specs.declared.error.RunError.{RunError}
 use Rattle.hail_script.specs.Grammar.{script_of}
@@ -12,7 +12,7 @@ use Rattle.hailstorm.specs.declared.program.Exit.TheVariants.{Done, Usage, TooLo
 use Rattle.hailstorm.specs.Headline.{Answers, AnswersScript, Means, Finishes, IsCutShort, IsDone, IsDue}
 use Rattle.hailstorm.specs.Outcome.{IsReport}
 use Rattle.hailstorm.specs.Reading.{script_limit}
-use Rattle.hailstorm.specs.Text.{report_text, error_line, too_long_line}
+use Rattle.hailstorm.specs.Text.{report_text, too_long_line}
 use Rattle.hailstorm.specs.World.{Outcome}
 use Rattle.hailstorm.specs.Writing.{WritesFront}
 
@@ -27,15 +27,6 @@ module _ (hash : List ℕ → Digest32) {R : Type 0} (outcome : R → Outcome) (
         wrote = h.2;
       })
 
-  pub refused_answer : (w later : ℕ) (e : RunError) (text : List ℕ) (result : Exit R) → script_of script ≡ Err e → text ≡ error_line e → Finishes held written w later text (Refused e) result → Answers hash outcome script held written result
-  refused_answer w later e text result why is (inl h) = rw h.0 (why, subst (λ (t : List ℕ). Appends held written t) is h.1)
-  refused_answer w later e text result why is (inr h) =
-      rw h.0 (record {
-        due = text;
-        is_due = subst (λ (r : Result Scenario RunError). AnswersScript hash r text) (sym why) is;
-        wrote = h.2;
-      })
-
 -- what was read to the end is what the source had left
 all_read : (text given : List ℕ) (rest : Option (List ℕ)) → Consumes (Some text) rest given → IsAtEnd rest → given ≡ text
 all_read text given None c e = absurd c
@@ -43,10 +34,6 @@ all_read text given (Some ys) c e = sym (c ∙ rw e (append-nil given))
 
 short_due : (hash : List ℕ → Digest32) (text due : List ℕ) → length text ≤ script_limit → AnswersScript hash (script_of text) due → IsDue hash text due
 short_due hash text due h a = subst (λ (t : Bool). MatchBool t (due ≡ too_long_line) (AnswersScript hash (script_of text) due)) (sym (le-ltb script_limit (length text) h)) a
-
--- the line of a text that is too long
-pub long_due : (hash : List ℕ → Digest32) (text : List ℕ) → script_limit < length text → IsDue hash text too_long_line
-long_due hash text h = subst (λ (t : Bool). MatchBool t (too_long_line ≡ too_long_line) (AnswersScript hash (script_of text) too_long_line)) (sym (lt-ltb script_limit (length text) h)) refl
 
 meaning : (hash : List ℕ → Digest32) {R : Type 0} (outcome : R → Outcome) (text : List ℕ) (rest held written : Option (List ℕ)) (result : Exit R) → IsAtEnd rest → length text ≤ script_limit → Answers hash outcome text held written result → Means hash outcome text rest held written result
 meaning hash outcome text rest held written (Done r) e l a = (e, l, a)

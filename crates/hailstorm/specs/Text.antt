@@ -1,5 +1,5 @@
 -- The text of a report, on whole values.
-use Rattle.std.specs.Prelude.{ℕ, ◌+◌, List, [], ◌∷◌, ◌++◌, length, codes, Bool, true, false, Option, Some, None}
+use Rattle.std.specs.Prelude.{ℕ, ◌+◌, ◌==◌, if◌then◌else◌, List, [], ◌∷◌, ◌++◌, length, codes, Bool, true, false, Option, Some, None}
 use Rattle.std.specs.List.{flat_map}
 use Rattle.std.specs.Fmt.{decimal}
 use Rattle.hex.specs.Hex.{encode_lower}
@@ -33,16 +33,25 @@ unfoldable pub to_text : To → List ℕ
 to_text to.All = codes "all"
 to_text (to.One m) = decimal m
 
+-- V, or `E/V` for a view of an epoch E above 0
+unfoldable pub view_text : ℕ → ℕ → List ℕ
+view_text epoch view = if epoch == 0 then decimal view else decimal epoch ++ codes "/" ++ decimal view
+
 -- `notarize V` and so on
 unfoldable pub vote_text : Vote → List ℕ
-vote_text (Notarize p) = codes "notarize " ++ decimal p.view
-vote_text (Nullify epoch view) = codes "nullify " ++ decimal view
-vote_text (Finalize p) = codes "finalize " ++ decimal p.view
+vote_text (Notarize p) = codes "notarize " ++ view_text p.epoch p.view
+vote_text (Nullify epoch view) = codes "nullify " ++ view_text epoch view
+vote_text (Finalize p) = codes "finalize " ++ view_text p.epoch p.view
 
--- `vote S ..`, S the signer, or `block H`
+-- `shard J`, J the chunk's index; `vote S ..`, S the signer; `cert .. C`, C the number of signers; `ask`; `askheight H`; `block H`; `junk L`, L the number of bytes
 unfoldable pub what_text : Message → List ℕ
+what_text (message.Shard c x) = codes "shard " ++ decimal x.index
 what_text (message.Vote signer v) = codes "vote " ++ decimal signer ++ codes " " ++ vote_text v
+what_text (message.Cert s) = codes "cert " ++ vote_text s.vote ++ codes " " ++ decimal (length s.signers)
+what_text (message.Ask from c) = codes "ask"
+what_text (message.AskHeight from h) = codes "askheight " ++ decimal h
 what_text (message.Block b) = codes "block " ++ decimal b.height
+what_text (message.Junk bytes) = codes "junk " ++ decimal (length bytes)
 
 -- `TO WHAT DIGEST`, DIGEST the hash of the message's bytes
 unfoldable pub goes_text : (List ℕ → Digest32) → Sent → List ℕ

@@ -30,7 +30,7 @@ setting_of hash members = record { hash = hash; members = members; accepts = λ 
 -- the message is this vote, signed by this member
 abbrev pub is_vote_by : ℕ → Vote → Message → Bool
 is_vote_by member v (message.Vote signer w) = (signer == member) && same_vote w v
-is_vote_by member v (message.Block b) = false
+is_vote_by member v _ = false
 
 -- the member sent this vote as its own
 abbrev pub is_sent_vote : ℕ → Vote → Sent → Bool

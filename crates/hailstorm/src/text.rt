@@ -165,12 +165,25 @@ fn to_text(alloc: Global, to: To) -> Result<String, NoMemory>
     Ok(text)
 }
 
+#[tactic(auto, unfolding(crate::specs::Text::view_text))]
+fn view_text(alloc: Global, epoch: u64, view: u64) -> Result<String, NoMemory>
+    ensures { IfOk result (λ text. string_bytes text ≡ spec.view_text epoch view) }
+{
+    let mut text = String::new(alloc);
+    if epoch == 0 {
+        write!(text, "{view}")?;
+        return Ok(text);
+    }
+    write!(text, "{epoch}/{view}")?;
+    Ok(text)
+}
+
 #[tactic(auto, unfolding(crate::specs::Text::vote_text))]
 fn vote_text(alloc: Global, vote: &Vote) -> Result<String, NoMemory>
     ensures { IfOk result (λ text. string_bytes text ≡ spec.vote_text vote.now) }
 {
     let mut text = String::new(alloc);
-    let view = vote.view();
+    let view = view_text(alloc, vote.epoch(), vote.view())?;
     match vote {
         Vote::Notarize(_) => write!(text, "notarize {view}")?,
         Vote::Nullify { .. } => write!(text, "nullify {view}")?,
@@ -185,14 +198,32 @@ fn what_text(alloc: Global, message: &Message) -> Result<String, NoMemory>
 {
     let mut text = String::new(alloc);
     match message {
+        Message::Shard(_, chunk) => {
+            let index = chunk.index();
+            write!(text, "shard {index}")?
+        }
         Message::Vote(signer, vote) => {
             let signer = *signer;
             let vote = vote_text(alloc, vote)?;
             write!(text, "vote {signer} {vote}")?
         }
+        Message::Cert(cert) => {
+            let vote = vote_text(alloc, &cert.vote)?;
+            let signers = cert.signers.len();
+            write!(text, "cert {vote} {signers}")?
+        }
+        Message::Ask(..) => text.push_str("ask")?,
+        Message::AskHeight(_, height) => {
+            let height = *height;
+            write!(text, "askheight {height}")?
+        }
         Message::Block(block) => {
             let height = block.height();
             write!(text, "block {height}")?
+        }
+        Message::Junk(bytes) => {
+            let length = bytes.len();
+            write!(text, "junk {length}")?
         }
     }
     Ok(text)

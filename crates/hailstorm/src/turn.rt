@@ -25,7 +25,7 @@ fn is_vote_by(message: &Message, member: u16, vote: &Vote) -> bool
 {
     match message {
         Message::Vote(signer, other) => *signer == member && other.is_same(vote),
-        Message::Block(_) => false,
+        _ => false,
     }
 }
 
