@@ -17,7 +17,7 @@ use Rattle.cw_rules.specs.Chains.{Clashes, Ends, clash_at, outcome}
 use Rattle.cw_rules.specs.Held.{at_height, held, next, pending}
 use Rattle.cw_rules.specs.Keeps.{IsCertifiedIn}
 use Rattle.cw_rules.specs.Reached.{AllAnchored, GoesDown, In, IsAnchored, IsCluster, IsKnown, IsOneChain, ReachesClear, members_of}
-use Rattle.cw_rules.specs.Report.{Entry, entries_from, handed_in, opening_entries, opening_entry}
+use Rattle.cw_rules.specs.Report.{Entry, entries_from, first_line, handed_in, opening_entries, opening_entry}
 use Rattle.cw_rules.specs.Rules.{Rules, digest, genesis}
 use Rattle.cw_rules.specs.Stands.{Stands}
 use Rattle.cw_rules.specs.Step.{Member, Stepped, cut_step, deliveries, deliveries_within, handing, member_notes, most_delivered, start, state_of, step, step_notes, stopped, taken, with_given, with_notes}
@@ -60,9 +60,9 @@ starts_handed r script low (suc len) = go (list_any (faults low) script) (starts
 -- all that is handed out, by starts and then by lines
 pub handed_parts : (r : Rules) (script : List Line) → handed_in r script ≡ opening_handed r script ++ handed_by r (opening r script) script
 handed_parts r script =
-    flat_map-append (λ (e : Entry). e.handed) (opening_entries r script) (entries_from r (opening r script) 2 script)
-    ∙ (ap (λ xs. xs ++ flat_map (λ (e : Entry). e.handed) (entries_from r (opening r script) 2 script)) (starts_handed r script 0 r.epochs.total)
-    ∙ ap (λ xs. opening_handed r script ++ xs) (steps_handed r (opening r script) 2 script))
+    flat_map-append (λ (e : Entry). e.handed) (opening_entries r script) (entries_from r (opening r script) (first_line r) script)
+    ∙ (ap (λ xs. xs ++ flat_map (λ (e : Entry). e.handed) (entries_from r (opening r script) (first_line r) script)) (starts_handed r script 0 r.epochs.total)
+    ∙ ap (λ xs. opening_handed r script ++ xs) (steps_handed r (opening r script) (first_line r) script))
 
 -- a block handed out by a member with these notes
 pub record Delivered (r : Rules) (notes : List Note) (x : Handed) : Type 0 where

@@ -59,7 +59,11 @@ entry_of r w number line = record {
   handed = option_map_or (λ done. done.handed) (done_by r w line) [];
 }
 
--- the entries of lines, one after another. Line 1 of a script is its header
+-- the line of the first event: a header is line 1, and one line more for each committee that it lists
+abbrev pub first_line : Rules → ℕ
+first_line r = option_map_or (λ span. 2 + length r.epochs.lists) r.epochs.span 2
+
+-- the entries of lines, one after another
 abbrev pub entries_from : Rules → World → ℕ → List Line → List Entry
 entries_from r w number [] = []
 entries_from r w number (line ∷ lines) = entry_of r w number line ∷ entries_from r (happens r w line) (number + 1) lines
@@ -76,7 +80,7 @@ opening_entries r script = filter_map (opening_entry r script) (range_with_len 0
 
 -- the entries of the opening, and then one for each line
 abbrev pub all_entries : Rules → List Line → List Entry
-all_entries r script = opening_entries r script ++ entries_from r (opening r script) 2 script
+all_entries r script = opening_entries r script ++ entries_from r (opening r script) (first_line r) script
 
 -- all that a script hands out
 abbrev pub handed_in : Rules → List Line → List Handed
@@ -99,7 +103,7 @@ acked_at at = option_map (λ m. record { member = at.0; live = m.live; height = 
 abbrev pub report_of : Rules → List Line → World → Report
 report_of r script w = record {
   opening = opening_entries r script;
-  steps = entries_from r (opening r script) 2 script;
+  steps = entries_from r (opening r script) (first_line r) script;
   acked = filter_map acked_at (enumerate_from 0 w.members);
   chain = chain_of r script w;
 }

@@ -77,6 +77,8 @@ pub fn the_next_epochs_leader_proposes()
     ensures sent { told_from 17 (world_of two_committees next_epoch).pool
         ≡ (2 ∷ 1 ∷ 0 ∷ 0 ∷ []) ∷ (2 ∷ 100 ∷ 0 ∷ 1 ∷ []) ∷ (2 ∷ 3 ∷ 0 ∷ 2 ∷ []) ∷ (2 ∷ 4 ∷ 0 ∷ 3 ∷ []) ∷ (2 ∷ 100 ∷ 1 ∷ 2 ∷ 0 ∷ 1 ∷ 1 ∷ 0 ∷ []) ∷ [] }
     ensures counts { counts (world_of two_committees next_epoch) ≡ (5, 1) ∷ (6, 1) ∷ (10, 2) ∷ (0, 1) ∷ (0, 1) ∷ [] }
+    // the header has two more lines, of the committees
+    ensures entries { steps_from 12 two_committees next_epoch ≡ (16, None, 17 ∷ 18 ∷ 19 ∷ 20 ∷ 21 ∷ [], []) ∷ [] }
 {}
 
 /// Two epochs end and a third begins, by two committees. Computed elsewhere by a program of its own.

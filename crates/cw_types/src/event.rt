@@ -91,3 +91,33 @@ pub struct StepOut {
     pub handed: Items<Handed>,
     pub tickets: Items<TicketOut>,
 }
+
+impl StepOut {
+    /// An equal answer.
+    pub fn copy(&self, alloc: Global) -> Result<StepOut, NoMemory>
+        ensures { IfOk result (λ copy. copy ≡ self.now) }
+    {
+        let sent = copy_outs(alloc, self.sent.as_slice())?;
+        let handed = Vec::from_slice(alloc, self.handed.as_slice())?;
+        let tickets = Vec::from_slice(alloc, self.tickets.as_slice())?;
+        Ok(StepOut {
+            sent,
+            handed: Items::from_vec(handed),
+            tickets: Items::from_vec(tickets),
+        })
+    }
+}
+
+fn copy_outs(alloc: Global, outs: &[Out]) -> Result<Items<Out>, NoMemory>
+    ensures { IfOk result (λ copy. copy ≡ outs.now) }
+{
+    let mut copies = Items::new(alloc);
+    for out in outs {
+        let message = out.message.copy(alloc)?;
+        copies.push(Out {
+            to: out.to,
+            message,
+        })?;
+    }
+    Ok(copies)
+}

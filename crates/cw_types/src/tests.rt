@@ -168,8 +168,29 @@ fn notes_and_messages_are_written_behind_their_tags(rt: HostRuntime) -> Result<(
     Ok(())
 }
 
+// what a step gives that sends a block and answers a ticket
+fn answered(alloc: Global) -> Result<StepOut, Fail> {
+    let mut sent = Items::new(alloc);
+    let message = Message::Block(first_block(alloc)?);
+    sent.push(Out {
+        to: To::One(2),
+        message,
+    })?;
+    let mut tickets = Items::new(alloc);
+    tickets.push(TicketOut {
+        number: 1,
+        commitment: Some(genesis_commitment::<SumHasher>()),
+    })?;
+    Ok(StepOut {
+        sent,
+        handed: Items::new(alloc),
+        tickets,
+    })
+}
+
 fn copied(alloc: Global) -> Result<bool, Fail> {
     let block = first_block(alloc)?;
+    let step = answered(alloc)?;
     let note = Note::Block(genesis_commitment::<SumHasher>(), block.copy(alloc)?);
     let event = Event::Deliver(Message::Block(block.copy(alloc)?));
     let proposed = Event::Propose(hi(alloc)?);
@@ -178,7 +199,8 @@ fn copied(alloc: Global) -> Result<bool, Fail> {
             && note == note.copy(alloc)?
             && event == event.copy(alloc)?
             && proposed == proposed.copy(alloc)?
-            && proposed != event,
+            && proposed != event
+            && step == step.copy(alloc)?,
     )
 }
 
