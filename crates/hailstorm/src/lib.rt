@@ -13,3 +13,6 @@ pub use program::{Exit, run_program};
 pub use report::{Acked, Entry, Report, Sent};
 pub use text::report_text;
 pub use world::World;
+
+#[cfg(test)]
+mod tests;
