@@ -1,0 +1,10 @@
+pub mod Joined
+pub mod LayoutLaws
+pub mod EncodingLaws
+pub mod IndexLaws
+pub mod OrderLaws
+pub mod DecodingLaws
+pub mod Heights
+pub mod CheckLaws
+pub mod AnyLaws
+pub mod CheckingLaws

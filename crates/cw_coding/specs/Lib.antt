@@ -1,4 +1,12 @@
 pub use Rattle.cw_tree.specs.Chunks
 pub use Rattle.cw_tree.specs.Tree
+pub use Rattle.cw_tree.specs.TreeRoots
 pub use Rattle.cw_tree.specs.Formats
 pub use Rattle.cw_tree.specs.Widths
+pub mod Layout
+pub mod Totals
+pub mod Checked
+pub mod Checking
+pub mod Encoding
+pub mod Decoding
+pub mod Laws

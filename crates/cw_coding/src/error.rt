@@ -4,7 +4,7 @@ ghost use Rattle.std.specs.Prelude.{◌≡◌};
 ghost use Rattle.cw_coding.specs.declared.error.ReedSolomonError.TheVariants as error;
 
 use cw_base::NoMemory;
-use std::alloc::AllocError;
+use std::alloc::{AllocError, AllocFailed};
 use thiserror::Error;
 
 /// What the code refuses in a shard.
@@ -68,6 +68,14 @@ impl From<AllocError> for ReedSolomonError {
     ghost from_gives = { λ _ e. e ≡ error.NoMemory };
 
     fn from(_error: AllocError) -> ReedSolomonError {
+        ReedSolomonError::NoMemory
+    }
+}
+
+impl<T: Drop> From<AllocFailed<T>> for ReedSolomonError {
+    ghost from_gives = { λ _ e. e ≡ error.NoMemory };
+
+    fn from(_error: AllocFailed<T>) -> ReedSolomonError {
         ReedSolomonError::NoMemory
     }
 }

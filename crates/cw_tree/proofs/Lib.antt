@@ -1,3 +1,2 @@
-pub mod WidthLaws
 pub mod ReadLoop
 pub mod TreeLaws

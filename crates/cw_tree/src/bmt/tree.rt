@@ -39,7 +39,7 @@ impl<H: Hasher> Builder<H> {
 
     /// All digests at once. Takes no memory.
     pub fn of(digests: Items<H::Digest>) -> Builder<H>
-        requires { length digests ≤ 2 ^ 32 - 1 }
+        requires few { length digests ≤ 2 ^ 32 - 1 }
         ensures { result ≡ digests }
     {
         Builder {
@@ -50,7 +50,7 @@ impl<H: Hasher> Builder<H> {
 
     /// Adds a digest behind the others. Where memory is short nothing changes.
     pub fn add(&mut self, digest: &H::Digest) -> Result<(), NoMemory>
-        requires { length self.old < 2 ^ 32 - 1 }
+        requires room { length self.old < 2 ^ 32 - 1 }
         ensures ok { OnOk result (self.new ≡ self.old ++ digest.now ∷ []) }
         ensures err { OnErr result (self.new ≡ self.old) }
     {
@@ -60,7 +60,7 @@ impl<H: Hasher> Builder<H> {
 
     /// The tree over the digests that were added.
     pub fn build(self, alloc: Global) -> Result<Tree<H>, NoMemory>
-        requires { 0 < length self }
+        requires some { 0 < length self }
         ensures { IfOk result (λ tree. tree ≡ self) }
     {
         let count = self.digests.len() as u32;
@@ -101,7 +101,7 @@ impl<H: Hasher> Tree<H> {
 
     /// The way up from leaf `index`.
     pub fn proof(&self, alloc: Global, index: u32) -> Result<Proof<H::Digest>, NoMemory>
-        requires { index < length self.now }
+        requires within { index < length self.now }
         ensures leaf_count { IfOk result (λ p. p.leaf_count ≡ length self.now) }
         ensures siblings { IfOk result (λ p. p.siblings ≡ path_of H.digest_of H.Digest.content index self.now) }
     {

@@ -8,7 +8,7 @@ top_over-requires-clause-some g c =
     let hash = g.H.Hasher.digest_of in
     let content = g.H.Digest.Digest.content in
     let is : c.in_ok-leaves.leaves ≡ leaves_from hash content 0 c.self.inside.digests = rw c.as_slice.ensures at c.in_ok-leaves.ensures in
-    omega (arith, ap length is, length-leaves hash content 0 c.self.inside.digests, ap length c.self.view_is, c.requires)
+    omega (arith, ap length is, length-leaves hash content 0 c.self.inside.digests, ap length c.self.view_is, c.requires.some)
 
 pub invariant_of-result : goal.invariant_of-result
 invariant_of-result g c =

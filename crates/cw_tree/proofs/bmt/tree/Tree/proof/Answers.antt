@@ -8,7 +8,7 @@ path_over-requires-clause-within g c =
     let hash = g.H.Hasher.digest_of in
     let content = g.H.Digest.Digest.content in
     let is : c.in_ok-leaves.leaves ≡ leaves_from hash content 0 c.self.inside.digests = rw c.as_slice.ensures at c.in_ok-leaves.ensures in
-    omega (arith, ap length is, length-leaves hash content 0 c.self.inside.digests, ap length c.self.view_is, c.requires)
+    omega (arith, ap length is, length-leaves hash content 0 c.self.inside.digests, ap length c.self.view_is, c.requires.within)
 
 pub returns-clause-siblings : goal.returns-clause-siblings
 returns-clause-siblings g c =

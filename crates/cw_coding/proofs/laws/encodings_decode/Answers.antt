@@ -1,0 +1,15 @@
+use Rattle.cw_coding.proofs.CheckingLaws.{checks, fits}
+use Rattle.cw_coding.proofs.AnyLaws.{decoded_to}
+use Rattle.cw_coding.proofs.laws.encodings_decode.Goals as goal
+
+pub returns : goal.returns
+returns g c =
+    let hash = g.H.Hasher.digest_of in
+    let content = g.H.Digest.Digest.content in
+    let laws = g.met.H.Hasher g.world.𝓛 g.world.𝓜 g.world.𝓡 ((λ s x. x), (λ x. x), (λ x. x), λ x. x) in
+    record {
+      checks = λ c t r ps some e i p at. checks hash content c t r ps some e i p at;
+      fits = λ c t r ps most levels some e short height i p at. fits hash content c t r ps some e i p at g.H.Digest.Digest.SIZE most levels laws.sized short height;
+      any_enough = λ s t r ps chunks some bytes e of sound enough.
+          decoded_to hash content s t r ps chunks some bytes e of sound enough c.prove_rows.ensures.originals c.prove_rows.ensures.any_rows;
+    }

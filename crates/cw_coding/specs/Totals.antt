@@ -1,0 +1,11 @@
+-- How many shards a config has, and how wide they may be.
+use Rattle.std.specs.Prelude.{ℕ, ◌+◌, ◌-◌, ◌*◌, ◌^◌, ◌≤◌}
+use Rattle.cw_base.specs.Shards.{Shards}
+
+abbrev pub total_of : Shards → ℕ
+total_of c = c.minimum + c.extra
+
+-- a width that so many shards can have
+pub record IsWidth (total width : ℕ) : Type 0 where
+  pub narrow : width ≤ 2 ^ 32 - 1
+  pub room : total * width ≤ 2 ^ 63 - 1

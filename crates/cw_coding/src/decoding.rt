@@ -1,0 +1,67 @@
+//! From chunks to the text that they come of.
+
+ghost use Rattle.std.specs.Prelude.{◌≡◌, ◌⊎◌, map, IfOk, IfErr};
+ghost use Rattle.std.specs.Iterator.{IsFinite, Drains};
+ghost use Rattle.cw_coding.specs.Decoding.{AreDecodable, IsDecoding, IsRefusal};
+
+use crate::checking::CheckedChunk;
+use crate::encoding::{extra, minimum};
+use crate::error::ReedSolomonError;
+use crate::gathering::{decodable, gathered, ordered};
+use crate::recovering::recovered;
+use cw_base::{Config, Hasher, Strategy};
+use std::alloc::Global;
+use std::thread::Threads;
+
+// The text that chunks come of.
+fn decode_chunks<H: Hasher, R: Threads + Sync, S: Strategy>(
+    rt: &R,
+    alloc: Global,
+    config: &Config,
+    commitment: &H::Digest,
+    shards: &[CheckedChunk<H>],
+    strategy: &S,
+) -> Result<Vec<u8>, ReedSolomonError>
+    ensures decoded { IfOk result (λ text. AreDecodable config.now commitment.now shards.now
+        × IsDecoding H.digest_of H.Digest.content config.now commitment.now shards.now text.items) }
+    ensures refused { IfErr result (λ e. IsRefusal H.digest_of H.Digest.content config.now commitment.now shards.now e) }
+{
+    let width = match decodable::<H>(config, commitment, shards) {
+        Ok(width) => width,
+        Err(error) => return Err(error),
+    };
+    let k = minimum(config);
+    let m = extra(config);
+    let given = ordered::<H>(alloc, k, shards)?;
+    match recovered::<H, R, S>(rt, alloc, k, m, commitment, width, &given, strategy)? {
+        Some(text) => Ok(text),
+        None => Err(ReedSolomonError::Inconsistent),
+    }
+}
+
+// The text that the chunks of an iterator come of.
+pub(crate) fn decode_text<
+    'a,
+    H: Hasher + 'a,
+    I: Iterator<Item = &'a CheckedChunk<H>> + Drop,
+    R: Threads + Sync,
+    S: Strategy,
+>(
+    rt: &R,
+    alloc: Global,
+    config: &Config,
+    commitment: &H::Digest,
+    shards: I,
+    strategy: &S,
+) -> Result<Vec<u8>, ReedSolomonError>
+    requires can { I.can_next shards }
+    requires ends { IsFinite (I.remaining shards) }
+    ensures decoded { IfOk result (λ text. (given : _) × Drains I.next_gives shards given
+        × AreDecodable config.now commitment.now (map (λ chunk. chunk.now) given)
+        × IsDecoding H.digest_of H.Digest.content config.now commitment.now (map (λ chunk. chunk.now) given) text.items) }
+    ensures refused { IfErr result (λ e. (e ≡ ReedSolomonError.NoMemory) ⊎ ((given : _) × Drains I.next_gives shards given
+        × IsRefusal H.digest_of H.Digest.content config.now commitment.now (map (λ chunk. chunk.now) given) e)) }
+{
+    let chunks = gathered::<H, I>(alloc, shards)?;
+    decode_chunks::<H, R, S>(rt, alloc, config, commitment, &chunks, strategy)
+}

@@ -1,0 +1,144 @@
+//! From data to chunks.
+
+ghost use Rattle.std.specs.Prelude.{◌≡◌, ℕ, ◌+◌, ◌-◌, ◌*◌, ◌^◌, ◌<◌, ◌≤◌, ◌↔◌, List, length, IfOk, IfErr, IsTrue, MatchResult};
+ghost use Rattle.rs_code.specs.Rows.{row_of};
+ghost use Rattle.cw_base.specs.Rows.{listed, row_hashes};
+ghost use Rattle.cw_tree.specs.Tree.{path_of};
+ghost use Rattle.cw_coding.specs.Totals.{total_of};
+ghost use Rattle.cw_coding.specs.Encoding.{IsCodable, IsEncodeRefusal, IsEncoding};
+
+use crate::error::ReedSolomonError;
+use crate::layout::rows_of_text;
+use bytes::Bytes;
+use cw_base::{Config, Hasher, Items, NoMemory, Strategy};
+use cw_tree::bmt::{Builder, Tree};
+use cw_tree::{Chunk, canonical_shard_len};
+use std::alloc::Global;
+use std::thread::Threads;
+
+pub(crate) fn minimum(config: &Config) -> u16
+    ensures value { result ≡ config.now.minimum }
+    ensures some { 1 ≤ result }
+{
+    config.minimum_shards.get()
+}
+
+pub(crate) fn extra(config: &Config) -> u16
+    ensures value { result ≡ config.now.extra }
+    ensures some { 1 ≤ result }
+{
+    config.extra_shards.get()
+}
+
+// Whether data of so many bytes is encoded.
+pub(crate) fn is_codable(config: &Config, length: usize) -> bool
+    requires total { total_of config.now ≤ 65535 }
+    ensures { IsTrue result ↔ IsCodable config.now length }
+{
+    if length > 0xffff_ffff {
+        return false;
+    }
+    let width = canonical_shard_len(length, minimum(config));
+    width <= 0xffff_ffff && config.total_shards() as usize * width <= isize::MAX as usize
+}
+
+// The tree over the digests of so many rows of one width.
+pub(crate) fn tree_of_rows<H: Hasher, R: Threads + Sync, S: Strategy>(
+    rt: &R,
+    alloc: Global,
+    rows: &[u8],
+    width: usize,
+    count: u16,
+    strategy: &S,
+) -> Result<Tree<H>, NoMemory>
+    requires positive { 0 < width }
+    requires some { 1 ≤ count }
+    requires rows { length rows.now ≡ count * width }
+    ensures digests { IfOk result (λ tree. tree ≡ row_hashes H.digest_of width rows.now) }
+    ensures leaves { IfOk result (λ tree. length tree ≡ count) }
+{
+    let digests = H::hash_many(rt, alloc, rows, width, strategy)?;
+    let tree = Builder::<H>::of(Items::from_vec(digests)).build(alloc)?;
+    Ok(tree)
+}
+
+// The chunk of one row.
+fn cut_one<H: Hasher>(
+    alloc: Global,
+    tree: &Tree<H>,
+    rows: &Bytes,
+    width: usize,
+    i: u16,
+) -> Result<Chunk<H::Digest>, NoMemory>
+    requires leaf { i < length tree.now }
+    requires row { i * width + width ≤ length rows.now }
+    requires room { length rows.now ≤ 2 ^ 63 - 1 }
+    ensures { IfOk result (λ chunk. chunk ≡ record {
+      shard = row_of rows.now width i;
+      index = i;
+      leaf_count = length tree.now;
+      siblings = path_of H.digest_of H.Digest.content i tree.now;
+    }) }
+{
+    let start = usize::from(i) * width;
+    let shard = rows.slice(start..start + width)?;
+    let proof = tree.proof(alloc, u32::from(i))?;
+    Ok(Chunk::new(shard, i, proof))
+}
+
+// The chunks of rows, which share the bytes of the rows.
+fn cut<H: Hasher>(
+    alloc: Global,
+    tree: &Tree<H>,
+    rows: &Bytes,
+    width: usize,
+    count: u16,
+) -> Result<Vec<Chunk<H::Digest>>, NoMemory>
+    requires leaves { length tree.now ≡ count }
+    requires rows { length rows.now ≡ count * width }
+    requires room { count * width ≤ 2 ^ 63 - 1 }
+    ensures { IfOk result (λ chunks. chunks.items ≡ listed count (λ i. record {
+      shard = row_of rows.now width i;
+      index = i;
+      leaf_count = length tree.now;
+      siblings = path_of H.digest_of H.Digest.content i tree.now;
+    })) }
+{
+    let mut chunks = Vec::new(alloc);
+    for i in 0..count {
+        let chunk = cut_one::<H>(alloc, tree, rows, width, i)?;
+        chunks.push(chunk)?;
+    }
+    Ok(chunks)
+}
+
+// The root of a text, and its chunks in the order of their indices.
+pub(crate) fn encode_text<H: Hasher, R: Threads + Sync, S: Strategy>(
+    rt: &R,
+    alloc: Global,
+    config: &Config,
+    input: &[u8],
+    strategy: &S,
+) -> Result<(H::Digest, Vec<Chunk<H::Digest>>), ReedSolomonError>
+    ensures encoded { IfOk result (λ r. IsEncoding H.digest_of H.Digest.content config.now input.now r.0 r.1.items) }
+    ensures refused { IfErr result (λ e. IsEncodeRefusal config.now (length input.now) e) }
+{
+    let total = config.total_shards();
+    if total > 65535 {
+        return Err(ReedSolomonError::TooManyTotalShards(total));
+    }
+    if !is_codable(config, input.len()) {
+        return Err(ReedSolomonError::InvalidDataLength(input.len()));
+    }
+    let k = minimum(config);
+    let m = extra(config);
+    let rows = rows_of_text(rt, alloc, k, m, input, strategy)?;
+    let width = canonical_shard_len(input.len(), k);
+    let tree = tree_of_rows::<H, R, S>(rt, alloc, &rows, width, total as u16, strategy)?;
+    let shared = match Bytes::from_vec(rows) {
+        Ok(shared) => shared,
+        Err(_) => return Err(ReedSolomonError::NoMemory),
+    };
+    let chunks = cut::<H>(alloc, &tree, &shared, width, total as u16)?;
+    Ok((tree.root(), chunks))
+}

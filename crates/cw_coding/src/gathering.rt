@@ -1,0 +1,213 @@
+//! The chunks that are decoded: which fit together, and in which order they are used.
+
+ghost use Rattle.std.specs.Prelude.{◌≡◌, ℕ, ◌+◌, ◌-◌, ◌*◌, ◌^◌, ◌<◌, ◌≤◌, ◌==◌, [], ◌∷◌, ◌++◌, ◌↔◌, List, length, take, map, filter, nat_lt, not, if◌then◌else◌, IfOk, OnOk, IsTrue, MatchResult, Contains};
+ghost use Rattle.std.specs.List.{flat_map};
+ghost use Rattle.std.specs.Iterator.{IsFinite, Drains};
+ghost use Rattle.cw_coding.specs.Totals.{IsWidth};
+ghost use Rattle.cw_coding.specs.Decoding.{IsMisfit, IsFirstMisfit, FitTogether, IsChunkRefusal, AreDecodable, indices_of, in_order, compared, width_of};
+
+use crate::checking::CheckedChunk;
+use crate::error::{ReedSolomonError, RsError};
+use cw_base::{Config, Digest, Hasher, NoMemory, put_bytes};
+use std::alloc::Global;
+
+// The chunks that an iterator gives, which share their bytes with those.
+pub(crate) fn gathered<'a, H: Hasher + 'a, I: Iterator<Item = &'a CheckedChunk<H>> + Drop>(
+    alloc: Global,
+    shards: I,
+) -> Result<Vec<CheckedChunk<H>>, NoMemory>
+    requires can { I.can_next shards }
+    requires ends { IsFinite (I.remaining shards) }
+    ensures { IfOk result (λ v. (given : _) × Drains I.next_gives shards given × (v.items ≡ map (λ chunk. chunk.now) given)) }
+{
+    let mut chunks = Vec::new(alloc);
+    for chunk in shards {
+        chunks.push(chunk.copy(alloc)?)?;
+    }
+    Ok(chunks)
+}
+
+// Whether a chunk of this index is among these.
+fn was_given<H: Hasher>(before: &[CheckedChunk<H>], index: u16) -> bool
+    ensures { IsTrue result ↔ Contains (indices_of before.now) index }
+{
+    for chunk in before {
+        if chunk.index() == index {
+            return true;
+        }
+    }
+    false
+}
+
+// Why a chunk is refused beside those before it.
+fn misfit<H: Hasher>(
+    total: u32,
+    root: &H::Digest,
+    width: usize,
+    before: &[CheckedChunk<H>],
+    chunk: &CheckedChunk<H>,
+) -> Result<(), ReedSolomonError>
+    ensures { MatchResult result
+        (λ _. (chunk.now.root ≡ root.now) × (length chunk.now.shard ≡ width) × (chunk.now.index < total) × (Contains (indices_of before.now) chunk.now.index → ⊥))
+        (λ e. IsMisfit total root.now width before.now chunk.now e) }
+{
+    if !chunk.root().is_same(root) {
+        return Err(ReedSolomonError::CommitmentMismatch);
+    }
+    if chunk.shard().len() != width {
+        return Err(ReedSolomonError::Inconsistent);
+    }
+    let index = chunk.index();
+    if u32::from(index) >= total {
+        return Err(ReedSolomonError::InvalidIndex(index));
+    }
+    if was_given(before, index) {
+        return Err(ReedSolomonError::DuplicateIndex(index));
+    }
+    Ok(())
+}
+
+// Whether shards can have this width.
+fn is_width(total: u32, width: usize) -> bool
+    requires { total ≤ 65535 }
+    ensures { IsTrue result ↔ IsWidth total width }
+{
+    width <= 0xffff_ffff && total as usize * width <= isize::MAX as usize
+}
+
+// Refuses the first chunk that doesn't fit those before it.
+fn fitting<H: Hasher>(
+    total: u32,
+    root: &H::Digest,
+    width: usize,
+    shards: &[CheckedChunk<H>],
+) -> Result<(), ReedSolomonError>
+    ensures { MatchResult result
+        (λ _. FitTogether total root.now width shards.now)
+        (λ e. IsFirstMisfit total root.now width shards.now e) }
+{
+    for (place, chunk) in shards.iter().enumerate() {
+        if let Err(error) = misfit::<H>(total, root, width, &shards[..place], chunk) {
+            return Err(error);
+        }
+    }
+    Ok(())
+}
+
+// The width of chunks that can be decoded.
+pub(crate) fn decodable<H: Hasher>(
+    config: &Config,
+    root: &H::Digest,
+    shards: &[CheckedChunk<H>],
+) -> Result<usize, ReedSolomonError>
+    ensures { MatchResult result
+        (λ w. (w ≡ width_of shards.now) × AreDecodable config.now root.now shards.now)
+        (λ e. IsChunkRefusal config.now root.now shards.now e) }
+{
+    let total = config.total_shards();
+    if total > 65535 {
+        return Err(ReedSolomonError::TooManyTotalShards(total));
+    }
+    let Some(first) = shards.first() else {
+        return Err(ReedSolomonError::NotEnoughChunks);
+    };
+    let width = first.shard().len();
+    if !is_width(total, width) {
+        return Err(ReedSolomonError::ReedSolomon(RsError::InvalidShardSize { shard_bytes: width }));
+    }
+    if let Err(error) = fitting::<H>(total, root, width, shards) {
+        return Err(error);
+    }
+    if shards.len() < usize::from(config.minimum_shards.get()) {
+        return Err(ReedSolomonError::NotEnoughChunks);
+    }
+    Ok(width)
+}
+
+// Adds a chunk's index and shard, where it is taken.
+fn put_if<H: Hasher>(
+    taken: bool,
+    indices: &mut Vec<u16>,
+    rows: &mut Vec<u8>,
+    chunk: &CheckedChunk<H>,
+) -> Result<(), NoMemory>
+    ensures indices { OnOk result (indices.new.items ≡ (if taken then indices.old.items ++ chunk.now.index ∷ [] else indices.old.items)) }
+    ensures rows { OnOk result (rows.new.items ≡ (if taken then rows.old.items ++ chunk.now.shard else rows.old.items)) }
+{
+    if taken {
+        indices.push(chunk.index())?;
+        put_bytes(rows, chunk.shard())?;
+    }
+    Ok(())
+}
+
+// Adds the originals.
+fn put_originals<H: Hasher>(
+    k: u16,
+    indices: &mut Vec<u16>,
+    rows: &mut Vec<u8>,
+    shards: &[CheckedChunk<H>],
+) -> Result<(), NoMemory>
+    ensures indices { OnOk result (indices.new.items ≡ indices.old.items ++ indices_of (filter (λ c. nat_lt c.index k) shards.now)) }
+    ensures rows { OnOk result (rows.new.items ≡ rows.old.items ++ flat_map (λ c. c.shard) (filter (λ c. nat_lt c.index k) shards.now)) }
+{
+    for chunk in shards {
+        put_if::<H>(chunk.index() < k, indices, rows, chunk)?;
+    }
+    Ok(())
+}
+
+// Adds the recoveries.
+fn put_recoveries<H: Hasher>(
+    k: u16,
+    indices: &mut Vec<u16>,
+    rows: &mut Vec<u8>,
+    shards: &[CheckedChunk<H>],
+) -> Result<(), NoMemory>
+    ensures indices { OnOk result (indices.new.items ≡ indices.old.items ++ indices_of (filter (λ c. not (nat_lt c.index k)) shards.now)) }
+    ensures rows { OnOk result (rows.new.items ≡ rows.old.items ++ flat_map (λ c. c.shard) (filter (λ c. not (nat_lt c.index k)) shards.now)) }
+{
+    for chunk in shards {
+        put_if::<H>(!(chunk.index() < k), indices, rows, chunk)?;
+    }
+    Ok(())
+}
+
+// Chunks in the order in which they are used.
+#[derive(Drop)]
+pub(crate) struct Given {
+    pub(crate) indices: Vec<u16>,
+    pub(crate) rows: Vec<u8>,
+    pub(crate) compared: usize,
+}
+
+pub(crate) fn ordered<H: Hasher>(
+    alloc: Global,
+    k: u16,
+    shards: &[CheckedChunk<H>],
+) -> Result<Given, NoMemory>
+    ensures indices { IfOk result (λ given. given.indices.items ≡ indices_of (in_order k shards.now)) }
+    ensures rows { IfOk result (λ given. given.rows.items ≡ flat_map (λ c. c.shard) (in_order k shards.now)) }
+    ensures compared { IfOk result (λ given. given.compared ≡ compared k shards.now) }
+{
+    let mut indices = Vec::new(alloc);
+    let mut rows = Vec::new(alloc);
+    put_originals::<H>(k, &mut indices, &mut rows, shards)?;
+    let compared = compared_of(indices.len(), shards.len(), k);
+    put_recoveries::<H>(k, &mut indices, &mut rows, shards)?;
+    Ok(Given {
+        indices,
+        rows,
+        compared,
+    })
+}
+
+fn compared_of(originals: usize, chunks: usize, k: u16) -> usize
+    ensures { result ≡ (if originals == k then chunks else k) }
+{
+    if originals == usize::from(k) {
+        chunks
+    } else {
+        usize::from(k)
+    }
+}

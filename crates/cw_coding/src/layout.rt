@@ -1,0 +1,64 @@
+//! The layout of data in shards, and the rows of its codeword.
+
+ghost use Rattle.std.specs.Prelude.{◌≡◌, ℕ, ◌+◌, ◌-◌, ◌*◌, ◌^◌, ◌<◌, ◌≤◌, ◌%◌, ◌++◌, length, replicate, IfOk, OnOk};
+ghost use Rattle.rs_code.specs.Rows.{joined, code_row};
+ghost use Rattle.cw_tree.specs.Widths.{shard_len};
+ghost use Rattle.cw_coding.specs.Layout.{layout, row_at};
+
+use cw_base::{NoMemory, Strategy, put_be32, put_bytes};
+use cw_tree::canonical_shard_len;
+use rs_code::extend;
+use rs_code::laws::prove_rows;
+use std::alloc::Global;
+use std::thread::Threads;
+
+// Adds zeros at the end.
+fn put_zeros(out: &mut Vec<u8>, count: usize) -> Result<(), NoMemory>
+    requires { count < 2 ^ 63 }
+    ensures { OnOk result (out.new.items ≡ out.old.items ++ replicate count 0) }
+{
+    let size = out.len() + count;
+    out.resize(size, 0)?;
+    Ok(())
+}
+
+// The text's length, the text, and zeros up to `k` shards of this width.
+#[tactic(auto, unfolding(crate::specs::Layout::layout))]
+pub(crate) fn lay_out(alloc: Global, k: u16, width: usize, text: &[u8]) -> Result<Vec<u8>, NoMemory>
+    requires short { length text.now ≤ 2 ^ 32 - 1 }
+    requires some { 1 ≤ k }
+    requires width { width ≡ shard_len (length text.now) k }
+    requires covers { length text.now + 4 ≤ k * width }
+    requires fits { k * width < 2 ^ 63 }
+    ensures { IfOk result (λ v. v.items ≡ layout k text.now) }
+{
+    let mut out = Vec::new(alloc);
+    put_be32(&mut out, text.len() as u32)?;
+    put_bytes(&mut out, text)?;
+    put_zeros(&mut out, usize::from(k) * width - (text.len() + 4))?;
+    Ok(out)
+}
+
+// All rows of the text's codeword, end to end.
+pub(crate) fn rows_of_text<R: Threads + Sync, S: Strategy>(
+    rt: &R,
+    alloc: Global,
+    k: u16,
+    m: u16,
+    text: &[u8],
+    strategy: &S,
+) -> Result<Vec<u8>, NoMemory>
+    requires short { length text.now ≤ 2 ^ 32 - 1 }
+    requires some { 1 ≤ k }
+    requires more { 1 ≤ m }
+    requires total { k + m ≤ 65535 }
+    ensures value { IfOk result (λ v. v.items ≡ joined (k + m) (row_at k text.now)) }
+    ensures long { IfOk result (λ v. length v.items ≡ (k + m) * shard_len (length text.now) k) }
+{
+    let width = canonical_shard_len(text.len(), k);
+    let mut rows = lay_out(alloc, k, width, text)?;
+    let recovery = extend(rt, alloc, k, m, &rows, width, strategy)?;
+    prove_rows();
+    put_bytes(&mut rows, &recovery)?;
+    Ok(rows)
+}
