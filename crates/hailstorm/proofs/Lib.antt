@@ -3,3 +3,4 @@ pub mod Pieces
 pub mod Turning
 pub mod Running
 pub mod Meaning
+pub mod OneReport

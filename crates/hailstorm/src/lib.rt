@@ -1,6 +1,7 @@
 //! The cluster that a script runs, what is reported of the run, and the program from bytes to bytes.
 #![tactic(auto)]
 
+mod laws;
 mod program;
 mod reading;
 mod report;
@@ -9,6 +10,7 @@ mod turn;
 mod world;
 
 pub use hail_script::{Ask, EventLine, RunError, Script};
+pub use laws::one_report;
 pub use program::{Exit, run_program};
 pub use report::{Acked, Entry, Report, Sent};
 pub use text::report_text;
