@@ -8,7 +8,7 @@ use Rattle.cw_base.specs.Rows.{listed}
 use Rattle.cw_base.specs.Shards.{Shards}
 use Rattle.rs_code.specs.Rows.{code_row, joined, row_through}
 use Rattle.cw_tree.specs.Tree.{path_of, root_by, root_of}
-use Rattle.cw_rules_coded.specs.Layout.{row_at}
+use Rattle.cw_coding.specs.Layout.{row_at}
 use Rattle.cw_types.specs.Block.{Block}
 use Rattle.cw_types.specs.Commit.{empty_digest}
 use Rattle.cw_types.specs.Encoding.{block_bytes, context_bytes}

@@ -1,13 +1,16 @@
 //! The cluster rules over what the code has: the real codeword, the real tree and the real bytes.
 #![tactic(auto)]
 
-ghost use Rattle.std.specs.Prelude.{◌≡◌, ℕ, Bool, List, Option, Some};
+ghost use Rattle.std.specs.Prelude.{◌≡◌, ℕ, Bool, List, Option, Some, length, replicate};
 ghost use Rattle.cw_base.specs.declared.hash.Digest32.{Digest32};
 ghost use Rattle.cw_types.specs.Block.{Block};
 ghost use Rattle.cw_types.specs.Encoding.{block_bytes};
 ghost use Rattle.cw_types.specs.Epochs.{Epochs};
 ghost use Rattle.cw_rules.specs.Coding.{IsCoder};
+ghost use Rattle.cw_rules.specs.Rules.{config, digest, genesis};
 ghost use Rattle.cw_rules_coded.specs.Coded.{coded};
+ghost use Rattle.cw_rules_coded.specs.Sums.{hi_block, summed};
+ghost use Rattle.cw_tree.specs.Widths.{shard_len};
 
 use rs_code::laws::prove_rows;
 
@@ -21,3 +24,14 @@ pub fn coded_laws()
 {
     prove_rows();
 }
+
+/// Under the hash that adds up: the digests of genesis and of the block of view 1 with the payload
+/// "hi", how many bytes that block has, how wide its shards are, and in how many it is cut.
+#[tactic(auto, unfolding(cw_types::specs::Encoding::block_bytes, cw_types::specs::Encoding::context_bytes, cw_types::specs::Encoding::commitment_bytes, cw_base::specs::Config::config_bytes, cw_base::specs::Bytes::be64, cw_base::specs::Bytes::be16, cw_base::specs::Bytes::varint, cw_tree::specs::Widths::shard_len))]
+pub fn worked_block()
+    ensures genesis { digest summed (genesis summed) ≡ record { 0 = replicate 32 2 } }
+    ensures block { digest summed hi_block ≡ record { 0 = replicate 32 216 } }
+    ensures size { length (block_bytes hi_block) ≡ 169 }
+    ensures width { shard_len (length (block_bytes hi_block)) 2 ≡ 88 }
+    ensures config { config summed 0 ≡ record { minimum = 2; extra = 2 } }
+{}
