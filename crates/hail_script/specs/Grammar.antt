@@ -3,7 +3,6 @@ use Rattle.std.specs.Prelude.{ℕ, ◌+◌, ◌^◌, ◌&&◌, nat_lt, nat_le, i
 use Rattle.hail_script.specs.declared.error.RunError.{RunError}
 use Rattle.hail_script.specs.declared.error.RunError.TheVariants.{Syntax, BadCommittee, UnknownMember}
 use Rattle.hail_script.specs.declared.event.EventLine.{EventLine}
-use Rattle.hail_script.specs.declared.event.Ask.{Ask}
 use Rattle.hail_script.specs.declared.event.Ask.TheVariants.{Propose, Deliver}
 use Rattle.hail_script.specs.Pieces.{lines, fields, number, payload}
 use Rattle.hail_script.specs.Scenario.{Scenario}

@@ -1,7 +1,7 @@
 -- What the program answers, from what its parts do.
-use Rattle.std.proofs.Common.{◌≡◌, ℕ, ◌<◌, ◌≤◌, Bool, true, false, List, ◌++◌, length, Option, Some, None, Result, Ok, Err, refl, sym, ◌∙◌, ap, subst, inl, inr, append-nil}
-use Rattle.std.specs.Prelude.{◌⊎◌, nat_lt, MatchBool}
-use Rattle.std.specs.Io.KnownBytes.{Appends, Consumes, IsAtEnd, Keeps}
+use Rattle.std.proofs.Common.{◌≡◌, ℕ, ◌≤◌, Bool, List, length, Option, Some, None, Result, sym, ◌∙◌, subst, inl, inr, append-nil}
+use Rattle.std.specs.Prelude.{MatchBool}
+use Rattle.std.specs.Io.KnownBytes.{Appends, Consumes, IsAtEnd}
 use Rattle.std.proofs.lemmas.Bool.{le-ltb}
 use Rattle.cw_base.specs.declared.hash.Digest32.{Digest32}
 use Rattle.hail_script.specs.declared.error.RunError.{RunError}
@@ -9,12 +9,11 @@ use Rattle.hail_script.specs.Grammar.{script_of}
 use Rattle.hail_script.specs.Scenario.{Scenario}
 use Rattle.hailstorm.specs.declared.program.Exit.{Exit}
 use Rattle.hailstorm.specs.declared.program.Exit.TheVariants.{Done, Usage, TooLong, Refused, ReadFault, WriteFault, NoMemory}
-use Rattle.hailstorm.specs.Headline.{Answers, AnswersScript, Means, Finishes, IsCutShort, IsDone, IsDue}
+use Rattle.hailstorm.specs.Headline.{Answers, AnswersScript, Means, Finishes, IsDue}
 use Rattle.hailstorm.specs.Outcome.{IsReport}
 use Rattle.hailstorm.specs.Reading.{script_limit}
 use Rattle.hailstorm.specs.Text.{report_text, too_long_line}
 use Rattle.hailstorm.specs.World.{Outcome}
-use Rattle.hailstorm.specs.Writing.{WritesFront}
 
 module _ (hash : List ℕ → Digest32) {R : Type 0} (outcome : R → Outcome) (script : List ℕ) (held written : Option (List ℕ)) where
   pub done_answer : (w later : ℕ) (report : R) (text : List ℕ) (result : Exit R) → IsReport hash script (outcome report) → text ≡ report_text hash (outcome report) → Finishes held written w later text (Done report) result → Answers hash outcome script held written result

@@ -17,7 +17,7 @@ use Rattle.hail_script.specs.declared.event.EventLine.{EventLine}
 use Rattle.hail_script.specs.Scenario.{Scenario}
 use Rattle.hailstorm.specs.declared.report.Entry.{Entry}
 use Rattle.hailstorm.specs.declared.report.Sent.{Sent}
-use Rattle.hailstorm.specs.Turn.{Takes, Acts, Idles, IsTurn, event_for, entry_of, signs_in}
+use Rattle.hailstorm.specs.Turn.{Takes, Acts, event_for, entry_of, signs_in}
 use Rattle.hailstorm.specs.World.{Outcome, IsRun, Plays, standings_from}
 
 some_same : {X : Type 0} (o : Option X) (x y : X) → o ≡ Some x → o ≡ Some y → x ≡ y

@@ -1,5 +1,5 @@
 -- A run, from what its parts give.
-use Rattle.std.proofs.Common.{◌≡◌, ℕ, zero, suc, ◌+◌, ◌-◌, List, [], ◌∷◌, ◌++◌, length, map, Option, Some, None, Ok, refl, sym, ap, ◌∙◌, subst, arith, length-append}
+use Rattle.std.proofs.Common.{◌≡◌, ℕ, zero, suc, ◌+◌, List, [], ◌∷◌, ◌++◌, length, map, Option, Some, None, Ok, refl, sym, ap, ◌∙◌, subst, arith, length-append}
 use Rattle.std.specs.Prelude.{option_map}
 use Rattle.std.specs.List.{flat_map, AllByRecursion}
 use Rattle.cw_base.specs.declared.hash.Digest32.{Digest32}
@@ -19,7 +19,7 @@ use Rattle.hailstorm.specs.declared.report.Entry.{Entry}
 use Rattle.hailstorm.specs.declared.report.Sent.{Sent}
 use Rattle.hailstorm.specs.Outcome.{IsReport, IsLink, handed_in}
 use Rattle.hailstorm.specs.Seats.{members_in}
-use Rattle.hailstorm.specs.Turn.{Takes, Acts, Idles, event_for}
+use Rattle.hailstorm.specs.Turn.{Takes, event_for}
 use Rattle.hailstorm.specs.World.{Outcome, IsRun, Plays, below, opening_entry}
 
 -- live nodes are the members that they are

@@ -1,13 +1,11 @@
 -- What a report tells, and when it is that of a text.
-use Rattle.std.specs.Prelude.{◌≡◌, ℕ, List, ◌++◌, length, map, option_map, Option, Some, Ok}
+use Rattle.std.specs.Prelude.{◌≡◌, ℕ, List, ◌++◌, length, map, option_map, Some, Ok}
 use Rattle.std.specs.List.{flat_map, AllByRecursion}
 use Rattle.std.specs.Prelude.{slice_get}
 use Rattle.cw_base.specs.declared.hash.Digest32.{Digest32}
 use Rattle.cw_types.specs.Block.{Block}
 use Rattle.cw_types.specs.Encoding.{block_bytes}
 use Rattle.cw_types.specs.declared.event.Handed.{Handed}
-use Rattle.cw_types.specs.declared.application.AcceptAll.{AcceptAll}
-use Rattle.node.specs.State.{NodeState}
 use Rattle.hail_script.specs.Grammar.{script_of}
 use Rattle.hail_script.specs.Scenario.{Scenario}
 use Rattle.hailstorm.specs.declared.report.Report.{Report}

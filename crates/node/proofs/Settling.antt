@@ -1,5 +1,5 @@
 -- Each note that is owed leaves less to be owed.
-use Rattle.std.proofs.Common.{◌≡◌, ℕ, zero, suc, ◌+◌, ◌<◌, ◌≤◌, Bool, true, false, cond, List, [], ◌∷◌, ◌++◌, Option, Some, None, refl, ap, ◌∙◌, sym, arith}
+use Rattle.std.proofs.Common.{◌≡◌, ℕ, ◌+◌, ◌<◌, ◌≤◌, Bool, true, false, cond, List, [], ◌∷◌, ◌++◌, Option, Some, None, refl, ◌∙◌, sym, arith}
 use Rattle.std.proofs.lemmas.Bool.{eq-eqb, eqb-true, false≢true}
 use Rattle.std.proofs.lemmas.List.Folds.{list_any-append}
 use Rattle.std.specs.Prelude.{not, ◌||◌, ◌&&◌, bytes_eq}
@@ -12,7 +12,6 @@ use Rattle.cw_types.specs.declared.vote.Proposal.{Proposal}
 use Rattle.cw_types.specs.declared.vote.Vote.{Vote}
 use Rattle.cw_types.specs.declared.vote.Vote.TheVariants.{Notarize, Nullify, Finalize}
 use Rattle.cw_types.specs.Same.{same_commitment}
-use Rattle.cw_types.specs.Commit.{genesis_commitment}
 use Rattle.cw_rules.specs.declared.first_path.Arrived.{Arrived}
 use Rattle.cw_rules.specs.declared.first_path.Ballot.{Ballot}
 use Rattle.cw_rules.specs.declared.first_path.Came.{Came}

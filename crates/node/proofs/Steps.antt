@@ -1,5 +1,5 @@
 -- A step, from its parts.
-use Rattle.std.proofs.Common.{◌≡◌, ℕ, Bool, List, [], ◌∷◌, ◌++◌, refl, ap, ◌∙◌, sym, subst, append-nil}
+use Rattle.std.proofs.Common.{◌≡◌, ℕ, Bool, List, [], ◌∷◌, ◌++◌, ap, ◌∙◌, sym, subst, append-nil}
 use Rattle.std.specs.List.{flat_map}
 use Rattle.std.proofs.lemmas.List.Concat.{flat_map-append}
 use Rattle.cw_base.specs.declared.hash.Digest32.{Digest32}
@@ -14,7 +14,7 @@ use Rattle.node.specs.State.{NodeState, setting_of}
 use Rattle.cw_rules.specs.FirstSetting.{Setting}
 use Rattle.cw_rules.specs.FirstAccepting.{came_with}
 use Rattle.cw_rules.specs.FirstNotes.{notes_of}
-use Rattle.cw_rules.specs.FirstOwing.{direct_notes, Completes, Settles}
+use Rattle.cw_rules.specs.FirstOwing.{direct_notes, Completes}
 use Rattle.cw_rules.specs.FirstSending.{sends}
 use Rattle.cw_rules.specs.FirstStep.{IsStep, with_step}
 

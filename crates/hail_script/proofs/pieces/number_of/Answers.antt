@@ -1,4 +1,4 @@
-use Rattle.std.proofs.Common.{◌≡◌, ◌<◌, length, arith, sym, ◌∙◌, rules}
+use Rattle.std.proofs.Common.{◌<◌, length, sym, ◌∙◌, rules}
 use Rattle.hail_script.proofs.Numbers.{digits_are_text, number_of_empty, number_of_other, number_read, number_refused}
 use Rattle.hail_script.proofs.pieces.number_of.Goals as goal
 

@@ -1,4 +1,4 @@
-use Rattle.std.proofs.Common.{◌≡◌, ℕ, ◌-◌, List, [], length, arith, rules, Bor}
+use Rattle.std.proofs.Common.{ℕ, ◌-◌, List, [], length, arith, Bor}
 use Rattle.std.proofs.lemmas.Bool.Decides.{nat_tests}
 use Rattle.hail_script.proofs.Lines.{cut_empty, keep_full}
 use Rattle.hail_script.proofs.pieces.without_empty_end.Goals as goal

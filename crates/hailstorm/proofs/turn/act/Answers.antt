@@ -1,9 +1,7 @@
-use Rattle.std.proofs.Common.{◌≡◌, ℕ, List, Some, get_or, sym, ap, ◌∙◌}
+use Rattle.std.proofs.Common.{ℕ, Some, get_or, sym, ap, ◌∙◌}
 use Rattle.std.specs.Prelude.{slice_set}
 use Rattle.std.proofs.lemmas.Option.{slice_get-get_or}
 use Rattle.std.proofs.lemmas.Result.{IfOk-weaker}
-use Rattle.cw_types.specs.declared.application.AcceptAll.{AcceptAll}
-use Rattle.node.specs.State.{NodeState}
 use Rattle.hailstorm.proofs.Turning.{both}
 use Rattle.hailstorm.proofs.turn.act.Goals as goal
 

@@ -1,4 +1,4 @@
-use Rattle.std.proofs.Common.{◌≡◌, length}
+use Rattle.std.proofs.Common.{length}
 use Rattle.hailstorm.proofs.Turning.{acted, still_seated}
 use Rattle.hailstorm.proofs.turn.take.Goals as goal
 

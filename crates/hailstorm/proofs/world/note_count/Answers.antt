@@ -1,4 +1,4 @@
-use Rattle.std.proofs.Common.{◌≡◌, ◌-◌, ◌^◌, ◌≤◌, [], drop, length, ap, arith}
+use Rattle.std.proofs.Common.{◌≡◌, [], drop, length, ap, arith}
 use Rattle.std.proofs.lemmas.List.{drop_all}
 use Rattle.hailstorm.proofs.world.note_count.Goals as goal
 

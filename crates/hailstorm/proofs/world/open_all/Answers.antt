@@ -1,4 +1,4 @@
-use Rattle.std.proofs.Common.{◌≡◌, ℕ, ◌+◌, ◌++◌, ◌∷◌, [], List, map, length, sym, ◌∙◌, arith, length-append}
+use Rattle.std.proofs.Common.{◌∷◌, [], sym, ◌∙◌, arith, length-append}
 use Rattle.cw_rules.specs.FirstSetting.{fresh}
 use Rattle.hailstorm.specs.World.{opening_entry}
 use Rattle.hailstorm.proofs.Members.{below_more, mapped_more}

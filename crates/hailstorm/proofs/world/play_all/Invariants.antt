@@ -1,4 +1,4 @@
-use Rattle.std.proofs.Common.{◌≡◌, ℕ, ◌+◌, ◌++◌, [], List, drop, length}
+use Rattle.std.proofs.Common.{◌+◌, ◌++◌, [], List, drop, length}
 use Rattle.cw_rules.specs.declared.first_path.Member.{Member}
 use Rattle.hailstorm.specs.declared.report.Entry.{Entry}
 use Rattle.hailstorm.specs.Seats.{AreSeated, members_in}

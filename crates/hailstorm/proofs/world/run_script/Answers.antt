@@ -2,7 +2,6 @@ use Rattle.std.proofs.Common.{◌≡◌, ℕ, List, Option, Some, ◌++◌, [], 
 use Rattle.std.specs.Prelude.{option_map}
 use Rattle.std.proofs.lemmas.List.{take_at}
 use Rattle.cw_types.specs.declared.application.AcceptAll.{AcceptAll}
-use Rattle.cw_rules.specs.declared.first_path.Member.{Member}
 use Rattle.cw_rules.specs.FirstSetting.{fresh}
 use Rattle.node.specs.State.{NodeState}
 use Rattle.hailstorm.specs.declared.report.Entry.{Entry}

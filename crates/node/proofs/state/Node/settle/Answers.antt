@@ -1,4 +1,4 @@
-use Rattle.std.proofs.Common.{◌≡◌, ◌++◌, ◌∷◌, [], List, append-nil, append_assoc, sym, ap, ◌∙◌}
+use Rattle.std.proofs.Common.{◌++◌, [], List, append-nil, append_assoc, sym, ap, ◌∙◌}
 use Rattle.cw_types.specs.declared.note.Note.{Note}
 use Rattle.node.specs.State.{setting_of}
 use Rattle.cw_rules.specs.FirstNotes.{notes_of}

@@ -1,4 +1,3 @@
-use Rattle.std.proofs.Common.{◌≡◌, refl}
 use Rattle.node.proofs.Steps.{stepped}
 use Rattle.node.proofs.state.Node.step.Goals as goal
 
