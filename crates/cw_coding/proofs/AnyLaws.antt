@@ -33,7 +33,7 @@ before_other total xs p y sound l is h =
     absurd (let same = sound_apart total xs sound h.0 p (omega arith) l (there ∙ sym is) in omega arith)
 
 -- a text whose rows at k different places are those of another is that text
-same_by_rows : OriginalsComeFirst → RowsFixCodeword → (k : ℕ) (first second : List ℕ) (P : ℕ → ℕ) → 1 ≤ k → k ≤ 65535 →
+pub same_by_rows : OriginalsComeFirst → RowsFixCodeword → (k : ℕ) (first second : List ℕ) (P : ℕ → ℕ) → 1 ≤ k → k ≤ 65535 →
     length first ≤ 2 ^ 32 - 1 → length second ≤ 2 ^ 32 - 1 → ((i : ℕ) → get_or first i 0 < 256) → ((i : ℕ) → get_or second i 0 < 256) →
     ArePoints k P → ((s : ℕ) → s < k → row_at k first (P s) ≡ row_at k second (P s)) → first ≡ second
 unfolding row_at

@@ -22,6 +22,10 @@ pub record IsEncodable (c : Shards) (n : ℕ) : Type 0 where
   pub total : total_of c ≤ 65535
   pub codable : IsCodable c n
 
+-- the root of a text: that of the digests of its codeword's rows
+abbrev pub root_of_text : {D : Type 0} → (hash : List ℕ → D) (content : D → List ℕ) (c : Shards) (text : List ℕ) → Option D
+root_of_text hash content c text = root_of hash content (row_digests hash c.minimum c.extra text)
+
 -- why a text is refused: the first cause
 abbrev pub IsEncodeRefusal : (c : Shards) (n : ℕ) → ReedSolomonError → Type 0
 IsEncodeRefusal c n (TooManyTotalShards t) = (t ≡ total_of c) × (65535 < total_of c)

@@ -18,7 +18,7 @@ use rs_code::{Plan, PlanError};
 use std::alloc::Global;
 use std::thread::Threads;
 
-fn same_bytes(first: &[u8], second: &[u8]) -> bool
+pub(crate) fn same_bytes(first: &[u8], second: &[u8]) -> bool
     ensures { IsTrue result ↔ (first.now ≡ second.now) }
 {
     first == second
