@@ -1,0 +1,122 @@
+//! Votes and certificates that came.
+
+ghost use Rattle.std.specs.Prelude.{◌≡◌, List, Option, ℕ, option_map};
+ghost use Rattle.cw_rules.specs.Accepted.{Many, Single, same_ballot};
+ghost use Rattle.cw_rules.specs.Owed as rule;
+ghost use Rattle.cw_types.specs.Votes as votes;
+ghost use Rattle.voter.specs.Known.{ballot_signers, certifies};
+
+use cw_types::{Cert, Proposal, Vote};
+use std::marker::Model;
+
+/// Which of the two it is.
+#[derive(Drop)]
+enum Kind {
+    Single(u16, Vote),
+    Many(Cert),
+}
+
+/// A vote or a certificate that came.
+#[derive(Drop)]
+pub(crate) struct Ballot {
+    kind: Kind,
+}
+
+impl Model for Ballot {
+    ghost use Rattle.cw_rules.specs.Accepted.{Ballot};
+
+    ghost Value = { Ballot };
+
+    ghost use Rattle.voter.specs.Kinds.{ballot_of};
+
+    ghost view = { λ b. ballot_of b.kind };
+}
+
+impl Ballot {
+    /// The vote of one member.
+    pub(crate) fn single(signer: u16, vote: Vote) -> Ballot
+        ensures { result ≡ Single signer vote }
+    {
+        Ballot {
+            kind: Kind::Single(signer, vote),
+        }
+    }
+
+    /// A certificate.
+    pub(crate) fn many(cert: Cert) -> Ballot
+        ensures { result ≡ Many cert }
+    {
+        Ballot {
+            kind: Kind::Many(cert),
+        }
+    }
+
+    /// The vote that it names.
+    pub(crate) fn vote(&self) -> Vote
+        ensures { result ≡ rule.ballot_vote self.now }
+    {
+        match &self.kind {
+            Kind::Single(_, vote) => *vote,
+            Kind::Many(cert) => cert.vote,
+        }
+    }
+
+    /// The proposal that it names.
+    pub(crate) fn proposal(&self) -> Option<Proposal>
+        ensures { result ≡ votes.proposal_of (rule.ballot_vote self.now) }
+    {
+        proposal_of(&self.vote())
+    }
+
+    /// Whether it is this vote of that member.
+    pub(crate) fn is_single(&self, signer: u16, vote: &Vote) -> bool
+        ensures vote { result ≡ rule.is_single signer vote.now self.now }
+        ensures same { result ≡ same_ballot (Single signer vote.now) self.now }
+    {
+        match &self.kind {
+            Kind::Single(other, voted) => signer == *other && vote.is_same(voted),
+            Kind::Many(_) => false,
+        }
+    }
+
+    /// Whether it is this certificate.
+    pub(crate) fn is_cert(&self, cert: &Cert) -> bool
+        ensures { result ≡ same_ballot (Many cert.now) self.now }
+    {
+        match &self.kind {
+            Kind::Single(_, _) => false,
+            Kind::Many(other) => cert.is_same(other),
+        }
+    }
+
+    /// Whether it is a certificate of this vote.
+    pub(crate) fn is_cert_of(&self, vote: &Vote) -> bool
+        ensures { result ≡ certifies vote.now self.now }
+    {
+        match &self.kind {
+            Kind::Single(_, _) => false,
+            Kind::Many(cert) => vote.is_same(&cert.vote),
+        }
+    }
+
+    /// The signers of a certificate; none of a single vote.
+    pub(crate) fn signers(&self) -> &[u16]
+        ensures { result.now ≡ ballot_signers self.now }
+    {
+        match &self.kind {
+            Kind::Single(_, _) => &[],
+            Kind::Many(cert) => cert.signers.as_slice(),
+        }
+    }
+}
+
+/// The proposal that a vote is on.
+pub(crate) fn proposal_of(vote: &Vote) -> Option<Proposal>
+    ensures { result ≡ votes.proposal_of vote.now }
+{
+    match vote {
+        Vote::Notarize(proposal) => Some(*proposal),
+        Vote::Nullify { .. } => None,
+        Vote::Finalize(proposal) => Some(*proposal),
+    }
+}

@@ -1,0 +1,161 @@
+//! The certificate that a member owes.
+
+ghost use Rattle.std.specs.Prelude.{◌≡◌, ◌≤◌, ◌&&◌, ◌||◌, IfOk, filter, find, length, nat_le, not, option_map, unwrap_or};
+ghost use Rattle.std.specs.List.{list_any};
+ghost use Rattle.std.specs.Option.{is_some};
+ghost use Rattle.cw_rules.specs.Notes.{has_cert};
+ghost use Rattle.cw_rules.specs.Owed as rule;
+ghost use Rattle.cw_types.specs.Epochs.{members_in, size};
+ghost use Rattle.cw_types.specs.Numbers.{quorum};
+ghost use Rattle.cw_types.specs.Votes.{vote_epoch};
+ghost use Rattle.cw_types.specs.declared.note.Note.{Note};
+ghost use Rattle.voter.specs.Known.{ballot_signers, certifies, rules_of, state_of};
+ghost use Rattle.voter.specs.Owing as owing;
+
+use crate::ballot::Ballot;
+use crate::notes;
+use crate::tally::Tally;
+use cw_base::{Digest32, Hasher, Items, NoMemory};
+use cw_types::{Cert, Vote, quorum};
+use std::alloc::Global;
+
+impl<H> Tally<H> {
+    // Whether this member is known to have signed the vote.
+    fn knows(&self, vote: &Vote, member: u16) -> bool
+        ensures { result ≡ rule.knows self.now.id (state_of self.now) vote.now member }
+    {
+        self.has_voted_so(vote, member)
+            || (member == self.id && notes::has_vote(self.notes.as_slice(), vote))
+    }
+
+    // Whether this vote of that member came.
+    pub(crate) fn has_voted_so(&self, vote: &Vote, member: u16) -> bool
+        ensures { result ≡ list_any (rule.is_single member vote.now) self.now.ballots }
+    {
+        self.ballots
+            .as_slice()
+            .iter()
+            .any(|ballot| ballot.is_single(member, vote))
+    }
+
+    // How many members are known to have signed the vote.
+    fn count_known(&self, vote: &Vote) -> usize
+        ensures { result ≡ length (filter (rule.knows self.now.id (state_of self.now) vote.now) (members_in self.now.epochs (vote_epoch vote.now))) }
+    {
+        self.committees
+            .members(vote.epoch())
+            .iter()
+            .filter(|member| self.knows(vote, **member))
+            .count()
+    }
+
+    // The members that are known to have signed the vote, rising.
+    fn known(&self, alloc: Global, vote: &Vote) -> Result<Vec<u16>, NoMemory>
+        ensures { IfOk result (λ known. known.items ≡ filter (rule.knows self.now.id (state_of self.now) vote.now) (members_in self.now.epochs (vote_epoch vote.now))) }
+    {
+        let known = self
+            .committees
+            .members(vote.epoch())
+            .iter()
+            .copied()
+            .filter(|member| self.knows(vote, *member))
+            .collect(alloc)?;
+        Ok(known)
+    }
+
+    // Whether no certificate of the vote is noted, and one came or a quorum is known.
+    fn is_certifiable(&self, vote: &Vote) -> bool
+        ensures { result ≡ (not (has_cert self.now.notes vote.now) && (is_some (find (certifies vote.now) self.now.ballots) || nat_le (quorum (size self.now.epochs (vote_epoch vote.now))) (length (filter (rule.knows self.now.id (state_of self.now) vote.now) (members_in self.now.epochs (vote_epoch vote.now)))))) }
+    {
+        !notes::has_cert(self.notes.as_slice(), vote)
+            && (self.has_arrived(vote) || self.is_signed(vote))
+    }
+
+    // Whether a certificate of the vote came.
+    fn has_arrived(&self, vote: &Vote) -> bool
+        ensures { result ≡ is_some (find (certifies vote.now) self.now.ballots) }
+    {
+        self.first_cert(vote).is_some()
+    }
+
+    // The first certificate of the vote that came.
+    fn first_cert(&self, vote: &Vote) -> Option<&Ballot>
+        ensures { option_map (λ ballot. ballot.now) result ≡ find (certifies vote.now) self.now.ballots }
+    {
+        self.ballots
+            .as_slice()
+            .iter()
+            .find(|ballot| ballot.is_cert_of(vote))
+    }
+
+    // How many members the epoch has.
+    pub(crate) fn size(&self, epoch: u64) -> u16
+        ensures value { result ≡ size self.now.epochs epoch }
+        ensures enough { 4 ≤ result }
+    {
+        // No committee has more members than there are, so their number fits.
+        let _total = self.committees.total();
+        let members = self.committees.members(epoch);
+        members.len() as u16
+    }
+
+    // Whether enough members of its epoch are known to have signed the vote.
+    fn is_signed(&self, vote: &Vote) -> bool
+        ensures { result ≡ nat_le (quorum (size self.now.epochs (vote_epoch vote.now))) (length (filter (rule.knows self.now.id (state_of self.now) vote.now) (members_in self.now.epochs (vote_epoch vote.now)))) }
+    {
+        quorum(self.size(vote.epoch())) as usize <= self.count_known(vote)
+    }
+}
+
+impl<H: Hasher<Digest = Digest32>> Tally<H> {
+    // Whether a certificate of the vote is owed.
+    fn owes_cert(&self, vote: &Vote) -> bool
+        ensures { result ≡ owing.owes_cert H.digest_of self.now vote.now }
+    {
+        self.is_certifiable(vote)
+    }
+
+    // The first vote of which a certificate is owed.
+    fn first_owing(&self) -> Option<Vote>
+        ensures { result ≡ find (owing.owes_cert H.digest_of self.now) (rule.named_votes (state_of self.now)) }
+    {
+        self.ballots
+            .as_slice()
+            .iter()
+            .map(|ballot| ballot.vote())
+            .chain(
+                self.notes
+                    .as_slice()
+                    .iter()
+                    .filter_map(|note| notes::vote_of(note)),
+            )
+            .find(|vote| self.owes_cert(vote))
+    }
+
+    // The signers of the first certificate of the vote that came, else those that are known.
+    fn signers(&self, alloc: Global, vote: &Vote) -> Result<Items<u16>, NoMemory>
+        ensures { IfOk result (λ signers. signers ≡ unwrap_or (option_map ballot_signers (find (certifies vote.now) self.now.ballots)) (rule.known (rules_of H.digest_of self.now.epochs) self.now.id (state_of self.now) vote.now)) }
+    {
+        let signers = match self.first_cert(vote) {
+            Some(ballot) => Vec::from_slice(alloc, ballot.signers())?,
+            None => self.known(alloc, vote)?,
+        };
+        Ok(Items::from_vec(signers))
+    }
+
+    /// The certificate that the member owes: of the first vote without a noted one, in the order of
+    /// what came and then of the notes, of which a certificate came or a quorum is known to have
+    /// signed. Its signers are those of the first certificate of the vote that came, else all that
+    /// are known, rising.
+    pub fn owed_cert(&self, alloc: Global) -> Result<Option<Cert>, NoMemory>
+        ensures { IfOk result (λ owed. option_map Note.Cert owed ≡ owing.cert_owed H.digest_of self.now) }
+    {
+        match self.first_owing() {
+            Some(vote) => {
+                let signers = self.signers(alloc, &vote)?;
+                Ok(Some(Cert { vote, signers }))
+            }
+            None => Ok(None),
+        }
+    }
+}

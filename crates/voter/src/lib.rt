@@ -1,0 +1,19 @@
+//! What a member knows of votes and certificates, and what it owes by it: the tally.
+//!
+//! Each call is the cluster rules' own function of what the tally was told. The bodies scan plain
+//! lists.
+#![tactic(auto)]
+
+mod ballot;
+mod certs;
+mod context;
+mod laws;
+mod notes;
+mod own;
+mod parents;
+mod tally;
+mod votes;
+
+pub use laws::chain_laws;
+pub use own::OwnChunk;
+pub use tally::Tally;

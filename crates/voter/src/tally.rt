@@ -1,0 +1,174 @@
+//! The tally: what a member knows, and what it is told.
+
+ghost use Rattle.std.specs.Prelude.{◌≡◌, ◌<◌, IfOk, IsTrue, OnOk, OnErr, not};
+ghost use Rattle.std.specs.List.{list_any};
+ghost use Rattle.cw_rules.specs.Accepted.{Many, Single, same_ballot};
+ghost use Rattle.cw_rules.specs.Notes as rule;
+ghost use Rattle.cw_types.specs.Commit.{genesis_commitment};
+ghost use Rattle.cw_types.specs.Votes as votes;
+ghost use Rattle.voter.specs.Known.{is_countable, unknowing, with_ballot, with_note, with_own};
+
+use crate::ballot::Ballot;
+use crate::notes;
+use crate::own::OwnChunk;
+use cw_base::{Digest32, Hasher, Items, NoMemory};
+use cw_types::{Cert, Commitment, Committees, Note, Vote, genesis_commitment};
+use std::alloc::Global;
+use std::marker::{Model, PhantomData};
+
+/// What a member knows of votes and certificates. Contracts see it as the committees, the member's
+/// number, and lists: its notes, the votes and certificates that came, and the chunks that came at its
+/// own place, each in the order in which the tally was told of them.
+#[derive(Drop)]
+pub struct Tally<H> {
+    pub(crate) committees: Committees,
+    pub(crate) id: u16,
+    // an index replaces the scans over these lists
+    pub(crate) notes: Items<Note>,
+    pub(crate) ballots: Items<Ballot>,
+    pub(crate) own: Items<OwnChunk>,
+    alloc: Global,
+    hasher: PhantomData<H>,
+}
+
+impl<H> Model for Tally<H> {
+    ghost use Rattle.std.specs.Prelude.{IsTrue};
+    ghost use Rattle.std.specs.List.{list_all};
+    ghost use Rattle.voter.specs.Known.{Known, is_countable};
+
+    ghost Value = { Known };
+
+    ghost view = { λ t. record { epochs = t.committees; id = t.id; notes = t.notes; ballots = t.ballots; own = t.own } };
+
+    ghost invariant = { λ t. IsTrue (list_all is_countable t.notes) };
+}
+
+impl<H: Hasher<Digest = Digest32>> Tally<H> {
+    /// The tally of member `id` of these committees, which knows nothing yet. Takes no memory.
+    pub fn new(alloc: Global, committees: Committees, id: u16) -> Tally<H>
+        requires { id < committees.total }
+        ensures { result ≡ unknowing committees id }
+    {
+        Tally {
+            committees,
+            id,
+            notes: Items::new(alloc),
+            ballots: Items::new(alloc),
+            own: Items::new(alloc),
+            alloc,
+            hasher: PhantomData,
+        }
+    }
+
+    /// The payload that is settled for a view of an epoch: that of the first noted certified proposal
+    /// or finalization of the view, and for view 0 what the epoch builds on. None where nothing is
+    /// settled. Takes no memory.
+    pub fn settled(&self, epoch: u64, view: u64) -> Option<Commitment>
+        ensures { result ≡ rule.settled (genesis_commitment H.digest_of) self.now.notes epoch view }
+    {
+        notes::settled(
+            genesis_commitment::<H>(),
+            self.notes.as_slice(),
+            epoch,
+            view,
+        )
+    }
+}
+
+impl<H> Tally<H> {
+    /// Takes a note of the member's own, at the end. Where memory is short nothing changes.
+    pub fn take_note(&mut self, note: &Note) -> Result<(), NoMemory>
+        requires { IsTrue (is_countable note.now) }
+        ensures ok { OnOk result (self.new ≡ with_note self.old note.now) }
+        ensures err { OnErr result (self.new ≡ self.old) }
+    {
+        let copy = note.copy(self.alloc)?;
+        self.notes.push(copy)?;
+        Ok(())
+    }
+
+    /// Takes a vote that this member signed; true exactly where it wasn't there. Where memory is
+    /// short nothing changes.
+    pub fn take_vote(&mut self, signer: u16, vote: &Vote) -> Result<bool, NoMemory>
+        requires { IsTrue (votes.well_formed vote.now) }
+        ensures ok { OnOk result (self.new ≡ with_ballot self.old (Single signer vote.now)) }
+        ensures fresh { IfOk result (λ fresh. fresh ≡ not (list_any (same_ballot (Single signer vote.now)) self.old.ballots)) }
+        ensures err { OnErr result (self.new ≡ self.old) }
+    {
+        if self.has_single(signer, vote) {
+            return Ok(false);
+        }
+        self.ballots.push(Ballot::single(signer, *vote))?;
+        Ok(true)
+    }
+
+    /// Takes a valid certificate; true exactly where it wasn't there. Where memory is short nothing
+    /// changes.
+    pub fn take_cert(&mut self, cert: &Cert) -> Result<bool, NoMemory>
+        requires { IsTrue (votes.well_formed cert.now.vote) }
+        ensures ok { OnOk result (self.new ≡ with_ballot self.old (Many cert.now)) }
+        ensures fresh { IfOk result (λ fresh. fresh ≡ not (list_any (same_ballot (Many cert.now)) self.old.ballots)) }
+        ensures err { OnErr result (self.new ≡ self.old) }
+    {
+        if self.has_same_cert(cert) {
+            return Ok(false);
+        }
+        let copy = cert.copy(self.alloc)?;
+        self.ballots.push(Ballot::many(copy))?;
+        Ok(true)
+    }
+
+    /// Is told that a chunk of this commitment came, whose index is the member's place in the list of
+    /// some epoch. Where memory is short nothing changes.
+    pub fn take_own_chunk(&mut self, commitment: &Commitment, index: u16) -> Result<(), NoMemory>
+        ensures ok { OnOk result (self.new ≡ with_own self.old commitment.now index) }
+        ensures err { OnErr result (self.new ≡ self.old) }
+    {
+        self.own.push(OwnChunk {
+            commitment: *commitment,
+            index,
+        })?;
+        Ok(())
+    }
+
+    // Whether this vote of that member came.
+    fn has_single(&self, signer: u16, vote: &Vote) -> bool
+        ensures { result ≡ list_any (same_ballot (Single signer vote.now)) self.now.ballots }
+    {
+        self.ballots
+            .as_slice()
+            .iter()
+            .any(|ballot| ballot.is_single(signer, vote))
+    }
+
+    fn has_same_cert(&self, cert: &Cert) -> bool
+        ensures { result ≡ list_any (same_ballot (Many cert.now)) self.now.ballots }
+    {
+        self.ballots
+            .as_slice()
+            .iter()
+            .any(|ballot| ballot.is_cert(cert))
+    }
+
+    /// The epoch that the member is in: the greatest that a note enters. Takes no memory.
+    pub fn epoch(&self) -> u64
+        ensures { result ≡ rule.epoch_of self.now.notes }
+    {
+        notes::epoch_of(self.notes.as_slice())
+    }
+
+    /// The view of an epoch that the member is in: one above the greatest with a noted nullification,
+    /// finalization or certified proposal. Takes no memory.
+    pub fn view(&self, epoch: u64) -> u64
+        ensures { result ≡ rule.view_of self.now.notes epoch }
+    {
+        notes::view_of(self.notes.as_slice(), epoch)
+    }
+
+    /// Whether the nullification of a view of an epoch is noted. Takes no memory.
+    pub fn nullified(&self, epoch: u64, view: u64) -> bool
+        ensures { result ≡ rule.nullified self.now.notes epoch view }
+    {
+        notes::nullified(self.notes.as_slice(), epoch, view)
+    }
+}
