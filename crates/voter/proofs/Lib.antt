@@ -4,5 +4,6 @@ pub mod Heights
 pub mod Joined
 pub mod Lists
 pub mod Numbers
+pub mod Places
 pub mod StepDown
 pub mod Voted

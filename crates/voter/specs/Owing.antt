@@ -1,5 +1,5 @@
 -- What a member owes by what it knows, and over what it may propose.
-use Rattle.std.specs.Prelude.{ℕ, ◌&&◌, ◌-◌, ◌==◌, Bool, List, None, Option, Some, false, filter, filter_map, if◌then◌else◌, min, not, option_map, suc, take, zero}
+use Rattle.std.specs.Prelude.{ℕ, ◌&&◌, ◌-◌, ◌==◌, Bool, List, None, Option, Some, false, filter, if◌then◌else◌, map, min, not, option_map, suc, take, zero}
 use Rattle.std.specs.List.{enumerate_from, list_any}
 use Rattle.std.specs.Option.{is_some, option_map_or, option_or}
 use Rattle.cw_base.specs.declared.hash.Digest32.{Digest32}
@@ -60,15 +60,13 @@ vote_owed hash t = option_or (notarize_owed hash t) (finalize_owed hash t)
 abbrev pub is_uncertified : List Note → Proposal → Bool
 is_uncertified notes p = has_cert notes (Notarize p) && not (has_certified notes p)
 
--- the proposal at that place of the list, where none before it is the same
-abbrev pub first_named : List Proposal → ℕ × Proposal → Option Proposal
-first_named list at = if list_any (same_proposal at.1) (take at.0 list) then None else Some at.1
+-- the proposal at that place of those that are named is notarized, isn't certified, and isn't named before
+unfoldable pub is_candidate : Known → ℕ × Proposal → Bool
+is_candidate t at = is_uncertified t.notes at.1 && not (list_any (same_proposal at.1) (take at.0 (rule.named_proposals (state_of t))))
 
 -- the proposals that are notarized and not certified, each once, in the order in which they are first named
 abbrev pub uncertified : Known → List Proposal
-uncertified t =
-    let list = rule.named_proposals (state_of t) in
-    filter (is_uncertified t.notes) (filter_map (first_named list) (enumerate_from 0 list))
+uncertified t = map (λ at. at.1) (filter (is_candidate t) (enumerate_from 0 (rule.named_proposals (state_of t))))
 
 -- the greatest settled view of the epoch below so many, with its payload, where all views above it and below so many are nullified
 abbrev pub parent_below : Commitment → List Note → ℕ → ℕ → Option (ℕ × Commitment)

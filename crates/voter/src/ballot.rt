@@ -68,6 +68,16 @@ impl Ballot {
         proposal_of(&self.vote())
     }
 
+    /// The same, where it stands.
+    pub(crate) fn named_proposal(&self) -> Option<&Proposal>
+        ensures { option_map (λ proposal. proposal.now) result ≡ votes.proposal_of (rule.ballot_vote self.now) }
+    {
+        match &self.kind {
+            Kind::Single(_, vote) => named_proposal(vote),
+            Kind::Many(cert) => named_proposal(&cert.vote),
+        }
+    }
+
     /// Whether it is this vote of that member.
     pub(crate) fn is_single(&self, signer: u16, vote: &Vote) -> bool
         ensures vote { result ≡ rule.is_single signer vote.now self.now }
@@ -118,5 +128,16 @@ pub(crate) fn proposal_of(vote: &Vote) -> Option<Proposal>
         Vote::Notarize(proposal) => Some(*proposal),
         Vote::Nullify { .. } => None,
         Vote::Finalize(proposal) => Some(*proposal),
+    }
+}
+
+/// The same, where it stands.
+pub(crate) fn named_proposal(vote: &Vote) -> Option<&Proposal>
+    ensures { option_map (λ proposal. proposal.now) result ≡ votes.proposal_of vote.now }
+{
+    match vote {
+        Vote::Notarize(proposal) => Some(proposal),
+        Vote::Nullify { .. } => None,
+        Vote::Finalize(proposal) => Some(proposal),
     }
 }

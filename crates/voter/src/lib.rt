@@ -11,6 +11,7 @@ mod laws;
 mod notes;
 mod own;
 mod parents;
+mod proposals;
 mod tally;
 mod votes;
 

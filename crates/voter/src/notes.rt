@@ -7,7 +7,7 @@ ghost use Rattle.cw_rules.specs.Notes as rule;
 ghost use Rattle.cw_rules.specs.Owed as owed;
 ghost use Rattle.voter.specs.Known.{is_countable, noted_height};
 
-use crate::ballot::proposal_of;
+use crate::ballot::{self, proposal_of};
 use cw_types::{Commitment, Note, Proposal, Vote, well_formed};
 
 /// Whether the votes of a note, and its proposals, may be counted.
@@ -153,6 +153,18 @@ pub(crate) fn note_proposal(note: &Note) -> Option<Proposal>
         Note::Vote(vote) => proposal_of(vote),
         Note::Cert(cert) => proposal_of(&cert.vote),
         Note::Certified(proposal) => Some(*proposal),
+        _ => None,
+    }
+}
+
+/// The same, where it stands.
+pub(crate) fn named_proposal(note: &Note) -> Option<&Proposal>
+    ensures { option_map (λ proposal. proposal.now) result ≡ owed.note_proposal note.now }
+{
+    match note {
+        Note::Vote(vote) => ballot::named_proposal(vote),
+        Note::Cert(cert) => ballot::named_proposal(&cert.vote),
+        Note::Certified(proposal) => Some(proposal),
         _ => None,
     }
 }

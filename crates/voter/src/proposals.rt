@@ -1,0 +1,147 @@
+//! The proposals that a member may certify.
+
+ghost use Rattle.std.specs.Prelude.{◌≡◌, ◌==◌, filter, filter_map, find, length, option_and_then, option_map, slice_get, take};
+ghost use Rattle.std.specs.List.{enumerate_from, list_any};
+ghost use Rattle.std.specs.Option.{is_some};
+ghost use Rattle.cw_rules.specs.Owed as rule;
+ghost use Rattle.cw_types.specs.Same.{same_proposal};
+ghost use Rattle.cw_types.specs.Votes.{proposal_of};
+ghost use Rattle.voter.specs.Known.{state_of};
+ghost use Rattle.voter.specs.Owing as owing;
+
+use crate::ballot::Ballot;
+use crate::notes;
+use crate::tally::Tally;
+use cw_types::{Note, Proposal, Vote};
+
+impl<H> Tally<H> {
+    // Whether the proposal is notarized and not certified.
+    fn is_uncertified(&self, proposal: &Proposal) -> bool
+        ensures { result ≡ owing.is_uncertified self.now.notes proposal.now }
+    {
+        notes::has_cert(self.notes.as_slice(), &Vote::Notarize(*proposal))
+            && !notes::has_certified(self.notes.as_slice(), proposal)
+    }
+
+    // Whether one of the first `at` proposals that are named is the same.
+    fn is_named_before(&self, at: usize, proposal: &Proposal) -> bool
+        ensures { result ≡ list_any (same_proposal proposal.now) (take at (rule.named_proposals (state_of self.now))) }
+    {
+        self.ballots
+            .as_slice()
+            .iter()
+            .filter_map(|ballot| ballot.proposal())
+            .chain(
+                self.notes
+                    .as_slice()
+                    .iter()
+                    .filter_map(|note| notes::note_proposal(note)),
+            )
+            .take(at)
+            .any(|other| proposal.is_same(&other))
+    }
+
+    // Whether the proposal at that place of those that are named is notarized, not certified, and not
+    // named before.
+    #[tactic(auto, unfolding(crate::specs::Owing::is_candidate))]
+    fn is_candidate(&self, at: usize, proposal: &Proposal) -> bool
+        ensures { result ≡ owing.is_candidate self.now (at, proposal.now) }
+    {
+        self.is_uncertified(proposal) && !self.is_named_before(at, proposal)
+    }
+
+    // The candidate at this place, with its place among those that are named.
+    fn ranked_candidate(&self, index: usize) -> Option<(usize, (usize, Proposal))>
+        ensures { result ≡ find (λ e. e.0 == index) (enumerate_from 0 (filter (owing.is_candidate self.now) (enumerate_from 0 (rule.named_proposals (state_of self.now))))) }
+    {
+        self.ballots
+            .as_slice()
+            .iter()
+            .filter_map(|ballot| ballot.proposal())
+            .chain(
+                self.notes
+                    .as_slice()
+                    .iter()
+                    .filter_map(|note| notes::note_proposal(note)),
+            )
+            .enumerate()
+            .filter(|(at, proposal)| self.is_candidate(*at, proposal))
+            .enumerate()
+            .find(|(rank, _)| *rank == index)
+    }
+
+    // How many votes and certificates that came name a proposal.
+    fn count_naming(&self) -> usize
+        ensures { result ≡ length (filter_map (λ x. proposal_of (rule.ballot_vote x)) self.now.ballots) }
+    {
+        self.ballots
+            .as_slice()
+            .iter()
+            .filter_map(|ballot| ballot.proposal())
+            .count()
+    }
+
+    // That at this place of those.
+    fn ballot_naming(&self, at: usize) -> Option<&Ballot>
+        ensures { option_map (λ ballot. ballot.now) result ≡ slice_get (filter (λ x. is_some (proposal_of (rule.ballot_vote x))) self.now.ballots) at }
+    {
+        self.ballots
+            .as_slice()
+            .iter()
+            .filter(|ballot| ballot.proposal().is_some())
+            .nth(at)
+    }
+
+    // The note at this place of those that name a proposal.
+    fn note_naming(&self, at: usize) -> Option<&Note>
+        ensures { option_map (λ note. note.now) result ≡ slice_get (filter (λ note. is_some (rule.note_proposal note)) self.now.notes) at }
+    {
+        self.notes
+            .as_slice()
+            .iter()
+            .filter(|note| notes::note_proposal(note).is_some())
+            .nth(at)
+    }
+
+    // The proposal that it names.
+    fn ballot_proposal(&self, at: usize) -> Option<&Proposal>
+        ensures { option_map (λ proposal. proposal.now) result ≡ option_and_then (λ x. proposal_of (rule.ballot_vote x)) (slice_get (filter (λ x. is_some (proposal_of (rule.ballot_vote x))) self.now.ballots) at) }
+    {
+        match self.ballot_naming(at) {
+            Some(ballot) => ballot.named_proposal(),
+            None => None,
+        }
+    }
+
+    // The proposal that it names.
+    fn note_proposal(&self, at: usize) -> Option<&Proposal>
+        ensures { option_map (λ proposal. proposal.now) result ≡ option_and_then rule.note_proposal (slice_get (filter (λ note. is_some (rule.note_proposal note)) self.now.notes) at) }
+    {
+        match self.note_naming(at) {
+            Some(note) => notes::named_proposal(note),
+            None => None,
+        }
+    }
+
+    // The proposal at this place of those that are named.
+    fn named_at(&self, at: usize) -> Option<&Proposal>
+        ensures { option_map (λ proposal. proposal.now) result ≡ slice_get (rule.named_proposals (state_of self.now)) at }
+    {
+        match self.ballot_proposal(at) {
+            Some(proposal) => Some(proposal),
+            None => self.note_proposal(at.saturating_sub(self.count_naming())),
+        }
+    }
+
+    /// The proposal at this place, counted from 0, among those with a noted notarization that aren't
+    /// certified: each once, in the order in which what came and then the notes first name them. None
+    /// past the last. Takes no memory.
+    pub fn uncertified(&self, index: usize) -> Option<&Proposal>
+        ensures { option_map (λ proposal. proposal.now) result ≡ slice_get (owing.uncertified self.now) index }
+    {
+        match self.ranked_candidate(index) {
+            Some((_, (at, _))) => self.named_at(at),
+            None => None,
+        }
+    }
+}
