@@ -36,6 +36,7 @@ counted {X = X} p n (y ∷ ys) i at x h = go (p (n, y)) refl (counted p (n + 1) 
         let e : at - n ≡ suc (at - (n + 1)) = omega arith in
         let le : n ≤ at = omega arith in
         (le, ap (slice_get (y ∷ ys)) e ∙ found.1)
+
     go : (b : Bool) → p (n, y) ≡ b → ((j at2 : ℕ) (z : _) → slice_get (filter p (enumerate_from (n + 1) ys)) j ≡ Some (at2, z) → (n + 1 ≤ at2) × (slice_get ys (at2 - (n + 1)) ≡ Some z))
         → (j : ℕ) → slice_get (filter p (enumerate_from n (y ∷ ys))) j ≡ Some (at, x) → (n ≤ at) × (slice_get (y ∷ ys) (at - n) ≡ Some x)
     go false e more j k = later (more j at x (rw e at k))
@@ -77,7 +78,7 @@ pub second_place : {X Y Z : Type 0} (f : X → Option Z) (h : Y → Option Z) (x
 second_place f h xs ys at left e same =
     let none : slice_get (filter_map f xs) at ≡ None = filtered f xs at ∙ sym e in
     let there : slice_get (filter_map f xs ++ filter_map h ys) at ≡ slice_get (filter_map h ys) (at - length (filter_map f xs)) =
-        appended (filter_map f xs) (filter_map h ys) at ∙ ap (λ o. option_or o (slice_get (filter_map h ys) (at - length (filter_map f xs)))) none in
+    appended (filter_map f xs) (filter_map h ys) at ∙ ap (λ o. option_or o (slice_get (filter_map h ys) (at - length (filter_map f xs)))) none in
     sym (there ∙ (ap (slice_get (filter_map h ys)) (sym same) ∙ filtered h ys left))
 
 -- of a list that is mapped

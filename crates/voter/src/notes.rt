@@ -8,19 +8,7 @@ ghost use Rattle.cw_rules.specs.Owed as owed;
 ghost use Rattle.voter.specs.Known.{is_countable, noted_height};
 
 use crate::ballot::{self, proposal_of};
-use cw_types::{Commitment, Note, Proposal, Vote, well_formed};
-
-/// Whether the votes of a note, and its proposals, may be counted.
-pub(crate) fn is_countable(note: &Note) -> bool
-    ensures { result ≡ is_countable note.now }
-{
-    match note {
-        Note::Vote(vote) => well_formed(vote),
-        Note::Cert(cert) => well_formed(&cert.vote),
-        Note::Certified(proposal) => well_formed(&Vote::Notarize(*proposal)),
-        _ => true,
-    }
-}
+use cw_types::{Commitment, Note, Proposal, Vote};
 
 fn is_vote(note: &Note, vote: &Vote) -> bool
     ensures { result ≡ rule.is_vote vote.now note.now }
@@ -185,10 +173,8 @@ fn settling(note: &Note) -> Option<Proposal>
 fn settler(notes: &[Note], epoch: u64, view: u64) -> Option<Proposal>
     ensures { result ≡ rule.settler notes.now epoch view }
 {
-    notes
-        .iter()
-        .filter_map(|note| settling(note))
-        .find(|proposal| proposal.epoch == epoch && proposal.view == view)
+    notes.iter().filter_map(|note| settling(note)).find(|proposal| proposal.epoch == epoch
+        && proposal.view == view)
 }
 
 fn entry(note: &Note) -> Option<(u64, Commitment)>

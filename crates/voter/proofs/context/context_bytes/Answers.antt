@@ -12,12 +12,12 @@ returns c =
     let leader : c.to_be_bytes-3.result ≡ be16 c.args.context.now.leader = c.to_be_bytes-3.ensures in
     let parent : c.to_be_bytes-4.result ≡ be64 c.args.context.now.parent_view = c.to_be_bytes-4.ensures in
     let before : take 26 c.put-4.new.out ≡ be64 c.args.context.now.epoch ++ (be64 c.args.context.now.view ++ (be16 c.args.context.now.leader ++ be64 c.args.context.now.parent_view)) =
-        four_joined [] (take 8 c.put.new.out) (take 16 c.put-2.new.out) (take 18 c.put-3.new.out) (take 26 c.put-4.new.out)
-            (be64 c.args.context.now.epoch) (be64 c.args.context.now.view) (be16 c.args.context.now.leader) (be64 c.args.context.now.parent_view)
-            (c.put.ensures ∙ epoch)
-            (c.put-2.ensures ∙ ap (λ x. take 8 c.put.new.out ++ x) view)
-            (c.put-3.ensures ∙ ap (λ x. take 16 c.put-2.new.out ++ x) leader)
-            (c.put-4.ensures ∙ ap (λ x. take 18 c.put-3.new.out ++ x) parent) in
+    four_joined [] (take 8 c.put.new.out) (take 16 c.put-2.new.out) (take 18 c.put-3.new.out) (take 26 c.put-4.new.out)
+    (be64 c.args.context.now.epoch) (be64 c.args.context.now.view) (be16 c.args.context.now.leader) (be64 c.args.context.now.parent_view)
+    (c.put.ensures ∙ epoch)
+    (c.put-2.ensures ∙ ap (λ x. take 8 c.put.new.out ++ x) view)
+    (c.put-3.ensures ∙ ap (λ x. take 16 c.put-2.new.out ++ x) leader)
+    (c.put-4.ensures ∙ ap (λ x. take 18 c.put-3.new.out ++ x) parent) in
     five_joined (take 26 c.put-4.new.out) c.put_commitment.new.out
-        (be64 c.args.context.now.epoch) (be64 c.args.context.now.view) (be16 c.args.context.now.leader) (be64 c.args.context.now.parent_view) (commitment_bytes c.args.context.now.parent)
-        before c.put_commitment.ensures
+    (be64 c.args.context.now.epoch) (be64 c.args.context.now.view) (be16 c.args.context.now.leader) (be64 c.args.context.now.parent_view) (commitment_bytes c.args.context.now.parent)
+    before c.put_commitment.ensures

@@ -8,4 +8,4 @@ pub returns-clause-value : goal.returns-clause-value
 returns-clause-value g c =
     c.kept_height.ensures.value
     ∙ sym (held_kept (rules_of g.H.Hasher.digest_of c.args.self.now.epochs) c.args.self.now.notes c.args.commitment.now
-        (ap (same_commitment c.args.commitment.now) (sym c.genesis_commitment.ensures) ∙ (sym c.is_same.ensures ∙ c.if-is_same.false)))
+    (ap (same_commitment c.args.commitment.now) (sym c.genesis_commitment.ensures) ∙ (sym c.is_same.ensures ∙ c.if-is_same.false)))
