@@ -62,8 +62,9 @@ fn cert_note(alloc: Global, vote: Vote) -> Result<Note, Fail> {
     Ok(Note::Cert(cert(alloc, vote, &[0, 1, 2])?))
 }
 
-// the certificate that member 2 owes after these members voted so
-fn owed_after(alloc: Global, signers: &[u16], own: bool) -> Result<Option<Cert>, Fail> {
+// whether member 2 owes a certificate with these signers, none where there are none, after these
+// members voted so
+fn owes(alloc: Global, signers: &[u16], own: bool, want: &[u16]) -> Result<bool, Fail> {
     let mut tally = tally(alloc, 2)?;
     for signer in signers {
         take_vote(&mut tally, *signer, &NULLIFY)?;
@@ -71,57 +72,61 @@ fn owed_after(alloc: Global, signers: &[u16], own: bool) -> Result<Option<Cert>,
     if own {
         take_note(&mut tally, Note::Vote(NULLIFY))?;
     }
-    Ok(tally.owed_cert(alloc)?)
+    has_signers(alloc, &tally, want)
+}
+
+fn has_signers(alloc: Global, tally: &Tally<SumHasher>, want: &[u16]) -> Result<bool, Fail> {
+    match tally.owed_cert(alloc)? {
+        Some(cert) => Ok(cert.signers.as_slice() == want),
+        None => Ok(want.is_empty()),
+    }
+}
+
+#[test]
+fn two_signers_and_no_third_owe_no_certificate(rt: HostRuntime) -> Result<(), Fail> {
+    assert!(rt; owes(rt.alloc(), &[0, 1], false, &[])?);
+    assert!(rt; owes(rt.alloc(), &[0, 1, 9], false, &[])?);
+    assert!(rt; owes(rt.alloc(), &[0, 0], true, &[])?);
+    Ok(())
 }
 
 #[test]
 fn a_quorum_of_signers_owes_a_certificate(rt: HostRuntime) -> Result<(), Fail> {
-    let alloc = rt.alloc();
-    let cases = [
-        ([0u16, 1].as_slice(), false, None),
-        (&[0, 0], true, None),
-        (&[0, 1, 9], false, None),
-        (&[0, 1], true, Some([0u16, 1, 2].as_slice())),
-        (&[3, 1, 0], false, Some(&[0, 1, 3])),
-        (&[3, 1, 0], true, Some(&[0, 1, 2, 3])),
-    ];
-    for (signers, own, want) in cases {
-        let owed = owed_after(alloc, signers, own)?;
-        assert_eq!(rt; owed.as_ref().map(|cert| cert.signers.as_slice()), want);
-    }
+    assert!(rt; owes(rt.alloc(), &[3, 1, 0], false, &[0, 1, 3])?);
+    assert!(rt; owes(rt.alloc(), &[0, 1], true, &[0, 1, 2])?);
     Ok(())
+}
+
+// a certificate came, and then three votes of the same
+fn with_certificate(alloc: Global) -> Result<Tally<SumHasher>, Fail> {
+    let mut tally = tally(alloc, 0)?;
+    take_cert(&mut tally, &cert(alloc, NULLIFY, &[1, 2, 3])?)?;
+    for signer in 0..3u16 {
+        take_vote(&mut tally, signer, &NULLIFY)?;
+    }
+    Ok(tally)
 }
 
 #[test]
 fn a_certificate_that_came_goes_before_what_is_known(rt: HostRuntime) -> Result<(), Fail> {
-    let alloc = rt.alloc();
-    let mut tally = tally(alloc, 0)?;
-    let came = cert(alloc, NULLIFY, &[1, 2, 3])?;
-    assert!(rt; take_cert(&mut tally, &came)?);
-    assert!(rt; !take_cert(&mut tally, &came)?);
-    for signer in 0..3u16 {
-        assert!(rt; take_vote(&mut tally, signer, &NULLIFY)?);
-    }
+    let mut tally = with_certificate(rt.alloc())?;
+    assert!(rt; has_signers(rt.alloc(), &tally, &[1, 2, 3])?);
     assert!(rt; !take_vote(&mut tally, 1, &NULLIFY)?);
-    let owed = tally.owed_cert(alloc)?.ok_or("a certificate")?;
-    assert!(rt; owed.is_same(&came));
-    take_note(&mut tally, Note::Cert(came))?;
-    assert!(rt; tally.owed_cert(alloc)?.is_none());
     Ok(())
 }
 
-fn proposal(view: u64, parent: u64, payload: Commitment) -> Proposal {
+fn proposal(view: u64, payload: Commitment) -> Proposal {
     Proposal {
         epoch: 0,
         view,
-        parent,
+        parent: 0,
         payload,
     }
 }
 
-// what a member certified, or may certify, in view 1
+// a proposal of view 1
 fn first() -> Proposal {
-    proposal(1, 0, genesis_commitment::<SumHasher>())
+    proposal(1, genesis_commitment::<SumHasher>())
 }
 
 // a proposal of view 2 over the first block, of a payload that is cut in two and two. The bytes of its
@@ -137,39 +142,34 @@ fn second() -> Proposal {
             extra_shards: two,
         },
     };
-    proposal(2, 0, payload)
+    proposal(2, payload)
 }
 
-// the vote that member 0 owes when this note was written, the leader of view 2 proposed, and the chunk
-// at this place came
-fn vote_after(alloc: Global, note: Note, at: u16) -> Result<Option<Vote>, Fail> {
+// the vote that member 0 owes when a certificate of this vote was noted, the leader of view 2 proposed,
+// and the chunk at place 0 came
+fn vote_after(alloc: Global, vote: Vote) -> Result<Option<Vote>, Fail> {
     let mut tally = tally(alloc, 0)?;
-    take_note(&mut tally, note)?;
+    take_note(&mut tally, cert_note(alloc, vote)?)?;
     take_vote(&mut tally, 2, &Vote::Notarize(second()))?;
-    tally.take_own_chunk(&second().payload, at)?;
+    tally.take_own_chunk(&second().payload, 0)?;
     Ok(tally.owed_vote())
 }
 
 #[test]
-fn a_proposal_is_voted_for_where_all_views_below_it_are_nullified(
+fn a_proposal_over_a_view_that_is_not_nullified_is_not_voted_for(
     rt: HostRuntime,
 ) -> Result<(), Fail> {
-    let alloc = rt.alloc();
-    let nullified = vote_after(alloc, cert_note(alloc, NULLIFY)?, 0)?;
-    assert_eq!(rt; nullified, Some(Vote::Notarize(second())));
-    let other_chunk = vote_after(alloc, cert_note(alloc, NULLIFY)?, 1)?;
-    assert_eq!(rt; other_chunk, None);
-    let skipped = vote_after(alloc, cert_note(alloc, Vote::Finalize(first()))?, 0)?;
-    assert_eq!(rt; skipped, None);
+    let nullified = vote_after(rt.alloc(), NULLIFY)?;
+    assert!(rt; nullified == Some(Vote::Notarize(second())));
+    let skipped = vote_after(rt.alloc(), Vote::Finalize(first()))?;
+    assert!(rt; skipped.is_none());
     Ok(())
 }
 
 // the vote that member 0 owes after it voted so and then certified the proposal of view 1
-fn vote_after_own(alloc: Global, own: Option<Vote>) -> Result<Option<Vote>, Fail> {
+fn vote_after_own(alloc: Global, own: Vote) -> Result<Option<Vote>, Fail> {
     let mut tally = tally(alloc, 0)?;
-    if let Some(vote) = own {
-        take_note(&mut tally, Note::Vote(vote))?;
-    }
+    take_note(&mut tally, Note::Vote(own))?;
     take_note(&mut tally, Note::Certified(first()))?;
     Ok(tally.owed_vote())
 }
@@ -178,16 +178,9 @@ fn vote_after_own(alloc: Global, own: Option<Vote>) -> Result<Option<Vote>, Fail
 fn a_certified_proposal_is_finalized_in_a_view_that_is_not_closed(
     rt: HostRuntime,
 ) -> Result<(), Fail> {
-    let finalize = Vote::Finalize(first());
-    let cases = [
-        (None, Some(finalize)),
-        (Some(Vote::Notarize(first())), Some(finalize)),
-        (Some(NULLIFY), None),
-        (Some(finalize), None),
-    ];
-    for (own, want) in cases {
-        assert_eq!(rt; vote_after_own(rt.alloc(), own)?, want);
-    }
+    let voted = vote_after_own(rt.alloc(), Vote::Notarize(first()))?;
+    assert!(rt; voted == Some(Vote::Finalize(first())));
+    assert!(rt; vote_after_own(rt.alloc(), NULLIFY)?.is_none());
     Ok(())
 }
 
@@ -201,16 +194,11 @@ fn notarized(alloc: Global) -> Result<Tally<SumHasher>, Fail> {
 }
 
 #[test]
-fn notarized_proposals_are_given_once_until_they_are_certified(
-    rt: HostRuntime,
-) -> Result<(), Fail> {
-    let mut tally = notarized(rt.alloc())?;
-    assert_eq!(rt; tally.uncertified(0).copied(), Some(second()));
-    assert_eq!(rt; tally.uncertified(1).copied(), Some(first()));
-    assert_eq!(rt; tally.uncertified(2).copied(), None);
-    take_note(&mut tally, Note::Certified(second()))?;
-    assert_eq!(rt; tally.uncertified(0).copied(), Some(first()));
-    assert_eq!(rt; tally.uncertified(1).copied(), None);
+fn notarized_proposals_are_given_once(rt: HostRuntime) -> Result<(), Fail> {
+    let tally = notarized(rt.alloc())?;
+    assert!(rt; tally.uncertified(0).copied() == Some(second()));
+    assert!(rt; tally.uncertified(1).copied() == Some(first()));
+    assert!(rt; tally.uncertified(2).is_none());
     Ok(())
 }
 
@@ -226,37 +214,8 @@ fn in_third_view(alloc: Global) -> Result<Tally<SumHasher>, Fail> {
 #[test]
 fn a_parent_is_settled_and_followed_by_nullified_views(rt: HostRuntime) -> Result<(), Fail> {
     let tally = in_third_view(rt.alloc())?;
-    assert_eq!(rt; tally.view(0), 3);
-    assert!(rt; tally.nullified(0, 2) && !tally.nullified(0, 1) && !tally.nullified(1, 2));
-    let payload = first().payload;
-    let cases = [
-        (3, Some((1, payload))),
-        (2, Some((1, payload))),
-        (1, None),
-        (u64::MAX, Some((1, payload))),
-    ];
-    for (below, want) in cases {
-        assert_eq!(rt; tally.propose_parent(0, below), want);
-    }
-    Ok(())
-}
-
-#[test]
-fn an_epoch_builds_on_what_it_is_entered_by(rt: HostRuntime) -> Result<(), Fail> {
-    let mut tally = in_third_view(rt.alloc())?;
-    assert_eq!(rt; tally.epoch(), 0);
-    assert_eq!(rt; tally.settled(1, 0), None);
-    take_note(&mut tally, Note::Epoch(1, second().payload))?;
-    assert_eq!(rt; tally.epoch(), 1);
-    assert_eq!(rt; tally.view(1), 1);
-    let cases = [
-        (0, 0, Some(first().payload)),
-        (0, 1, Some(first().payload)),
-        (0, 2, None),
-        (1, 0, Some(second().payload)),
-    ];
-    for (epoch, view, want) in cases {
-        assert_eq!(rt; tally.settled(epoch, view), want);
-    }
+    assert!(rt; tally.view(0) == 3);
+    assert!(rt; tally.propose_parent(0, 3) == Some((1, first().payload)));
+    assert!(rt; tally.propose_parent(0, 1).is_none());
     Ok(())
 }
