@@ -1,5 +1,5 @@
 -- When a certificate is owed, and which.
-use Rattle.std.proofs.Common.{◌≡◌, ◌&&◌, ◌||◌, ℕ, Bool, true, false, if◌then◌else◌, nat_le, not, List, [], ◌∷◌, length, map, Option, Some, None, option_map, unwrap_or, refl}
+use Rattle.std.proofs.Common.{◌≡◌, ◌&&◌, ◌||◌, ℕ, Bool, true, false, if◌then◌else◌, nat_le, not, List, [], ◌∷◌, length, Option, Some, None, option_map, unwrap_or, refl}
 use Rattle.std.specs.List.{find}
 use Rattle.std.specs.Option.{is_some, option_or}
 use Rattle.cw_types.specs.Epochs.{size}
@@ -10,7 +10,7 @@ use Rattle.cw_types.specs.declared.note.Note.{Note}
 use Rattle.cw_types.specs.declared.vote.Vote.{Vote}
 use Rattle.cw_rules.specs.Accepted.{Ballot, Many, Single, State, first_some}
 use Rattle.cw_rules.specs.Notes.{has_cert}
-use Rattle.cw_rules.specs.Owed.{cert_owed, known, named_votes, signers_in, signers_of, when}
+use Rattle.cw_rules.specs.Owed.{cert_owed, known, named_votes, signers_in, when}
 use Rattle.cw_rules.specs.Rules.{Rules}
 use Rattle.voter.specs.Known.{ballot_signers, certifies}
 use Rattle.voter.proofs.Lists.{first_found, first_missing}

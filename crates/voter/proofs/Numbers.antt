@@ -1,13 +1,13 @@
 -- The greatest of some numbers, as a fold finds it, and how great it can be.
-use Rattle.std.proofs.Common.{◌≡◌, ℕ, ◌+◌, ◌-◌, ◌^◌, ◌<◌, ◌&&◌, ◌==◌, if◌then◌else◌, IsTrue, Bool, true, false, max, nat_lt, List, [], ◌∷◌, Option, Some, None, refl, ◌∙◌, ap, arith, sym, subst, ltb-true}
+use Rattle.std.proofs.Common.{◌≡◌, ℕ, ◌-◌, ◌^◌, ◌<◌, ◌==◌, if◌then◌else◌, Bool, true, false, max, nat_lt, List, [], ◌∷◌, Option, Some, None, refl, ◌∙◌, arith, subst, ltb-true}
 use Rattle.std.specs.List.{filter_map, fold, list_all}
-use Rattle.std.proofs.lemmas.Bool.{and_parts, cases_Bool}
+use Rattle.std.proofs.lemmas.Bool.{and_parts}
 use Rattle.cw_types.specs.Votes.{is_ordered, is_view, well_formed}
 use Rattle.cw_types.specs.declared.note.Note.{Note}
 use Rattle.cw_types.specs.declared.vote.Proposal.{Proposal}
 use Rattle.cw_types.specs.declared.vote.Vote.{Vote}
 use Rattle.cw_types.specs.declared.vote.Vote.TheVariants.{Finalize, Notarize, Nullify}
-use Rattle.cw_rules.specs.Notes.{ended, ended_by, ends_in, greatest}
+use Rattle.cw_rules.specs.Notes.{ended, ended_by, greatest}
 use Rattle.voter.specs.Known.{is_countable}
 
 fold_from : (a : ℕ) (xs : List ℕ) → fold max a xs ≡ max a (greatest xs)

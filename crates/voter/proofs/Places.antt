@@ -1,5 +1,5 @@
 -- What stands at a place of a list that is filtered, mapped, joined or counted off.
-use Rattle.std.proofs.Common.{◌≡◌, ◌+◌, ◌-◌, ◌≤◌, ℕ, zero, suc, Bool, true, false, List, [], ◌∷◌, ◌++◌, length, map, filter, Option, Some, None, option_and_then, option_map, slice_get, refl, ◌∙◌, ap, sym, subst, arith, ◌==◌, ◌⊎◌, inl, inr, eqb-true}
+use Rattle.std.proofs.Common.{◌≡◌, ◌+◌, ◌-◌, ◌≤◌, ℕ, zero, suc, Bool, true, false, List, [], ◌∷◌, ◌++◌, length, map, filter, Option, Some, None, option_and_then, option_map, slice_get, refl, ◌∙◌, ap, sym, arith, ◌==◌, ◌⊎◌, inl, inr, eqb-true}
 use Rattle.std.specs.List.{enumerate_from, filter_map, find}
 use Rattle.std.proofs.lemmas.Bool.{cases_Bool}
 use Rattle.std.proofs.lemmas.Option.{same_Some}

@@ -1,5 +1,5 @@
 -- When a vote is owed, and which.
-use Rattle.std.proofs.Common.{◌≡◌, ◌&&◌, ◌==◌, ℕ, Bool, true, false, not, List, [], ◌∷◌, map, Option, Some, None, refl, ◌∙◌, ap, sym}
+use Rattle.std.proofs.Common.{◌≡◌, ◌&&◌, ◌==◌, ℕ, true, false, not, List, [], ◌∷◌, map, Option, Some, None, refl}
 use Rattle.std.specs.List.{find, list_any}
 use Rattle.std.specs.Option.{is_some, option_map_or}
 use Rattle.cw_types.specs.Epochs.{is_member, leader}

@@ -1,7 +1,5 @@
 -- What a tally holds, as a record of lists, and how the rules see it.
 use Rattle.std.specs.Prelude.{[], ℕ, ◌&&◌, ◌++◌, ◌==◌, ◌∷◌, Bool, List, None, Option, Some, false, map, true}
-use Rattle.std.specs.List.{list_all}
-use Rattle.std.specs.Option.{option_map_or}
 use Rattle.cw_base.specs.declared.hash.Digest32.{Digest32}
 use Rattle.cw_types.specs.Encoding.{block_bytes, context_bytes}
 use Rattle.cw_types.specs.Epochs.{Epochs}

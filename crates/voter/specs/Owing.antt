@@ -1,5 +1,5 @@
 -- What a member owes by what it knows, and over what it may propose.
-use Rattle.std.specs.Prelude.{ℕ, ◌&&◌, ◌-◌, ◌==◌, Bool, List, None, Option, Some, false, filter, if◌then◌else◌, map, min, not, option_map, suc, take, zero}
+use Rattle.std.specs.Prelude.{ℕ, ◌&&◌, ◌-◌, ◌==◌, Bool, List, None, Option, false, filter, if◌then◌else◌, map, min, not, option_map, suc, take, zero}
 use Rattle.std.specs.List.{enumerate_from, list_any}
 use Rattle.std.specs.Option.{is_some, option_map_or, option_or}
 use Rattle.cw_base.specs.declared.hash.Digest32.{Digest32}

@@ -1,5 +1,5 @@
-use Rattle.std.proofs.Common.{◌≡◌, ◌<◌, ◌+◌, ◌-◌, ◌^◌, ◌∙◌, arith, subst, sym, ap}
-use Rattle.std.specs.List.{filter_map, fold}
+use Rattle.std.proofs.Common.{◌≡◌, ◌+◌, ◌∙◌, arith, ap}
+use Rattle.std.specs.List.{filter_map}
 use Rattle.cw_rules.specs.Notes as rule
 use Rattle.voter.proofs.Numbers.{ended_below, fold_greatest}
 use Rattle.voter.proofs.notes.view_of.Goals as goal

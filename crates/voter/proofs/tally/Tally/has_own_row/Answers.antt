@@ -1,4 +1,4 @@
-use Rattle.std.proofs.Common.{◌≡◌, ◌∙◌, sym}
+use Rattle.std.proofs.Common.{◌∙◌, sym}
 use Rattle.cw_types.specs.Epochs.{place}
 use Rattle.voter.proofs.Voted.{own_at}
 use Rattle.voter.proofs.tally.Tally.has_own_row.Goals as goal

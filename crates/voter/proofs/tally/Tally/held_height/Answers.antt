@@ -1,4 +1,4 @@
-use Rattle.std.proofs.Common.{◌≡◌, ◌∙◌, ap, sym}
+use Rattle.std.proofs.Common.{◌∙◌, ap, sym}
 use Rattle.cw_types.specs.Same.{same_commitment}
 use Rattle.voter.specs.Known.{rules_of}
 use Rattle.voter.proofs.Heights.{held_kept}

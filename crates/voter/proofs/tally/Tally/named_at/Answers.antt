@@ -1,6 +1,4 @@
-use Rattle.std.proofs.Common.{◌≡◌, ◌-◌, ◌∙◌, ap, sym, length, Some, None, slice_get, option_map, option_and_then}
-use Rattle.std.specs.List.{filter_map}
-use Rattle.std.specs.Option.{option_or}
+use Rattle.std.proofs.Common.{◌-◌, ◌∙◌, ap, sym, option_map}
 use Rattle.cw_types.specs.Votes.{proposal_of}
 use Rattle.cw_rules.specs.Owed as rule
 use Rattle.voter.proofs.Places.{first_place, second_place}

@@ -1,4 +1,4 @@
-use Rattle.std.proofs.Common.{◌≡◌, Some, ap, ◌∙◌, sym}
+use Rattle.std.proofs.Common.{Some, ap, ◌∙◌, sym}
 use Rattle.cw_types.specs.declared.note.Note.{Note}
 use Rattle.voter.specs.Known.{rules_of, state_of}
 use Rattle.voter.specs.Owing.{owes_cert}

@@ -1,4 +1,4 @@
-use Rattle.std.proofs.Common.{◌≡◌, ◌∙◌, sym}
+use Rattle.std.proofs.Common.{sym}
 use Rattle.voter.specs.Known.{rules_of, state_of}
 use Rattle.voter.specs.Owing.{owes_notarize}
 use Rattle.voter.proofs.Voted.{notarize_found, notarize_missing}

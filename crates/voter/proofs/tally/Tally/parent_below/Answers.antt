@@ -1,4 +1,4 @@
-use Rattle.std.proofs.Common.{◌≡◌, ◌-◌, ◌∙◌, refl, sym}
+use Rattle.std.proofs.Common.{◌-◌, ◌∙◌, refl, sym}
 use Rattle.cw_types.specs.Commit.{genesis_commitment}
 use Rattle.voter.proofs.StepDown.{step_down}
 use Rattle.voter.proofs.tally.Tally.parent_below.Goals as goal

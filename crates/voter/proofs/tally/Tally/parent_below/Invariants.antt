@@ -1,4 +1,4 @@
-use Rattle.std.proofs.Common.{◌≡◌, ℕ}
+use Rattle.std.proofs.Common.{◌≡◌}
 use Rattle.cw_types.specs.Commit.{genesis_commitment}
 use Rattle.voter.specs.Owing as owing
 use Rattle.voter.proofs.tally.Tally.parent_below.Given as goal

@@ -1,4 +1,4 @@
-use Rattle.std.proofs.Common.{◌≡◌, ◌∙◌, sym}
+use Rattle.std.proofs.Common.{◌∙◌, sym}
 use Rattle.cw_rules.specs.Owed.{named_proposals}
 use Rattle.voter.specs.Known.{state_of}
 use Rattle.voter.specs.Owing.{is_candidate}
