@@ -18,6 +18,3 @@ mod votes;
 pub use laws::chain_laws;
 pub use own::OwnChunk;
 pub use tally::Tally;
-
-#[cfg(test)]
-mod tests;
