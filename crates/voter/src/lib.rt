@@ -18,3 +18,6 @@ mod votes;
 pub use laws::chain_laws;
 pub use own::OwnChunk;
 pub use tally::Tally;
+
+#[cfg(test)]
+mod tests;

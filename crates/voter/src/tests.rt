@@ -1,0 +1,221 @@
+ghost use Rattle.std.specs.Prelude.{◌≡◌, ◌<◌};
+ghost use Rattle.voter.specs.Known.{is_countable};
+
+use crate::*;
+use cw_base::{Config, Digest32, Items, SumHasher};
+use cw_types::{
+    Cert, Commitment, Committees, Note, Proposal, Vote, genesis_commitment, well_formed,
+};
+use std::alloc::Global;
+use std::num::NonZeroU16;
+use std::test::Fail;
+
+const NULLIFY: Vote = Vote::Nullify { epoch: 0, view: 1 };
+
+// a member of a cluster of four
+fn tally(alloc: Global, id: u16) -> Result<Tally<SumHasher>, Fail>
+    requires { id < 4 }
+{
+    Ok(Tally::new(alloc, Committees::single(alloc, 4)?, id))
+}
+
+fn take_vote(tally: &mut Tally<SumHasher>, signer: u16, vote: &Vote) -> Result<bool, Fail> {
+    if !well_formed(vote) {
+        return Err("a vote that may be counted".into());
+    }
+    Ok(tally.take_vote(signer, vote)?)
+}
+
+fn take_cert(tally: &mut Tally<SumHasher>, cert: &Cert) -> Result<bool, Fail> {
+    if !well_formed(&cert.vote) {
+        return Err("a vote that may be counted".into());
+    }
+    Ok(tally.take_cert(cert)?)
+}
+
+// whether the votes of a note, and its proposals, may be counted
+fn is_countable(note: &Note) -> bool
+    ensures { result ≡ is_countable note.now }
+{
+    match note {
+        Note::Vote(vote) => well_formed(vote),
+        Note::Cert(cert) => well_formed(&cert.vote),
+        Note::Certified(proposal) => well_formed(&Vote::Notarize(*proposal)),
+        _ => true,
+    }
+}
+
+fn take_note(tally: &mut Tally<SumHasher>, note: Note) -> Result<(), Fail> {
+    if !is_countable(&note) {
+        return Err("a note that may be counted".into());
+    }
+    tally.take_note(&note)?;
+    Ok(())
+}
+
+fn cert(alloc: Global, vote: Vote, signers: &[u16]) -> Result<Cert, Fail> {
+    let signers = Items::from_vec(Vec::from_slice(alloc, signers)?);
+    Ok(Cert { vote, signers })
+}
+
+fn cert_note(alloc: Global, vote: Vote) -> Result<Note, Fail> {
+    Ok(Note::Cert(cert(alloc, vote, &[0, 1, 2])?))
+}
+
+// whether member 2 owes a certificate with these signers, none where there are none, after these
+// members voted so
+fn owes(alloc: Global, signers: &[u16], own: bool, want: &[u16]) -> Result<bool, Fail> {
+    let mut tally = tally(alloc, 2)?;
+    for signer in signers {
+        take_vote(&mut tally, *signer, &NULLIFY)?;
+    }
+    if own {
+        take_note(&mut tally, Note::Vote(NULLIFY))?;
+    }
+    has_signers(alloc, &tally, want)
+}
+
+fn has_signers(alloc: Global, tally: &Tally<SumHasher>, want: &[u16]) -> Result<bool, Fail> {
+    match tally.owed_cert(alloc)? {
+        Some(cert) => Ok(cert.signers.as_slice() == want),
+        None => Ok(want.is_empty()),
+    }
+}
+
+#[test]
+fn two_signers_and_no_third_owe_no_certificate(rt: HostRuntime) -> Result<(), Fail> {
+    assert!(rt; owes(rt.alloc(), &[0, 1], false, &[])?);
+    assert!(rt; owes(rt.alloc(), &[0, 1, 9], false, &[])?);
+    assert!(rt; owes(rt.alloc(), &[0, 0], true, &[])?);
+    Ok(())
+}
+
+#[test]
+fn a_quorum_of_signers_owes_a_certificate(rt: HostRuntime) -> Result<(), Fail> {
+    assert!(rt; owes(rt.alloc(), &[3, 1, 0], false, &[0, 1, 3])?);
+    assert!(rt; owes(rt.alloc(), &[0, 1], true, &[0, 1, 2])?);
+    Ok(())
+}
+
+// a certificate came, and then three votes of the same
+fn with_certificate(alloc: Global) -> Result<Tally<SumHasher>, Fail> {
+    let mut tally = tally(alloc, 0)?;
+    take_cert(&mut tally, &cert(alloc, NULLIFY, &[1, 2, 3])?)?;
+    for signer in 0..3u16 {
+        take_vote(&mut tally, signer, &NULLIFY)?;
+    }
+    Ok(tally)
+}
+
+#[test]
+fn a_certificate_that_came_goes_before_what_is_known(rt: HostRuntime) -> Result<(), Fail> {
+    let mut tally = with_certificate(rt.alloc())?;
+    assert!(rt; has_signers(rt.alloc(), &tally, &[1, 2, 3])?);
+    assert!(rt; !take_vote(&mut tally, 1, &NULLIFY)?);
+    Ok(())
+}
+
+fn proposal(view: u64, payload: Commitment) -> Proposal {
+    Proposal {
+        epoch: 0,
+        view,
+        parent: 0,
+        payload,
+    }
+}
+
+// a proposal of view 1
+fn first() -> Proposal {
+    proposal(1, genesis_commitment::<SumHasher>())
+}
+
+// a proposal of view 2 over the first block, of a payload that is cut in two and two. The bytes of its
+// context are zeros but for a view and a leader of 2, a commitment of 96 bytes of 2, and two of 1
+fn second() -> Proposal {
+    let two = NonZeroU16::MIN.saturating_add(1);
+    let payload = Commitment {
+        block: Digest32([7; 32]),
+        root: Digest32([8; 32]),
+        context: Digest32([198; 32]),
+        config: Config {
+            minimum_shards: two,
+            extra_shards: two,
+        },
+    };
+    proposal(2, payload)
+}
+
+// the vote that member 0 owes when a certificate of this vote was noted, the leader of view 2 proposed,
+// and the chunk at place 0 came
+fn vote_after(alloc: Global, vote: Vote) -> Result<Option<Vote>, Fail> {
+    let mut tally = tally(alloc, 0)?;
+    take_note(&mut tally, cert_note(alloc, vote)?)?;
+    take_vote(&mut tally, 2, &Vote::Notarize(second()))?;
+    tally.take_own_chunk(&second().payload, 0)?;
+    Ok(tally.owed_vote())
+}
+
+#[test]
+fn a_proposal_over_a_view_that_is_not_nullified_is_not_voted_for(
+    rt: HostRuntime,
+) -> Result<(), Fail> {
+    let nullified = vote_after(rt.alloc(), NULLIFY)?;
+    assert!(rt; nullified == Some(Vote::Notarize(second())));
+    let skipped = vote_after(rt.alloc(), Vote::Finalize(first()))?;
+    assert!(rt; skipped.is_none());
+    Ok(())
+}
+
+// the vote that member 0 owes after it voted so and then certified the proposal of view 1
+fn vote_after_own(alloc: Global, own: Vote) -> Result<Option<Vote>, Fail> {
+    let mut tally = tally(alloc, 0)?;
+    take_note(&mut tally, Note::Vote(own))?;
+    take_note(&mut tally, Note::Certified(first()))?;
+    Ok(tally.owed_vote())
+}
+
+#[test]
+fn a_certified_proposal_is_finalized_in_a_view_that_is_not_closed(
+    rt: HostRuntime,
+) -> Result<(), Fail> {
+    let voted = vote_after_own(rt.alloc(), Vote::Notarize(first()))?;
+    assert!(rt; voted == Some(Vote::Finalize(first())));
+    assert!(rt; vote_after_own(rt.alloc(), NULLIFY)?.is_none());
+    Ok(())
+}
+
+// two notarizations, of which the second one's proposal was named first
+fn notarized(alloc: Global) -> Result<Tally<SumHasher>, Fail> {
+    let mut tally = tally(alloc, 0)?;
+    take_note(&mut tally, cert_note(alloc, Vote::Notarize(first()))?)?;
+    take_note(&mut tally, cert_note(alloc, Vote::Notarize(second()))?)?;
+    take_vote(&mut tally, 3, &Vote::Notarize(second()))?;
+    Ok(tally)
+}
+
+#[test]
+fn notarized_proposals_are_given_once(rt: HostRuntime) -> Result<(), Fail> {
+    let tally = notarized(rt.alloc())?;
+    assert!(rt; tally.uncertified(0).copied() == Some(second()));
+    assert!(rt; tally.uncertified(1).copied() == Some(first()));
+    assert!(rt; tally.uncertified(2).is_none());
+    Ok(())
+}
+
+// view 1 is finalized, and view 2 is nullified
+fn in_third_view(alloc: Global) -> Result<Tally<SumHasher>, Fail> {
+    let mut tally = tally(alloc, 0)?;
+    take_note(&mut tally, cert_note(alloc, Vote::Finalize(first()))?)?;
+    let nullify = Vote::Nullify { epoch: 0, view: 2 };
+    take_note(&mut tally, cert_note(alloc, nullify)?)?;
+    Ok(tally)
+}
+
+#[test]
+fn a_parent_is_settled_and_followed_by_nullified_views(rt: HostRuntime) -> Result<(), Fail> {
+    let tally = in_third_view(rt.alloc())?;
+    assert!(rt; tally.view(0) == 3);
+    assert!(rt; tally.propose_parent(0, 3) == Some((1, first().payload)));
+    assert!(rt; tally.propose_parent(0, 1).is_none());
+    Ok(())
+}
