@@ -76,6 +76,13 @@ impl<'a> Reader<'a> {
         Reader { left: bytes }
     }
 
+    /// The bytes that are left. None of them is taken.
+    pub fn rest(&self) -> &'a [u8]
+        ensures { result.now ≡ self.now }
+    {
+        self.left
+    }
+
     /// The next `count` bytes, or `EndOfBuffer`.
     pub fn take(&mut self, count: usize) -> Result<&'a [u8], CodecError>
         ensures { IsRead (λ bytes. bytes.now) result self.new (bytes_at count self.old) }
