@@ -1,2 +1,5 @@
 pub mod FirstBlock
 pub mod EpochLemmas
+pub mod SignersRead
+pub mod Taken
+pub mod ShardRead

@@ -3,9 +3,11 @@
 ghost use Rattle.std.specs.Prelude.{◌≡◌, ◌↔◌, ◌-◌, ◌^◌, ◌<◌, ◌≤◌, [], ◌++◌, IsErr, IfOk, IfErr, OnOk, OnErr, take, length};
 ghost use Rattle.cw_types.specs.Encoding.{context_bytes, block_bytes};
 ghost use Rattle.cw_types.specs.Same.{same_context, same_block};
+ghost use Rattle.cw_types.specs.Reading.{context_at, height_at, payload_at, block_at};
+ghost use Rattle.cw_base.specs.Reading.{IsRead, Gives};
 
-use crate::commitment::Commitment;
-use cw_base::{Digest32, NoMemory, put_be16, put_be64, put_bytes, put_varint};
+use crate::commitment::{Commitment, read_digest};
+use cw_base::{CodecError, Digest32, NoMemory, Reader, put_be16, put_be64, put_bytes, put_varint};
 use std::alloc::Global;
 use std::marker::Model;
 
@@ -58,6 +60,27 @@ impl Context {
         put_be64(out, self.parent_view)?;
         self.parent.write(out)?;
         Ok(())
+    }
+
+    /// The context at the front: `Invalid` for a config with a zero, `EndOfBuffer` where it is cut.
+    ///
+    /// Refused, the reader stands behind the parts that were taken, a zero among them.
+    #[tactic(auto, unfolding(crate::specs::Reading::context_at))]
+    pub fn read(reader: &mut Reader) -> Result<Context, CodecError>
+        ensures { IsRead (λ context. context) result reader.new (context_at reader.old) }
+    {
+        let epoch = reader.be64()?;
+        let view = reader.be64()?;
+        let leader = reader.be16()?;
+        let parent_view = reader.be64()?;
+        let parent = Commitment::read(reader)?;
+        Ok(Context {
+            epoch,
+            view,
+            leader,
+            parent_view,
+            parent,
+        })
     }
 }
 
@@ -140,6 +163,10 @@ impl Eq for Payload {
 
     ghost laws = { Prim.search (comparing, rules) };
 }
+
+// The most bytes of a block: 126 of its context, 32 of its parent's digest, 8 of its height, 3 of its
+// payload's length, and the payload.
+pub(crate) const MAX_BLOCK: usize = 1_048_745;
 
 /// A block of the chain: its context, the digest of its parent, its height, which is below
 /// 2^64 - 1, and its payload. It has at most 1,048,745 bytes.
@@ -254,4 +281,56 @@ impl ChainBlock {
         put_bytes(out, payload)?;
         Ok(())
     }
+
+    /// The block at the front: `Invalid` for a config with a zero and for a height of 2^64 - 1,
+    /// `InvalidVarint` for a payload's length in another form than its shortest, `TooLong` for one
+    /// above `Payload::MAX`, `EndOfBuffer` where it is cut.
+    ///
+    /// Refused, the reader stands behind the parts that were taken, a refused value among them.
+    #[tactic(auto, unfolding(crate::specs::Reading::block_at))]
+    pub fn read(alloc: Global, reader: &mut Reader) -> Result<ChainBlock, CodecError>
+        ensures { Gives (λ block. block) result reader.new (block_at reader.old) }
+    {
+        let context = Context::read(reader)?;
+        let parent = read_digest(reader)?;
+        let height = read_height(reader)?;
+        let payload = read_payload(alloc, reader)?;
+        Ok(ChainBlock {
+            context,
+            parent,
+            height,
+            payload,
+        })
+    }
+}
+
+// A height below 2^64 - 1.
+#[tactic(auto, unfolding(crate::specs::Reading::height_at))]
+pub(crate) fn read_height(reader: &mut Reader) -> Result<u64, CodecError>
+    ensures value { IsRead (λ height. height) result reader.new (height_at reader.old) }
+    ensures bound { IfOk result (λ height. height < 2 ^ 64 - 1) }
+{
+    let height = reader.be64()?;
+    if height == u64::MAX {
+        return Err(CodecError::Invalid);
+    }
+    Ok(height)
+}
+
+// A payload behind the number of its bytes.
+#[tactic(auto, unfolding(crate::specs::Reading::payload_at))]
+fn read_payload(alloc: Global, reader: &mut Reader) -> Result<Payload, CodecError>
+    ensures { Gives (λ payload. payload) result reader.new (payload_at reader.old) }
+{
+    let count = reader.varint()? as usize;
+    if count > Payload::MAX {
+        return Err(CodecError::TooLong);
+    }
+    let bytes = match reader.take(count) {
+        Ok(bytes) => bytes,
+        Err(error) => return Err(error),
+    };
+    Ok(Payload {
+        bytes: Vec::from_slice(alloc, bytes)?,
+    })
 }

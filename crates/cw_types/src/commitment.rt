@@ -3,8 +3,10 @@
 ghost use Rattle.std.specs.Prelude.{◌≡◌, ◌++◌, OnOk, OnErr, take, length};
 ghost use Rattle.cw_types.specs.Encoding.{commitment_bytes};
 ghost use Rattle.cw_types.specs.Same.{same_commitment};
+ghost use Rattle.cw_types.specs.Reading.{commitment_at, digest_at};
+ghost use Rattle.cw_base.specs.Reading.{IsRead};
 
-use cw_base::{Config, Digest32, NoMemory, put_bytes};
+use cw_base::{CodecError, Config, Digest, Digest32, NoMemory, Reader, put_bytes};
 
 /// What names a block: the digest of its bytes, the root of the shards that it is cut into, the
 /// digest of its context, and how it is cut. In bytes: 32, 32, 32 and 4.
@@ -51,5 +53,36 @@ impl Commitment {
         put_bytes(out, &self.root.0)?;
         put_bytes(out, &self.context.0)?;
         put_bytes(out, &self.config.write())
+    }
+
+    /// The commitment at the front: `Invalid` for a config with a zero, `EndOfBuffer` where it is cut.
+    ///
+    /// Refused, the reader stands behind the parts that were taken, a zero among them.
+    #[tactic(auto, unfolding(crate::specs::Reading::commitment_at))]
+    pub fn read(reader: &mut Reader) -> Result<Commitment, CodecError>
+        ensures { IsRead (λ commitment. commitment) result reader.new (commitment_at reader.old) }
+    {
+        let block = read_digest(reader)?;
+        let root = read_digest(reader)?;
+        let context = read_digest(reader)?;
+        let config = Config::read(reader)?;
+        Ok(Commitment {
+            block,
+            root,
+            context,
+            config,
+        })
+    }
+}
+
+// The digest at the front.
+#[tactic(auto, unfolding(crate::specs::Reading::digest_at))]
+pub(crate) fn read_digest(reader: &mut Reader) -> Result<Digest32, CodecError>
+    ensures { IsRead (λ digest. digest) result reader.new (digest_at reader.old) }
+{
+    let bytes = reader.take(Digest32::SIZE)?;
+    match Digest32::from_slice(bytes) {
+        Some(digest) => Ok(digest),
+        None => Err(CodecError::Invalid),
     }
 }

@@ -1,13 +1,16 @@
 //! Messages between members.
 
-ghost use Rattle.std.specs.Prelude.{◌≡◌, ◌++◌, IfOk, OnOk, OnErr, take, length};
+ghost use Rattle.std.specs.Prelude.{◌≡◌, ◌++◌, IfOk, IfErr, OnOk, OnErr, take, length};
+ghost use Rattle.cw_base.specs.declared.reader.CodecError.TheVariants as codec;
 ghost use Rattle.cw_types.specs.Encoding.{message_bytes};
+ghost use Rattle.cw_types.specs.Reading.{shard_at, shard_message_at, vote_message_at, ask_at, ask_height_at, tagged_message_at, message_at};
+ghost use Rattle.cw_base.specs.Reading.{IsRead, Gives};
 
-use crate::block::ChainBlock;
+use crate::block::{ChainBlock, MAX_BLOCK};
 use crate::commitment::Commitment;
 use crate::vote::{Cert, Vote};
 use cw_base::{
-    Digest32, Items, NoMemory, put_be16, put_be32, put_be64, put_bytes, put_u8, put_varint,
+    CodecError, Config, Digest32, Items, NoMemory, Reader, put_be16, put_be64, put_bytes, put_u8,
 };
 use cw_tree::Chunk;
 use std::alloc::Global;
@@ -108,4 +111,86 @@ impl Message {
             Message::Junk(bytes) => put_bytes(out, bytes.as_slice()),
         }
     }
+
+    /// The message that all bytes left are: those that don't read as a message to their end are junk.
+    /// The reader is then at its end. The only refusal is `NoMemory`.
+    pub fn read(alloc: Global, reader: &mut Reader) -> Result<Message, CodecError>
+        ensures value { Gives (λ message. message) result reader.new (message_at reader.old) }
+        ensures err { IfErr result (λ e. e ≡ codec.NoMemory) }
+    {
+        let bytes = reader.rest();
+        match read_tagged(alloc, reader) {
+            Ok(message) if reader.rest().is_empty() => Ok(message),
+            Err(CodecError::NoMemory) => Err(CodecError::NoMemory),
+            _ => {
+                *reader = Reader::new(&[]);
+                let junk = Vec::from_slice(alloc, bytes)?;
+                Ok(Message::Junk(Items::from_vec(junk)))
+            }
+        }
+    }
+}
+
+// A message at the front.
+#[tactic(auto, unfolding(crate::specs::Reading::tagged_message_at))]
+fn read_tagged(alloc: Global, reader: &mut Reader) -> Result<Message, CodecError>
+    ensures { Gives (λ message. message) result reader.new (tagged_message_at reader.old) }
+{
+    match reader.u8()? {
+        0 => read_shard_message(alloc, reader),
+        1 => read_vote_message(reader),
+        2 => Ok(Message::Cert(Cert::read(alloc, reader)?)),
+        3 => read_ask(reader),
+        4 => read_ask_height(reader),
+        5 => Ok(Message::Block(ChainBlock::read(alloc, reader)?)),
+        _ => Err(CodecError::Invalid),
+    }
+}
+
+// A chunk behind its commitment.
+fn read_shard_message(alloc: Global, reader: &mut Reader) -> Result<Message, CodecError>
+    ensures { Gives (λ message. message) result reader.new (shard_message_at reader.old) }
+{
+    let commitment = Commitment::read(reader)?;
+    let chunk = read_shard(alloc, reader, &commitment.config)?;
+    Ok(Message::Shard(commitment, chunk))
+}
+
+// A chunk of a config, of a block of at most `MAX_BLOCK` bytes.
+#[tactic(auto, unfolding(crate::specs::Reading::shard_at))]
+fn read_shard(
+    alloc: Global,
+    reader: &mut Reader,
+    config: &Config,
+) -> Result<Chunk<Digest32>, CodecError>
+    ensures { Gives (λ chunk. chunk) result reader.new (shard_at config.now reader.old) }
+{
+    Chunk::<Digest32>::read(alloc, reader, config, MAX_BLOCK)
+}
+
+// A vote behind its signer.
+fn read_vote_message(reader: &mut Reader) -> Result<Message, CodecError>
+    ensures { IsRead (λ message. message) result reader.new (vote_message_at reader.old) }
+{
+    let signer = reader.be16()?;
+    let vote = Vote::read(reader)?;
+    Ok(Message::Vote(signer, vote))
+}
+
+// Who asks, and for which commitment.
+fn read_ask(reader: &mut Reader) -> Result<Message, CodecError>
+    ensures { IsRead (λ message. message) result reader.new (ask_at reader.old) }
+{
+    let from = reader.be16()?;
+    let commitment = Commitment::read(reader)?;
+    Ok(Message::Ask(from, commitment))
+}
+
+// Who asks, and for which height.
+fn read_ask_height(reader: &mut Reader) -> Result<Message, CodecError>
+    ensures { IsRead (λ message. message) result reader.new (ask_height_at reader.old) }
+{
+    let from = reader.be16()?;
+    let height = reader.be64()?;
+    Ok(Message::AskHeight(from, height))
 }

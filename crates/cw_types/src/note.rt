@@ -2,11 +2,13 @@
 
 ghost use Rattle.std.specs.Prelude.{◌≡◌, ◌++◌, ◌<◌, ◌≤◌, IfOk, OnOk, OnErr, take, length};
 ghost use Rattle.cw_types.specs.Encoding.{epoch_tag_bytes, note_bytes};
+ghost use Rattle.cw_types.specs.Reading.{note_behind, block_note_at, certified_at, cert_note_at, entered_at, formed_vote_at, note_at, ordered_at, verified_at};
+ghost use Rattle.cw_base.specs.Reading.{IsRead, Gives};
 
-use crate::block::ChainBlock;
+use crate::block::{ChainBlock, read_height};
 use crate::commitment::Commitment;
-use crate::vote::{Cert, Proposal, Vote};
-use cw_base::{NoMemory, put_be64, put_u8};
+use crate::vote::{Cert, Proposal, Vote, is_ordered, read_later_epoch, read_signed, well_formed};
+use cw_base::{CodecError, NoMemory, Reader, put_be64, put_u8};
 use std::alloc::Global;
 
 /// A note of a member.
@@ -122,6 +124,108 @@ impl Note {
             }
         }
     }
+
+    /// The note at the front: `Invalid` for another tag, for a later epoch's tag with an epoch of 0
+    /// behind it, for a vote or a proposal that isn't well formed, for a height of 2^64 - 1 and for a
+    /// config with a zero; `InvalidVarint`, `TooLong` and `EndOfBuffer` as for its block.
+    ///
+    /// Refused, the reader stands behind the parts that were taken, a refused tag or value among them.
+    #[tactic(auto, unfolding(crate::specs::Reading::note_at))]
+    pub fn read(alloc: Global, reader: &mut Reader) -> Result<Note, CodecError>
+        ensures { Gives (λ note. note) result reader.new (note_at reader.old) }
+    {
+        match reader.u8()? {
+            0 => read_block_note(alloc, reader),
+            1 => read_verified(reader, 0),
+            2 => read_certified(reader, 0),
+            3 => Ok(Note::Vote(read_formed_vote(reader)?)),
+            4 => read_cert_note(alloc, reader),
+            5 => Ok(Note::Ack(read_height(reader)?)),
+            6 => Ok(Note::Floor(read_height(reader)?)),
+            7 => Ok(Note::Prune(read_height(reader)?)),
+            tag => read_later_note(reader, tag),
+        }
+    }
+}
+
+// A note of an epoch above 0, behind its tag.
+fn read_later_note(reader: &mut Reader, tag: u8) -> Result<Note, CodecError>
+    requires { 7 < tag }
+    ensures { IsRead (λ note. note) result reader.new (note_behind tag reader.old) }
+{
+    match tag {
+        8 => {
+            let epoch = read_later_epoch(reader)?;
+            read_entered(reader, epoch)
+        }
+        9 => {
+            let epoch = read_later_epoch(reader)?;
+            read_certified(reader, epoch)
+        }
+        10 => {
+            let epoch = read_later_epoch(reader)?;
+            read_verified(reader, epoch)
+        }
+        _ => Err(CodecError::Invalid),
+    }
+}
+
+// A block behind its commitment.
+fn read_block_note(alloc: Global, reader: &mut Reader) -> Result<Note, CodecError>
+    ensures { Gives (λ note. note) result reader.new (block_note_at reader.old) }
+{
+    let commitment = Commitment::read(reader)?;
+    let block = ChainBlock::read(alloc, reader)?;
+    Ok(Note::Block(commitment, block))
+}
+
+// The view and the commitment of a block that was proposed in an epoch.
+fn read_verified(reader: &mut Reader, epoch: u64) -> Result<Note, CodecError>
+    ensures { IsRead (λ note. note) result reader.new (verified_at epoch reader.old) }
+{
+    let view = reader.be64()?;
+    let commitment = Commitment::read(reader)?;
+    Ok(Note::Verified(epoch, view, commitment))
+}
+
+// A proposal of an epoch that is well formed.
+#[tactic(auto, unfolding(crate::specs::Reading::ordered_at))]
+fn read_certified(reader: &mut Reader, epoch: u64) -> Result<Note, CodecError>
+    ensures { IsRead (λ note. note) result reader.new (certified_at epoch reader.old) }
+{
+    let proposal = Proposal::read(reader, epoch)?;
+    if !is_ordered(&proposal) {
+        return Err(CodecError::Invalid);
+    }
+    Ok(Note::Certified(proposal))
+}
+
+// The commitment that an epoch is entered over.
+fn read_entered(reader: &mut Reader, epoch: u64) -> Result<Note, CodecError>
+    ensures { IsRead (λ note. note) result reader.new (entered_at epoch reader.old) }
+{
+    Ok(Note::Epoch(epoch, Commitment::read(reader)?))
+}
+
+// A vote that is well formed.
+#[tactic(auto, unfolding(crate::specs::Reading::formed_vote_at))]
+fn read_formed_vote(reader: &mut Reader) -> Result<Vote, CodecError>
+    ensures { IsRead (λ vote. vote) result reader.new (formed_vote_at reader.old) }
+{
+    let vote = Vote::read(reader)?;
+    if !well_formed(&vote) {
+        return Err(CodecError::Invalid);
+    }
+    Ok(vote)
+}
+
+// A certificate of a vote that is well formed.
+fn read_cert_note(alloc: Global, reader: &mut Reader) -> Result<Note, CodecError>
+    ensures { Gives (λ note. note) result reader.new (cert_note_at reader.old) }
+{
+    let vote = read_formed_vote(reader)?;
+    let cert = read_signed(alloc, reader, vote)?;
+    Ok(Note::Cert(cert))
 }
 
 // The tag of a note of epoch 0, or another tag and the epoch.

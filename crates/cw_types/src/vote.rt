@@ -4,10 +4,12 @@ ghost use Rattle.std.specs.Prelude.{◌≡◌, ◌++◌, ◌<◌, IfOk, OnOk, On
 ghost use Rattle.cw_base.specs.Bytes.{be16};
 ghost use Rattle.cw_types.specs.Encoding.{cert_bytes, proposal_bytes, tag_bytes, vote_bytes};
 ghost use Rattle.cw_types.specs.Same.{same_cert, same_proposal, same_vote};
+ghost use Rattle.cw_types.specs.Reading.{proposal_at, later_epoch_at, later_at, notarize_at, nullify_at, finalize_at, vote_at, signers_at, signed_at, cert_at};
 ghost use Rattle.cw_types.specs.Votes as votes;
+ghost use Rattle.cw_base.specs.Reading.{IsRead, Gives};
 
 use crate::commitment::Commitment;
-use cw_base::{Items, NoMemory, put_be16, put_be64, put_u8};
+use cw_base::{CodecError, Items, NoMemory, Reader, put_be16, put_be64, put_u8};
 use std::alloc::Global;
 
 /// A block that is proposed in a view of an epoch, over the block of an earlier view.
@@ -74,6 +76,25 @@ impl Proposal {
         put_be64(out, self.parent)?;
         self.payload.write(out)?;
         Ok(())
+    }
+
+    /// The proposal at the front, of an epoch that is known: `Invalid` for a config with a zero,
+    /// `EndOfBuffer` where it is cut.
+    ///
+    /// Refused, the reader stands behind the parts that were taken, a zero among them.
+    #[tactic(auto, unfolding(crate::specs::Reading::proposal_at))]
+    pub fn read(reader: &mut Reader, epoch: u64) -> Result<Proposal, CodecError>
+        ensures { IsRead (λ proposal. proposal) result reader.new (proposal_at epoch reader.old) }
+    {
+        let view = reader.be64()?;
+        let parent = reader.be64()?;
+        let payload = Commitment::read(reader)?;
+        Ok(Proposal {
+            epoch,
+            view,
+            parent,
+            payload,
+        })
     }
 }
 
@@ -157,6 +178,68 @@ impl Vote {
             }
         }
     }
+
+    /// The vote at the front: `Invalid` for another tag, for a later epoch's tag with an epoch of 0
+    /// behind it, and for a config with a zero; `EndOfBuffer` where it is cut.
+    ///
+    /// Refused, the reader stands behind the parts that were taken, a refused tag or value among them.
+    #[tactic(auto, unfolding(crate::specs::Reading::vote_at))]
+    pub fn read(reader: &mut Reader) -> Result<Vote, CodecError>
+        ensures { IsRead (λ vote. vote) result reader.new (vote_at reader.old) }
+    {
+        match reader.u8()? {
+            0 => read_notarize(reader, 0),
+            1 => read_nullify(reader, 0),
+            2 => read_finalize(reader, 0),
+            3 => {
+                let epoch = read_later_epoch(reader)?;
+                read_notarize(reader, epoch)
+            }
+            4 => {
+                let epoch = read_later_epoch(reader)?;
+                read_nullify(reader, epoch)
+            }
+            5 => {
+                let epoch = read_later_epoch(reader)?;
+                read_finalize(reader, epoch)
+            }
+            _ => Err(CodecError::Invalid),
+        }
+    }
+}
+
+// A vote for a proposal of an epoch.
+fn read_notarize(reader: &mut Reader, epoch: u64) -> Result<Vote, CodecError>
+    ensures { IsRead (λ vote. vote) result reader.new (notarize_at epoch reader.old) }
+{
+    Ok(Vote::Notarize(Proposal::read(reader, epoch)?))
+}
+
+// A vote to end a view of an epoch.
+fn read_nullify(reader: &mut Reader, epoch: u64) -> Result<Vote, CodecError>
+    ensures { IsRead (λ vote. vote) result reader.new (nullify_at epoch reader.old) }
+{
+    let view = reader.be64()?;
+    Ok(Vote::Nullify { epoch, view })
+}
+
+// A vote to keep a proposal of an epoch.
+fn read_finalize(reader: &mut Reader, epoch: u64) -> Result<Vote, CodecError>
+    ensures { IsRead (λ vote. vote) result reader.new (finalize_at epoch reader.old) }
+{
+    Ok(Vote::Finalize(Proposal::read(reader, epoch)?))
+}
+
+// An epoch above 0.
+#[tactic(auto, unfolding(crate::specs::Reading::later_epoch_at))]
+pub(crate) fn read_later_epoch(reader: &mut Reader) -> Result<u64, CodecError>
+    ensures { IsRead (λ epoch. epoch) result reader.new (later_epoch_at reader.old) }
+{
+    let epoch = reader.be64()?;
+    if epoch == 0 {
+        return Err(CodecError::Invalid);
+    }
+    Ok(epoch)
 }
 
 impl Cert {
@@ -204,6 +287,50 @@ impl Cert {
         put_signers(out, self.signers.as_slice())?;
         Ok(())
     }
+
+    /// The certificate at the front: `Invalid` as for its vote, `EndOfBuffer` where it is cut.
+    ///
+    /// Refused, the reader stands behind the parts that were taken, a refused tag or value among them.
+    #[tactic(auto, unfolding(crate::specs::Reading::cert_at))]
+    pub fn read(alloc: Global, reader: &mut Reader) -> Result<Cert, CodecError>
+        ensures { Gives (λ cert. cert) result reader.new (cert_at reader.old) }
+    {
+        let vote = Vote::read(reader)?;
+        match read_signed(alloc, reader, vote) {
+            Ok(cert) => Ok(cert),
+            Err(error) => Err(error),
+        }
+    }
+}
+
+// The signers of a vote, behind their number.
+#[tactic(auto, unfolding(crate::specs::Reading::signed_at))]
+pub(crate) fn read_signed(
+    alloc: Global,
+    reader: &mut Reader,
+    vote: Vote,
+) -> Result<Cert, CodecError>
+    ensures { Gives (λ cert. cert) result reader.new (signed_at vote reader.old) }
+{
+    let count = reader.be16()?;
+    match read_signers(alloc, reader, count) {
+        Ok(signers) => Ok(Cert { vote, signers }),
+        Err(error) => Err(error),
+    }
+}
+
+// So many members' numbers.
+fn read_signers(alloc: Global, reader: &mut Reader, count: u16) -> Result<Items<u16>, CodecError>
+    ensures { Gives (λ signers. signers) result reader.new (signers_at count reader.old) }
+{
+    let mut signers = Items::new(alloc);
+    for i in 0..count {
+        match reader.be16() {
+            Ok(signer) => signers.push(signer)?,
+            Err(error) => return Err(error),
+        }
+    }
+    Ok(signers)
 }
 
 // Two bytes of each.
@@ -253,7 +380,7 @@ fn is_view(view: u64) -> bool
 }
 
 // A proposal of such a view, over an earlier one.
-fn is_ordered(proposal: &Proposal) -> bool
+pub(crate) fn is_ordered(proposal: &Proposal) -> bool
     ensures { result ≡ votes.is_ordered proposal.now }
 {
     is_view(proposal.view) && proposal.parent < proposal.view
