@@ -2,7 +2,11 @@ pub mod Block
 pub mod Commit
 pub mod Encoding
 pub mod Epochs
+pub mod FormatLaws
+pub mod MessageLaws
+pub mod NoteLaws
 pub mod Numbers
 pub mod Reading
 pub mod Same
+pub mod TaggedLaws
 pub mod Votes

@@ -92,6 +92,15 @@ impl Committees {
         self.total
     }
 
+    /// The members of each committee, by epoch; the last one serves for later epochs too. Takes no
+    /// memory.
+    pub fn lists(&self) -> &[Items<u16>]
+        ensures value { result.now ≡ self.now.lists }
+        ensures sound { IsTrue (epochs.is_sound self.now) }
+    {
+        self.lists.as_slice()
+    }
+
     /// The members of an epoch, rising: those of the last list for epochs past it. Takes no memory.
     pub fn members(&self, epoch: u64) -> &[u16]
         ensures value { result.now ≡ epochs.members_in self.now epoch }

@@ -8,10 +8,13 @@ mod block;
 mod chain;
 mod commitment;
 pub mod committees;
+mod digested;
 mod event;
+pub mod laws;
 mod message;
 mod note;
 mod numbers;
+mod round;
 mod vote;
 
 pub use application::{AcceptAll, Application, Verifier};
@@ -19,10 +22,12 @@ pub use block::{ChainBlock, Context, Payload};
 pub use chain::{commit, genesis, genesis_commitment};
 pub use commitment::Commitment;
 pub use committees::Committees;
+pub use digested::{Block, BoundedBlock, CertifiableBlock, Digested};
 pub use event::{Event, Handed, Out, StepOut, TicketOut, To};
 pub use message::Message;
 pub use note::Note;
 pub use numbers::{leader, max_faults, quorum};
+pub use round::{Epoch, Epochable, Height, Heightable, Round, Roundable, View, Viewable};
 pub use vote::{Cert, Proposal, Vote, well_formed};
 
 #[cfg(test)]

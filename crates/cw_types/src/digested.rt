@@ -1,0 +1,133 @@
+//! What a block is to those who agree on it, and a block with its digest.
+
+ghost use Rattle.std.specs.Prelude.{◌≡◌, ◌≤◌, ℕ, IfOk, length};
+ghost use Rattle.cw_types.specs.Encoding.{block_bytes};
+
+use crate::block::{ChainBlock, Context, MAX_BLOCK};
+use crate::round::{Height, Heightable};
+use cw_base::{Digest32, Hasher, NoMemory};
+use std::alloc::Global;
+use std::marker::{Model, PhantomData};
+
+/// A block of a chain: it has a height, a digest and its parent's digest.
+pub trait Block: Heightable {
+    type Digest;
+
+    ghost digest_of: { Self → Self.Digest };
+
+    ghost parent_of: { Self → Self.Digest };
+
+    fn digest(&self) -> Self::Digest
+        ensures { result ≡ digest_of self.now };
+
+    /// The digest of its parent.
+    fn parent(&self) -> Self::Digest
+        ensures { result ≡ parent_of self.now };
+}
+
+/// A block that says where it was proposed.
+pub trait CertifiableBlock: Block {
+    type Context;
+
+    ghost context_of: { Self → Self.Context };
+
+    fn context(&self) -> Self::Context
+        ensures { result ≡ context_of self.now };
+}
+
+/// A block whose bytes are bounded.
+pub trait BoundedBlock: Block {
+    /// The most bytes of a block.
+    ghost max_bytes: { ℕ };
+
+    fn max_encode_size() -> usize
+        ensures { result ≡ max_bytes };
+}
+
+/// A block with its digest, which is hashed once.
+#[derive(Drop)]
+#[derive_where(Debug)]
+pub struct Digested<H: Hasher<Digest = Digest32>> {
+    block: ChainBlock,
+    digest: Digest32,
+    #[derive_where(skip)]
+    hasher: PhantomData<H>,
+}
+
+impl<H: Hasher<Digest = Digest32>> Model for Digested<H> {
+    ghost use Rattle.std.specs.Prelude.{◌≡◌};
+    ghost use Rattle.cw_types.specs.Block.{Block};
+    ghost use Rattle.cw_types.specs.Encoding.{block_bytes};
+
+    ghost Value = { Block };
+
+    ghost view = { λ d. d.block };
+
+    ghost invariant = { λ d. d.digest ≡ H.digest_of (block_bytes d.block) };
+}
+
+impl<H: Hasher<Digest = Digest32>> Digested<H> {
+    /// The block with its digest. Takes memory for its bytes.
+    pub fn new(alloc: Global, block: ChainBlock) -> Result<Digested<H>, NoMemory>
+        ensures { IfOk result (λ digested. digested ≡ block) }
+    {
+        let mut bytes = Vec::new(alloc);
+        block.write(&mut bytes)?;
+        Ok(Digested {
+            digest: H::hash(&bytes),
+            block,
+            hasher: PhantomData,
+        })
+    }
+
+    /// The block alone.
+    pub fn inner(&self) -> &ChainBlock
+        ensures { result.now ≡ self.now }
+    {
+        &self.block
+    }
+}
+
+impl<H: Hasher<Digest = Digest32>> Heightable for Digested<H> {
+    ghost height_of = { λ block. block.height };
+
+    fn height(&self) -> Height {
+        Height::new(self.block.height())
+    }
+}
+
+impl<H: Hasher<Digest = Digest32>> Block for Digested<H> {
+    type Digest = Digest32;
+
+    ghost use Rattle.cw_types.specs.Encoding.{block_bytes};
+
+    ghost digest_of = { λ block. H.digest_of (block_bytes block) };
+
+    ghost parent_of = { λ block. block.parent };
+
+    fn digest(&self) -> Digest32 {
+        self.digest
+    }
+
+    fn parent(&self) -> Digest32 {
+        self.block.parent()
+    }
+}
+
+impl<H: Hasher<Digest = Digest32>> CertifiableBlock for Digested<H> {
+    type Context = Context;
+
+    ghost context_of = { λ block. block.context };
+
+    fn context(&self) -> Context {
+        *self.block.context()
+    }
+}
+
+impl<H: Hasher<Digest = Digest32>> BoundedBlock for Digested<H> {
+    ghost max_bytes = { 1048745 };
+
+    fn max_encode_size() -> usize {
+        MAX_BLOCK
+    }
+}

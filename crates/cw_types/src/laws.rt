@@ -1,0 +1,98 @@
+//! What is written reads back, and what reads is in its format: laws, which take no work.
+
+ghost use Rattle.std.specs.Prelude.{◌≡◌, ◌<◌, ◌^◌, ℕ, List, Some};
+ghost use Rattle.cw_base.specs.ReadingLaws.{IsBytes, ReadsBack};
+ghost use Rattle.cw_types.specs.Block.{Block};
+ghost use Rattle.cw_types.specs.Encoding.{block_bytes, commitment_bytes, context_bytes, cert_bytes, message_bytes, note_bytes, proposal_bytes, vote_bytes};
+ghost use Rattle.cw_types.specs.Reading.{block_at, block_in, cert_at, commitment_at, context_at, message_of, note_at, proposal_at, vote_at};
+ghost use Rattle.cw_types.specs.FormatLaws.{IsBlock, IsCommitment, IsContext, IsProposal};
+ghost use Rattle.cw_types.specs.MessageLaws.{IsMessage};
+ghost use Rattle.cw_types.specs.NoteLaws.{IsNote};
+ghost use Rattle.cw_types.specs.declared.message.Message.{Message};
+ghost use Rattle.cw_types.specs.TaggedLaws.{IsCert, IsVote};
+
+use crate::block::{ChainBlock, Context};
+use crate::commitment::Commitment;
+use crate::vote::{Proposal, Vote};
+
+/// What a commitment, a context, a block, a proposal, a vote, a certificate or a note is read from is in its format, and what is in
+/// the format is read as itself, whatever follows it.
+pub fn values_read_back()
+    ensures commitment { ReadsBack commitment_bytes IsCommitment commitment_at }
+    ensures context { ReadsBack context_bytes IsContext context_at }
+    ensures block { ReadsBack block_bytes IsBlock block_at }
+    ensures proposal { (epoch : ℕ) → ReadsBack proposal_bytes (IsProposal epoch) (proposal_at epoch) }
+    ensures vote { ReadsBack vote_bytes IsVote vote_at }
+    ensures cert { ReadsBack cert_bytes IsCert cert_at }
+    ensures note { ReadsBack note_bytes IsNote note_at }
+{}
+
+/// A text that is read as a block is that block's bytes and no other's, and the bytes of a block are
+/// read as that block.
+pub fn blocks_read_back()
+    ensures found { (text : List ℕ) (b : Block) → IsBytes text → block_in text ≡ Some b → (block_bytes b ≡ text) × IsBlock b }
+    ensures again { (b : Block) → IsBlock b → block_in (block_bytes b) ≡ Some b }
+{}
+
+/// Each commitment reads back.
+pub fn commitment_fits(commitment: Commitment)
+    ensures { IsCommitment commitment }
+{
+    let _block = commitment.block.0;
+    let _root = commitment.root.0;
+    let _context = commitment.context.0;
+    let _minimum = commitment.config.minimum_shards.get();
+    let _extra = commitment.config.extra_shards.get();
+}
+
+/// Each context reads back.
+pub fn context_fits(context: Context)
+    ensures { IsContext context }
+{
+    let _epoch = context.epoch;
+    let _view = context.view;
+    let _leader = context.leader;
+    let _parent_view = context.parent_view;
+    commitment_fits(context.parent);
+}
+
+/// Each block reads back.
+pub fn block_fits(block: &ChainBlock)
+    ensures { IsBlock block.now }
+{
+    context_fits(*block.context());
+    let _parent = block.parent().0;
+    let _height = block.height();
+    let _payload = block.payload().bytes();
+}
+
+/// Each vote reads back.
+pub fn vote_fits(vote: Vote)
+    ensures { IsVote vote }
+{
+    match vote {
+        Vote::Notarize(proposal) => proposal_fits(proposal),
+        Vote::Nullify { epoch, view } => {
+            let _views = (epoch, view);
+        }
+        Vote::Finalize(proposal) => proposal_fits(proposal),
+    }
+}
+
+// Each proposal reads back, of its epoch.
+fn proposal_fits(proposal: Proposal)
+    ensures epoch { proposal.epoch < 2 ^ 64 }
+    ensures fits { IsProposal proposal.epoch proposal }
+{
+    let _epoch = proposal.epoch;
+    let _view = proposal.view;
+    let _parent = proposal.parent;
+    commitment_fits(proposal.payload);
+}
+
+/// Bytes are those of the message that they read as, and a message reads back as it was written. Junk
+/// does where it doesn't read as another message.
+pub fn messages_read_back()
+    ensures found { (bytes : List ℕ) → IsBytes bytes → (message_bytes (message_of bytes) ≡ bytes) × IsMessage (message_of bytes) }
+    ensures again { (m : Message) → IsMessage m → message_of (message_bytes m) ≡ m }
+{}
