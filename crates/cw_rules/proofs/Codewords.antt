@@ -130,7 +130,8 @@ module _ (r : Rules) (coder : IsCoder r) where
       let (x, f, g) = and_then_some (if_committed r c) (block_of r c.config (first_chunks came c)) b e in
       let (text, t, read) = and_then_some r.read_block (r.text_of c.config (first_chunks came c)) x f in
       let (same, at) = by_commit x (cases_Bool (same_commitment (commit r x) c)) g in
-      made text x (coder.sound c.config (first_chunks came c) text t) read (coder.reads text x read) same at
+      let sound = coder.sound c.config (first_chunks came c) text t in
+      made text x sound read (coder.reads text x sound.1 read) same at
     where
       by_commit : (x : Block) → (same_commitment (commit r x) c ≡ true) ⊎ (same_commitment (commit r x) c ≡ false) → if_committed r c x ≡ Some b → (x ≡ b) × (commit r x ≡ c)
       by_commit x (inl t) g = (same_Some x b (sym (cond-true (same_commitment (commit r x) c) (Some x) None t) ∙ g), same_commitment-true (commit r x) c t)

@@ -35,8 +35,8 @@ pub record IsCoder (r : Rules) : Type 0 where
   pub sound : (x : Shards) (chunks : List Chunk) (text : List ℕ) → r.text_of x chunks ≡ Some text → (length chunks ≡ x.minimum) × IsText text × AreRowsOf r x chunks text
   -- k rows of a text's codeword at different places are decoded to it
   pub complete : (x : Shards) (chunks : List Chunk) (text : List ℕ) → 0 < x.minimum → total_of x ≤ 65535 → AreApart chunks → AreByteChunks chunks → length chunks ≡ x.minimum → IsText text → AreRowsOf r x chunks text → r.text_of x chunks ≡ Some text
-  -- what is read as a block is the bytes of that block
-  pub reads : (text : List ℕ) (b : Block) → r.read_block text ≡ Some b → r.block_bytes b ≡ text
+  -- a text that is read as a block is that block's bytes
+  pub reads : (text : List ℕ) (b : Block) → IsText text → r.read_block text ≡ Some b → r.block_bytes b ≡ text
   -- a codeword has k + m rows
   pub count : (x : Shards) (text : List ℕ) → 0 < x.minimum → length (rows_under r x text) ≡ total_of x
   -- each row's width is even and above zero

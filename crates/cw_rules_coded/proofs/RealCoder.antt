@@ -1,6 +1,6 @@
 -- The real codeword, tree and bytes have what the rules ask.
 use Rattle.std.specs.Int.{w32, from_be_bytes}
-use Rattle.std.proofs.Common.{◌≡◌, ◌≢◌, ℕ, zero, suc, ◌+◌, ◌-◌, ◌*◌, ◌/◌, ◌%◌, ◌^◌, ◌<◌, ◌≤◌, Bool, true, false, ◌&&◌, ◌==◌, bytes_eq, nat_lt, List, [], ◌∷◌, ◌++◌, length, map, take, drop, replicate, slice_get, slice_index, get_or, Option, Some, None, unwrap_or, refl, sym, ◌∙◌, ap, subst, inl, inr, ◌⊎◌, arith, length-append, append_assoc, eq-eqb, eqb-true, ltb-true}
+use Rattle.std.proofs.Common.{◌≡◌, ◌≢◌, ℕ, zero, suc, ◌+◌, ◌-◌, ◌*◌, ◌/◌, ◌%◌, ◌^◌, ◌<◌, ◌≤◌, Bool, true, false, ◌&&◌, ◌==◌, bytes_eq, nat_lt, List, [], ◌∷◌, ◌++◌, length, map, take, drop, replicate, slice_get, slice_index, get_or, Some, None, unwrap_or, refl, sym, ◌∙◌, ap, subst, inl, inr, ◌⊎◌, arith, length-append, append_assoc, eq-eqb, eqb-true, ltb-true}
 use Rattle.std.specs.List.{AllByRecursion, list_all}
 use Rattle.std.specs.Option.{option_map_or}
 use Rattle.std.proofs.lemmas.Bool.{and_parts, and_from, cases_Bool, cases_lt, cond-true, cond-false, lt-ltb}
@@ -20,9 +20,10 @@ use Rattle.cw_tree.specs.TreeRoots.{root_by-path_of}
 use Rattle.cw_tree.specs.Widths.{shard_len}
 use Rattle.cw_types.specs.Block.{Block}
 use Rattle.cw_types.specs.Commit.{empty_digest}
-use Rattle.cw_types.specs.Encoding.{block_bytes}
 use Rattle.cw_types.specs.Epochs.{Epochs}
 use Rattle.cw_types.specs.Same.{same_digest}
+use Rattle.cw_base.specs.ReadingLaws.{IsBytes}
+use Rattle.cw_types.specs.FormatLaws.{block_found}
 use Rattle.cw_rules.specs.Coding.{AreApart, AreByteChunks, AreBytes, IsCoder, IsText}
 use Rattle.cw_rules.specs.Rules.{Chunk, total_of}
 use Rattle.cw_rules_coded.specs.Coded.{code_rows, coded, decoded, digest_bytes, if_codeword, is_row_of, is_text, originals, place_at, root_over, shards_of, text_in, width_of}
@@ -114,6 +115,11 @@ unfolding row_at
 row_width k text i = code_width k (layout k text) (shard_len (length text) k) i (width_even (length text) k)
 
 -- ---- the layout
+
+bytes_are : (xs : List ℕ) → AreBytes xs → IsBytes xs
+bytes_are [] h i = omega arith
+bytes_are (x ∷ xs) h zero = h.0
+bytes_are (x ∷ xs) h (suc i) = bytes_are xs h.1 i
 
 bytes_be32 : (n : ℕ) → AreBytes (be32 n)
 unfolding be32
@@ -374,11 +380,11 @@ module _ (first : OriginalsComeFirst) (fix : RowsFixCodeword) (have : RowsHaveCo
       tested : ((length chunks == x.minimum) && is_text text && list_all (is_row_of x text) chunks) ≡ true
       tested = and_from ((length chunks == x.minimum) && is_text text) (list_all (is_row_of x text) chunks) (and_from (length chunks == x.minimum) (is_text text) (eq-eqb (length chunks) x.minimum long) (text_passes text t)) (rows_pass x text chunks at)
 
-  pub real_coder : (hash : List ℕ → Digest32) (epochs : Epochs) (backlog : ℕ) (read : List ℕ → Option Block) (accepts : Block → Block → Bool) → ((text : List ℕ) (b : Block) → read text ≡ Some b → block_bytes b ≡ text) → IsCoder (coded hash epochs backlog read accepts)
-  real_coder hash epochs backlog read accepts reads = record {
+  pub real_coder : (hash : List ℕ → Digest32) (epochs : Epochs) (backlog : ℕ) (accepts : Block → Block → Bool) → IsCoder (coded hash epochs backlog accepts)
+  real_coder hash epochs backlog accepts = record {
     sound = decoded_sound;
     complete = decoded_complete;
-    reads = reads;
+    reads = λ text b t read. (block_found text b (bytes_are text t.0) read).0;
     count = λ x text pos. length-listed (x.minimum + x.extra) (row_at x.minimum text);
     widths = λ x text pos. all_listed (λ (row : List ℕ). (0 < length row) × (length row % 2 ≡ 0)) (x.minimum + x.extra) (row_at x.minimum text) (λ i. wide x.minimum text pos i);
     leads = row_leads hash;

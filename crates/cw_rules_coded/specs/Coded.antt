@@ -13,6 +13,7 @@ use Rattle.cw_types.specs.Block.{Block}
 use Rattle.cw_types.specs.Commit.{empty_digest}
 use Rattle.cw_types.specs.Encoding.{block_bytes, context_bytes}
 use Rattle.cw_types.specs.Epochs.{Epochs}
+use Rattle.cw_types.specs.Reading.{block_in}
 use Rattle.cw_types.specs.Same.{same_digest}
 use Rattle.cw_rules.specs.Rules.{Chunk, Rules, total_of}
 
@@ -73,9 +74,9 @@ if_codeword x chunks text = if (length chunks == x.minimum) && is_text text && l
 abbrev pub decoded : Shards → List Chunk → Option (List ℕ)
 decoded x chunks = if_codeword x chunks (text_in (originals x.minimum chunks))
 
--- the rules over a hash, with these committees, this backlog, this reader of blocks and this application
-abbrev pub coded : (List ℕ → Digest32) → Epochs → ℕ → (List ℕ → Option Block) → (Block → Block → Bool) → Rules
-coded hash epochs backlog read accepts = record {
+-- the rules over a hash, with these committees, this backlog and this application
+abbrev pub coded : (List ℕ → Digest32) → Epochs → ℕ → (Block → Block → Bool) → Rules
+coded hash epochs backlog accepts = record {
   epochs = epochs;
   backlog = backlog;
   hash = hash;
@@ -86,6 +87,6 @@ coded hash epochs backlog read accepts = record {
   path = λ digests i. path_of hash digest_bytes i digests;
   leads_to = leads_up hash;
   text_of = decoded;
-  read_block = read;
+  read_block = block_in;
   accepts = accepts;
 }

@@ -1,5 +1,5 @@
 -- A cluster of four under the hash that adds up, to compare with values worked out by hand.
-use Rattle.std.specs.Prelude.{ℕ, true, List, [], ◌∷◌, None}
+use Rattle.std.specs.Prelude.{ℕ, true, List, [], ◌∷◌}
 use Rattle.cw_base.specs.declared.hash.Digest32.{Digest32}
 use Rattle.cw_base.specs.Hash.{sum_bytes}
 use Rattle.cw_types.specs.Block.{Block}
@@ -11,7 +11,7 @@ abbrev pub sum_digest : List ℕ → Digest32
 sum_digest bytes = record { 0 = sum_bytes bytes }
 
 abbrev pub summed : Rules
-summed = coded sum_digest (single 4) 3 (λ text. None) (λ b a. true)
+summed = coded sum_digest (single 4) 3 (λ b a. true)
 
 -- the block of view 1 over genesis with the payload "hi"
 abbrev pub hi_block : Block

@@ -6,6 +6,7 @@ ghost use Rattle.cw_base.specs.declared.hash.Digest32.{Digest32};
 ghost use Rattle.cw_types.specs.Block.{Block};
 ghost use Rattle.cw_types.specs.Encoding.{block_bytes};
 ghost use Rattle.cw_types.specs.Epochs.{Epochs};
+ghost use Rattle.cw_types.specs.FormatLaws.{IsBlock};
 ghost use Rattle.cw_rules.specs.Coding.{IsCoder};
 ghost use Rattle.cw_rules.specs.Rules.{config, digest, genesis};
 ghost use Rattle.cw_rules_coded.specs.Coded.{coded};
@@ -16,11 +17,13 @@ use rs_code::laws::prove_rows;
 
 /// The rules over the real codeword, tree and bytes have what the laws on chunks ask: chunks are decoded
 /// to exactly the text of whose codeword they are k rows, rows are of one even width, and each way up
-/// leads to the root. A reader of blocks must give no block but of the bytes that it read.
+/// leads to the root; a text is read as no block but the one whose bytes it is, and the bytes of a block
+/// are read as that block.
 pub fn coded_laws()
-    ensures { (hash : List ℕ → Digest32) (epochs : Epochs) (backlog : ℕ) (read : List ℕ → Option Block) (accepts : Block → Block → Bool)
-        → ((text : List ℕ) (b : Block) → read text ≡ Some b → block_bytes b ≡ text)
-        → IsCoder (coded hash epochs backlog read accepts) }
+    ensures coder { (hash : List ℕ → Digest32) (epochs : Epochs) (backlog : ℕ) (accepts : Block → Block → Bool)
+        → IsCoder (coded hash epochs backlog accepts) }
+    ensures reads_back { (hash : List ℕ → Digest32) (epochs : Epochs) (backlog : ℕ) (accepts : Block → Block → Bool) (b : Block) → IsBlock b
+        → (coded hash epochs backlog accepts).read_block (block_bytes b) ≡ Some b }
 {
     prove_rows();
 }
