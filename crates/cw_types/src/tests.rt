@@ -1,5 +1,5 @@
 use super::*;
-use cw_base::{Digest32, Items, Sequential, SumHasher};
+use cw_base::{CodecError, Digest32, Items, Reader, Sequential, SumHasher};
 use std::alloc::Global;
 use std::test::Fail;
 
@@ -222,5 +222,231 @@ fn a_copy_equals_what_it_is_of(rt: HostRuntime) -> Result<(), Fail> {
     assert!(rt; event_is_copied(rt.alloc())?);
     assert!(rt; message_is_copied(rt.alloc())?);
     assert!(rt; step_is_copied(rt.alloc())?);
+    Ok(())
+}
+
+// The formats that are read.
+#[derive(Clone, Copy)]
+enum Format {
+    Commitment,
+    Context,
+    Block,
+    Vote,
+    Cert,
+    Note,
+}
+
+fn commitment_again(bytes: &[u8], out: &mut Vec<u8>) -> Result<(), CodecError> {
+    let mut reader = Reader::new(bytes);
+    let commitment = Commitment::read(&mut reader)?;
+    reader.finish()?;
+    Ok(commitment.write(out)?)
+}
+
+fn context_again(bytes: &[u8], out: &mut Vec<u8>) -> Result<(), CodecError> {
+    let mut reader = Reader::new(bytes);
+    let context = Context::read(&mut reader)?;
+    reader.finish()?;
+    Ok(context.write(out)?)
+}
+
+fn block_again(alloc: Global, bytes: &[u8], out: &mut Vec<u8>) -> Result<(), CodecError> {
+    let mut reader = Reader::new(bytes);
+    let block = ChainBlock::read(alloc, &mut reader)?;
+    reader.finish()?;
+    Ok(block.write(out)?)
+}
+
+fn vote_again(bytes: &[u8], out: &mut Vec<u8>) -> Result<(), CodecError> {
+    let mut reader = Reader::new(bytes);
+    let vote = Vote::read(&mut reader)?;
+    reader.finish()?;
+    Ok(vote.write(out)?)
+}
+
+fn cert_again(alloc: Global, bytes: &[u8], out: &mut Vec<u8>) -> Result<(), CodecError> {
+    let mut reader = Reader::new(bytes);
+    let cert = Cert::read(alloc, &mut reader)?;
+    reader.finish()?;
+    Ok(cert.write(out)?)
+}
+
+fn note_again(alloc: Global, bytes: &[u8], out: &mut Vec<u8>) -> Result<(), CodecError> {
+    let mut reader = Reader::new(bytes);
+    let note = Note::read(alloc, &mut reader)?;
+    reader.finish()?;
+    Ok(note.write(out)?)
+}
+
+// the bytes of the value that these bytes are read as
+fn again(alloc: Global, format: Format, bytes: &[u8]) -> Result<Vec<u8>, CodecError> {
+    let mut out = Vec::new(alloc);
+    match format {
+        Format::Commitment => commitment_again(bytes, &mut out),
+        Format::Context => context_again(bytes, &mut out),
+        Format::Block => block_again(alloc, bytes, &mut out),
+        Format::Vote => vote_again(bytes, &mut out),
+        Format::Cert => cert_again(alloc, bytes, &mut out),
+        Format::Note => note_again(alloc, bytes, &mut out),
+    }?;
+    Ok(out)
+}
+
+// the bytes of the block of view 1, in which its context stands first, and a commitment last in that
+fn block_bytes(alloc: Global) -> Result<Vec<u8>, Fail> {
+    let mut bytes = Vec::new(alloc);
+    first_block(alloc)?.write(&mut bytes)?;
+    Ok(bytes)
+}
+
+// a vote to notarize in epoch 0
+fn vote_bytes(alloc: Global) -> Result<Vec<u8>, Fail> {
+    let mut bytes = Vec::new(alloc);
+    Vote::Notarize(proposal(2, 1)).write(&mut bytes)?;
+    Ok(bytes)
+}
+
+// the epoch 1, entered over a commitment
+fn entered_bytes(alloc: Global) -> Result<Vec<u8>, Fail> {
+    written_note(alloc, Note::Epoch(1, genesis_commitment::<SumHasher>()))
+}
+
+fn example(alloc: Global, format: Format) -> Result<Vec<u8>, Fail> {
+    match format {
+        Format::Commitment => Ok(block_bytes(alloc)?[26..126].to_vec(alloc)?),
+        Format::Context => Ok(block_bytes(alloc)?[..126].to_vec(alloc)?),
+        Format::Block => block_bytes(alloc),
+        Format::Vote => vote_bytes(alloc),
+        Format::Cert => Ok([1u8, 0, 0, 0, 0, 0, 0, 0, 9, 0, 2, 0, 0, 0, 3].to_vec(alloc)?),
+        Format::Note => entered_bytes(alloc),
+    }
+}
+
+// how many cuts of these bytes are refused as cut
+fn refused_cuts(alloc: Global, format: Format, bytes: &[u8]) -> usize {
+    let mut refused = 0;
+    for count in 0..bytes.len() {
+        if matches!(
+            again(alloc, format, &bytes[..count]),
+            Err(CodecError::EndOfBuffer)
+        ) {
+            refused += 1;
+        }
+    }
+    refused
+}
+
+// whether these bytes, one of them changed, are refused; where they aren't, they are written as read
+fn is_refused(alloc: Global, format: Format, bytes: &[u8], place: usize) -> Result<bool, Fail> {
+    let mut changed = bytes.to_vec(alloc)?;
+    if let Some(byte) = changed.get_mut(place) {
+        *byte ^= 1;
+    }
+    match again(alloc, format, &changed) {
+        Ok(out) if out.as_slice() == changed.as_slice() => Ok(false),
+        Ok(_) => Err("bytes were read as another value's".into()),
+        Err(_) => Ok(true),
+    }
+}
+
+// how many of these bytes can't be changed
+fn refused_changes(alloc: Global, format: Format, bytes: &[u8]) -> Result<usize, Fail> {
+    let mut refused = 0;
+    for place in 0..bytes.len() {
+        if is_refused(alloc, format, bytes, place)? {
+            refused += 1;
+        }
+    }
+    Ok(refused)
+}
+
+fn format_is_told(
+    alloc: Global,
+    format: Format,
+    size: usize,
+    changes: usize,
+) -> Result<bool, Fail> {
+    let bytes = example(alloc, format)?;
+    Ok(
+        bytes.len() == size
+            && refused_cuts(alloc, format, &bytes) == size
+            && refused_changes(alloc, format, &bytes)? == changes,
+    )
+}
+
+// A commitment has two numbers that aren't 0; so has what holds one. Of a block the length of the
+// payload can't be 3, of a vote the tag can't be that to nullify, of a certificate neither the tag can
+// be that to notarize nor the count another, and of the note neither its tag nor its epoch can be
+// others'.
+#[test]
+fn formats_are_read_whole_and_in_one_spelling(rt: HostRuntime) -> Result<(), Fail> {
+    let cases = [
+        (Format::Commitment, 100, 2),
+        (Format::Context, 126, 2),
+        (Format::Block, 169, 3),
+        (Format::Vote, 117, 3),
+        (Format::Cert, 15, 3),
+        (Format::Note, 109, 4),
+    ];
+    for (format, size, changes) in cases {
+        assert!(rt; format_is_told(rt.alloc(), format, size, changes)?);
+    }
+    Ok(())
+}
+
+#[test]
+fn a_later_vote_names_an_epoch_above_zero(rt: HostRuntime) {
+    let one = [4u8, 0, 0, 0, 0, 0, 0, 0, 1, 0, 0, 0, 0, 0, 0, 0, 1];
+    let mut reader = Reader::new(&one);
+    assert_eq!(rt; Vote::read(&mut reader), Ok(nullify(1, 1)));
+    let zero = [4u8, 0, 0, 0, 0, 0, 0, 0, 0, 0, 0, 0, 0, 0, 0, 0, 1];
+    let mut reader = Reader::new(&zero);
+    assert_eq!(rt; Vote::read(&mut reader), Err(CodecError::Invalid));
+    assert_eq!(rt; reader.rest().len(), 8);
+}
+
+fn read_message(alloc: Global, bytes: &[u8]) -> Result<Message, CodecError> {
+    Message::read(alloc, &mut Reader::new(bytes))
+}
+
+fn is_junk(alloc: Global, bytes: &[u8]) -> Result<bool, CodecError> {
+    match read_message(alloc, bytes)? {
+        Message::Junk(junk) => Ok(junk.as_slice() == bytes),
+        _ => Ok(false),
+    }
+}
+
+fn is_read_again(alloc: Global, message: Message) -> Result<bool, Fail> {
+    let bytes = written_message(alloc, message.copy(alloc)?)?;
+    match read_message(alloc, &bytes) {
+        Ok(read) => Ok(read == message),
+        Err(_) => Ok(false),
+    }
+}
+
+fn first_message(alloc: Global) -> Result<Message, Fail> {
+    Ok(Message::Block(first_block(alloc)?))
+}
+
+#[test]
+fn bytes_that_are_no_message_are_junk(rt: HostRuntime) -> Result<(), Fail> {
+    assert!(rt; matches!(is_junk(rt.alloc(), &[5]), Ok(true)));
+    assert!(rt; matches!(is_junk(rt.alloc(), &[1, 0, 0, 1]), Ok(true)));
+    assert!(rt; is_read_again(rt.alloc(), three_signed(rt.alloc())?)?);
+    assert!(rt; is_read_again(rt.alloc(), first_message(rt.alloc())?)?);
+    Ok(())
+}
+
+#[test]
+fn a_block_has_its_digest_and_its_round(rt: HostRuntime) -> Result<(), Fail> {
+    let first = Digested::<SumHasher>::new(rt.alloc(), genesis::<SumHasher>(rt.alloc()))?;
+    assert_eq!(rt; first.digest(), Digest32([2; 32]));
+    assert_eq!(rt; first.parent(), Digest32([0; 32]));
+    assert_eq!(rt; first.height(), Height::zero());
+    assert_eq!(rt; first.context().round(), Round::zero());
+    assert_eq!(rt;
+        <Digested<SumHasher> as BoundedBlock>::max_encode_size(),
+        1_048_745
+    );
     Ok(())
 }
