@@ -1,26 +1,16 @@
 -- A chunk that is read with the bytes of its siblings is read with its siblings as digests.
-use Rattle.std.proofs.Common.{◌≡◌, ℕ, List, [], ◌∷◌, map, Result, Ok, Err, refl, ap, ◌∙◌}
+use Rattle.std.proofs.Common.{ℕ, List, Result, Ok, Err, ap, ◌∙◌}
 use Rattle.cw_base.specs.declared.hash.Digest32.{Digest32}
 use Rattle.cw_base.specs.declared.reader.CodecError.{CodecError}
 use Rattle.cw_base.specs.declared.reader.CodecError.TheVariants as codec
 use Rattle.cw_base.specs.Reading.{Reading, Gives, IsRefused}
 use Rattle.cw_tree.specs.Chunks.{Piece}
 use Rattle.cw_tree.specs.Formats.{piece_of_bytes}
+use Rattle.cw_types.specs.MessageLaws.{digests_back}
 use Rattle.cw_types.specs.Reading.{as_read, with_digests}
 
 abbrev content : Digest32 → List ℕ
 content d = d.0
-
-abbrev digest : List ℕ → Digest32
-digest bytes = record { 0 = bytes }
-
-digests_of_contents : (ds : List Digest32) → map digest (map content ds) ≡ ds
-digests_of_contents [] = refl
-digests_of_contents (d ∷ ds) = ap (λ (xs : List Digest32). d ∷ xs) (digests_of_contents ds)
-
-pub digests_of_bytes : (p : Piece Digest32) → with_digests (piece_of_bytes content p) ≡ p
-digests_of_bytes p =
-    ap (λ (ds : List Digest32). let q : Piece Digest32 = record { shard = p.shard; index = p.index; leaf_count = p.leaf_count; siblings = ds } in q) (digests_of_contents p.siblings)
 
 refused_as : {A B : Type 0} (make : A → B) (e : CodecError) (left : List ℕ) (read : Reading A) → IsRefused e left read → IsRefused e left (as_read make read)
 refused_as make codec.NoMemory left read h = tt
@@ -33,5 +23,5 @@ refused_as make codec.Extra left read h = ap (as_read make) h
 pub gives_digests : (result : Result (Piece Digest32) CodecError) (left : List ℕ) (read : Reading (Piece (List ℕ))) →
     Gives (λ p. piece_of_bytes content p) result left read → Gives (λ p. p) result left (as_read with_digests read)
 gives_digests (Ok p) left read h =
-    ap (as_read with_digests) h ∙ ap (λ (q : Piece Digest32). let x : Reading (Piece Digest32) = Ok (q, left) in x) (digests_of_bytes p)
+    ap (as_read with_digests) h ∙ ap (λ (q : Piece Digest32). let x : Reading (Piece Digest32) = Ok (q, left) in x) (digests_back p)
 gives_digests (Err e) left read h = refused_as with_digests e left read h

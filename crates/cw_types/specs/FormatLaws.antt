@@ -17,6 +17,14 @@ use Rattle.cw_types.specs.declared.commitment.Commitment.{Commitment}
 use Rattle.cw_types.specs.declared.block.Context.{Context}
 use Rattle.cw_types.specs.declared.vote.Proposal.{Proposal}
 
+-- no form of a value begins that of another, whatever follows
+abbrev pub IsPrefixFree : {A : Type 0} → (A → List ℕ) → (A → Type 0) → Type 0
+IsPrefixFree {A} format fits = (x y : A) (after behind : List ℕ) → fits x → fits y → format x ++ after ≡ format y ++ behind → (x ≡ y) × (after ≡ behind)
+
+-- what reads back is told by its bytes
+pub prefix_free : {A : Type 0} (f : A → List ℕ) (P : A → Type 0) (r : List ℕ → Reading A) → ReadsBack f P r → IsPrefixFree f P
+prefix_free f P r h x y after behind one other same = read_is (x, after) (y, behind) (sym (h.again x after one) ∙ ap r same ∙ h.again y behind other)
+
 -- ---- how formats are put together
 
 -- a format in other words

@@ -33,10 +33,7 @@ contents_of_digests : (xs : List (List ℕ)) → map content (map digest xs) ≡
 contents_of_digests [] = refl
 contents_of_digests (x ∷ xs) = ap (λ (ys : List (List ℕ)). x ∷ ys) (contents_of_digests xs)
 
-abbrev piece_of : {D : Type 0} → Piece (List ℕ) → List D → Piece D
-piece_of p siblings = record { shard = p.shard; index = p.index; leaf_count = p.leaf_count; siblings = siblings }
-
-digests_back : (p : Piece Digest32) → with_digests (piece_of_bytes content p) ≡ p
+pub digests_back : (p : Piece Digest32) → with_digests (piece_of_bytes content p) ≡ p
 digests_back p =
     ap (λ (ds : List Digest32). let q : Piece Digest32 = record { shard = p.shard; index = p.index; leaf_count = p.leaf_count; siblings = ds } in q) (digests_of_contents p.siblings)
 

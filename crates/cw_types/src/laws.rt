@@ -5,7 +5,7 @@ ghost use Rattle.cw_base.specs.ReadingLaws.{IsBytes, ReadsBack};
 ghost use Rattle.cw_types.specs.Block.{Block};
 ghost use Rattle.cw_types.specs.Encoding.{block_bytes, commitment_bytes, context_bytes, cert_bytes, message_bytes, note_bytes, proposal_bytes, vote_bytes};
 ghost use Rattle.cw_types.specs.Reading.{block_at, block_in, cert_at, commitment_at, context_at, message_of, note_at, proposal_at, vote_at};
-ghost use Rattle.cw_types.specs.FormatLaws.{IsBlock, IsCommitment, IsContext, IsProposal};
+ghost use Rattle.cw_types.specs.FormatLaws.{IsBlock, IsCommitment, IsContext, IsPrefixFree, IsProposal};
 ghost use Rattle.cw_types.specs.MessageLaws.{IsMessage};
 ghost use Rattle.cw_types.specs.NoteLaws.{IsNote};
 ghost use Rattle.cw_types.specs.declared.message.Message.{Message};
@@ -15,8 +15,8 @@ use crate::block::{ChainBlock, Context};
 use crate::commitment::Commitment;
 use crate::vote::{Proposal, Vote};
 
-/// What a commitment, a context, a block, a proposal, a vote, a certificate or a note is read from is in its format, and what is in
-/// the format is read as itself, whatever follows it.
+/// What a commitment, a context, a block, a proposal, a vote, a certificate or a note is read from is in
+/// its format, and what is in the format is read as itself, whatever follows it.
 pub fn values_read_back()
     ensures commitment { ReadsBack commitment_bytes IsCommitment commitment_at }
     ensures context { ReadsBack context_bytes IsContext context_at }
@@ -25,6 +25,16 @@ pub fn values_read_back()
     ensures vote { ReadsBack vote_bytes IsVote vote_at }
     ensures cert { ReadsBack cert_bytes IsCert cert_at }
     ensures note { ReadsBack note_bytes IsNote note_at }
+{}
+
+/// No form of a value begins that of another, so values that stand one behind the other are told apart.
+pub fn forms_are_told()
+    ensures commitment { IsPrefixFree commitment_bytes IsCommitment }
+    ensures context { IsPrefixFree context_bytes IsContext }
+    ensures block { IsPrefixFree block_bytes IsBlock }
+    ensures vote { IsPrefixFree vote_bytes IsVote }
+    ensures cert { IsPrefixFree cert_bytes IsCert }
+    ensures note { IsPrefixFree note_bytes IsNote }
 {}
 
 /// A text that is read as a block is that block's bytes and no other's, and the bytes of a block are
