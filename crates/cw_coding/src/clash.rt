@@ -99,6 +99,8 @@ pub fn find_clash<H: Hasher, R: Threads + Sync, S: Strategy>(
     strategy: &S,
 ) -> Result<Option<(Vec<u8>, Vec<u8>)>, ReedSolomonError>
     ensures taken { IfOk result (λ _. IsEncodable config.now (length first.now) × IsEncodable config.now (length second.now)) }
+    ensures collision { IfOk result (λ found. IfSome found (λ clash.
+        (clash.0.items ≢ clash.1.items) × (H.digest_of clash.0.items ≡ H.digest_of clash.1.items))) }
     ensures found { IfOk result (λ found. MatchOption found
         ((first.now ≡ second.now)
         ⊎ (root_of_text H.digest_of H.Digest.content config.now first.now ≢ root_of_text H.digest_of H.Digest.content config.now second.now))
