@@ -1,12 +1,12 @@
 -- Any chunks of an encoding give its text.
-use Rattle.std.proofs.Common.{◌≡◌, ℕ, suc, zero, ◌+◌, ◌-◌, ◌*◌, ◌%◌, ◌^◌, ◌<◌, ◌≤◌, List, [], ◌∷◌, ◌++◌, length, drop, take, get_or, map, Contains, All, Option, Some, refl, sym, ap, subst, ◌∙◌, arith, ◌⊎◌, inl, inr, ⊎_elim}
+use Rattle.std.proofs.Common.{◌≡◌, ℕ, ◌-◌, ◌*◌, ◌%◌, ◌^◌, ◌<◌, ◌≤◌, List, [], ◌∷◌, length, take, get_or, Contains, All, refl, sym, ap, subst, ◌∙◌, arith, ⊎_elim}
 use Rattle.std.proofs.lemmas.List.{get_or-take, length-take-le, length-map, take-map, get_or_default}
-use Rattle.std.proofs.lemmas.List.Elements.{All-take, Contains-get_or}
+use Rattle.std.proofs.lemmas.List.Elements.{All-take}
 use Rattle.std.proofs.lemmas.Option.{slice_get_within, get_or_from_slice_get}
 use Rattle.cw_base.specs.Shards.{Shards}
 use Rattle.rs_code.specs.Codeword.{ArePoints}
 use Rattle.rs_code.specs.Indices.{AreSound}
-use Rattle.rs_code.specs.Rows.{joined, code_row, AreRows, OriginalsComeFirst, RowsFixCodeword}
+use Rattle.rs_code.specs.Rows.{joined, code_row, OriginalsComeFirst, RowsFixCodeword}
 use Rattle.cw_tree.specs.Chunks.{Piece}
 use Rattle.cw_tree.specs.Widths.{shard_len}
 use Rattle.cw_tree.specs.WidthLaws.{shard_len-even}
@@ -14,7 +14,7 @@ use Rattle.cw_coding.specs.declared.error.RsError.TheVariants.{InvalidShardSize}
 use Rattle.cw_coding.specs.declared.error.ReedSolomonError.{ReedSolomonError}
 use Rattle.cw_coding.specs.declared.error.ReedSolomonError.TheVariants.{ReedSolomon, Inconsistent, InvalidProof, NotEnoughChunks, DuplicateIndex, InvalidDataLength, InvalidIndex, TooManyTotalShards, CommitmentMismatch, NoMemory}
 use Rattle.cw_coding.specs.Checked.{Checked}
-use Rattle.cw_coding.specs.Decoding.{IsDecoding, IsRefusal, IsChunkRefusal, IsMisfit, IsFirstMisfit, AreDecodable, FitTogether, indices_of, in_order, compared, width_of}
+use Rattle.cw_coding.specs.Decoding.{IsDecoding, IsRefusal, IsMisfit, IsFirstMisfit, AreDecodable, indices_of, in_order, compared, width_of}
 use Rattle.cw_coding.specs.Encoding.{IsEncoding}
 use Rattle.cw_coding.specs.Layout.{layout, row_at}
 use Rattle.cw_coding.specs.Laws.{IsChunkOf, AreDecodedTo}
@@ -26,7 +26,7 @@ use Rattle.cw_coding.proofs.DecodingLaws.{same_text}
 use Rattle.cw_coding.proofs.OrderLaws.{all_in_order, sound_in_order, length-in_order, length-indices, compared-ge, compared-le, index_at}
 
 -- a number that stands before a place of different indices isn't the one there
-before_other : (total : ℕ) (xs : List ℕ) (p y : ℕ) → AreSound total xs → p < length xs → get_or xs p 0 ≡ y → Contains (take p xs) y → ⊥
+pub before_other : (total : ℕ) (xs : List ℕ) (p y : ℕ) → AreSound total xs → p < length xs → get_or xs p 0 ≡ y → Contains (take p xs) y → ⊥
 before_other total xs p y sound l is h =
     let less : h.0 < p = omega (arith, h.1, length-take-le p xs (omega arith)) in
     let there : get_or xs h.0 0 ≡ y = sym (get_or-take p xs h.0 0 less) ∙ get_or_default (take p xs) h.0 0 y h.1 ∙ h.2 in

@@ -1,5 +1,5 @@
 -- Many chunks that are checked, one by one.
-use Rattle.std.proofs.Common.{◌≡◌, ◌≢◌, ℕ, suc, zero, ◌+◌, ◌<◌, ◌≤◌, List, [], ◌∷◌, ◌++◌, length, take, drop, get_or, map, Result, Ok, Err, refl, sym, ap, subst, ◌∙◌, arith, Bor}
+use Rattle.std.proofs.Common.{◌≡◌, ◌≢◌, ℕ, suc, zero, ◌+◌, ◌<◌, ◌≤◌, List, [], ◌∷◌, ◌++◌, length, take, get_or, map, Result, Err, refl, sym, ap, subst, ◌∙◌, arith, Bor}
 use Rattle.std.proofs.lemmas.List.{take_more, take_all}
 use denote.Param.Members.{Shared}
 use Rattle.std.specs.Fn.{FnReturnsAt}

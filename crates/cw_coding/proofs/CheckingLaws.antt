@@ -1,5 +1,5 @@
 -- The chunks of an encoding check, and are no larger than they may be.
-use Rattle.std.proofs.Common.{◌≡◌, ◌≢◌, ℕ, suc, zero, ◌+◌, ◌*◌, ◌%◌, ◌<◌, ◌≤◌, List, [], ◌∷◌, ◌++◌, length, get_or, slice_get, inl, inr, Option, Some, refl, sym, ap, subst, ◌∙◌, arith}
+use Rattle.std.proofs.Common.{◌≡◌, ℕ, suc, zero, ◌+◌, ◌*◌, ◌%◌, ◌<◌, ◌≤◌, List, [], ◌∷◌, length, get_or, slice_get, inl, inr, Some, refl, sym, ap, subst, ◌∙◌, arith}
 use Rattle.std.proofs.lemmas.Option.{slice_get_within, get_or_from_slice_get}
 use Rattle.cw_base.specs.Shards.{Shards}
 use Rattle.std.proofs.lemmas.Bool.{cases_lt}
@@ -18,7 +18,7 @@ use Rattle.cw_coding.specs.Layout.{row_at, row_digests}
 use Rattle.cw_coding.specs.Totals.{total_of}
 use Rattle.cw_coding.proofs.LayoutLaws.{length-row_at}
 
-listed_at : {A : Type 0} (n : ℕ) (f : ℕ → A) (i : ℕ) (d : A) → i < n → get_or (listed n f) i d ≡ f i
+pub listed_at : {A : Type 0} (n : ℕ) (f : ℕ → A) (i : ℕ) (d : A) → i < n → get_or (listed n f) i d ≡ f i
 unfolding listed
 listed_at zero f i d l = absurd (omega arith)
 listed_at (suc n) f i d l =
@@ -29,7 +29,7 @@ listed_at (suc n) f i d l =
           get_or_push (listed n f) (f n) d i (omega (arith, length-listed n f, same)) ∙ ap f same
     ]
 
-listed_get : {A : Type 0} (n : ℕ) (f : ℕ → A) (i : ℕ) (x : A) → slice_get (listed n f) i ≡ Some x → (i < n) × (x ≡ f i)
+pub listed_get : {A : Type 0} (n : ℕ) (f : ℕ → A) (i : ℕ) (x : A) → slice_get (listed n f) i ≡ Some x → (i < n) × (x ≡ f i)
 listed_get n f i x e =
     let within = slice_get_within (listed n f) i x e in
     let less : i < n = omega (arith, length-listed n f) in

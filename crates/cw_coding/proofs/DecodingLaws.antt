@@ -1,18 +1,14 @@
 -- Chunks that fit together, the text of a layout, and rows that are rebuilt.
-use Rattle.std.proofs.Common.{◌≡◌, ℕ, suc, zero, ◌+◌, ◌-◌, ◌*◌, ◌/◌, ◌%◌, ◌^◌, ◌<◌, ◌≤◌, Bool, true, false, cond, not, List, [], ◌∷◌, ◌++◌, length, drop, take, get_or, map, replicate, Contains, All, refl, sym, ap, subst, ◌∙◌, arith, ◌⊎◌, inl, inr, ⊎_elim, add-one, Some}
-use Rattle.std.specs.Int.{w32, to_be_bytes, from_be_bytes}
-use Rattle.std.specs.List.{filter, flat_map}
-use Rattle.std.proofs.Math.Nat.{mul-le-mul_right, mul-le-mul_left, mul-le-mul, eq_of_mul-eq-mul_left}
-use Rattle.std.proofs.lemmas.Bool.{cases_lt}
+use Rattle.std.proofs.Common.{◌≡◌, ℕ, suc, zero, ◌+◌, ◌-◌, ◌*◌, ◌/◌, ◌%◌, ◌^◌, ◌<◌, ◌≤◌, List, [], ◌∷◌, ◌++◌, length, drop, take, get_or, Contains, All, refl, sym, ap, ◌∙◌, arith, Some}
+use Rattle.std.specs.Int.{w32, from_be_bytes}
+use Rattle.std.proofs.Math.Nat.{mul-le-mul_right, eq_of_mul-eq-mul_left}
 use Rattle.std.proofs.lemmas.Nat.{from_be_bytes-to_be_bytes_4}
-use Rattle.std.proofs.lemmas.List.{length-append, length_push, get_or_append_left, get_or_push, take_more, take_at, take-append-le, drop-append-le, take_all, map-append, length-map, get_or-take, drop-take, length-drop, length-take-le, take-take, take_rest}
-use Rattle.std.proofs.lemmas.List.Elements.{All-append, Contains-get_or, Contains-append_cases}
+use Rattle.std.proofs.lemmas.List.{take_more, take_at, map-append, get_or-take, drop-take, length-take-le, take-take, take_rest}
+use Rattle.std.proofs.lemmas.List.Elements.{All-append}
 use Rattle.cw_base.specs.Bytes.{be32}
-use Rattle.rs_code.specs.Codeword.{ArePoints}
 use Rattle.rs_code.specs.Rows.{joined, row_of, code_row, row_through, AreRows, OriginalsComeFirst}
-use Rattle.rs_code.specs.Indices.{AreSound}
 use Rattle.rs_code.specs.Plans.{Shape}
-use Rattle.cw_coding.proofs.Joined.{joined_none, joined_more, joined_same, joined_rows, length-joined, length-symbol_bytes}
+use Rattle.cw_coding.proofs.Joined.{joined_same, joined_rows, length-joined, length-symbol_bytes}
 use Rattle.cw_coding.specs.Checked.{Checked}
 use Rattle.cw_tree.specs.Widths.{shard_len}
 use Rattle.cw_base.specs.Rows.{row_hashes}
@@ -21,7 +17,7 @@ use Rattle.cw_tree.specs.Tree.{root_of}
 use Rattle.cw_coding.proofs.IndexLaws.{sound_push}
 use Rattle.cw_coding.specs.Decoding.{FitTogether, indices_of, Fits}
 use Rattle.cw_tree.specs.WidthLaws.{shard_len-covers, shard_len-even, shard_len-some}
-use Rattle.cw_coding.proofs.LayoutLaws.{length-layout, length-be32, row_of-text, length-row_at, bytes_layout, text_hashes}
+use Rattle.cw_coding.proofs.LayoutLaws.{length-layout, row_of-text, length-row_at, bytes_layout, text_hashes}
 
 All-one : {X : Type 0} (P : X → Type 0) (x : X) → P x → All P (x ∷ [])
 All-one P x h zero d l = h

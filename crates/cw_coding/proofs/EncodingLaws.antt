@@ -1,5 +1,5 @@
 -- What a text is encoded to.
-use Rattle.std.proofs.Common.{◌≡◌, ℕ, ◌+◌, ◌*◌, ◌<◌, ◌≤◌, List, length, sym, ap, ◌∙◌, arith, refl, Some}
+use Rattle.std.proofs.Common.{◌≡◌, ℕ, ◌+◌, ◌<◌, ◌≤◌, List, length, sym, ap, ◌∙◌, arith, refl, Some}
 use Rattle.cw_base.specs.Shards.{Shards}
 use Rattle.cw_base.specs.Rows.{listed, listed_same, length-listed, row_hashes}
 use Rattle.rs_code.specs.Rows.{joined, row_of}

@@ -1,14 +1,14 @@
 -- The layout, and the rows that come of it.
-use Rattle.std.proofs.Common.{◌≡◌, ℕ, suc, zero, ◌+◌, ◌-◌, ◌*◌, ◌/◌, ◌%◌, ◌^◌, ◌<◌, ◌≤◌, List, [], ◌∷◌, ◌++◌, length, drop, take, get_or, replicate, refl, sym, ap, ◌∙◌, arith, append_assoc, add-one, add-zero, ⊎_elim}
-use Rattle.std.proofs.Math.Nat.{mul-le-mul_right, mul-le-mul_left, mul-le-mul, mul-div_cancel, div-mul-le_self}
+use Rattle.std.proofs.Common.{◌≡◌, ℕ, suc, zero, ◌+◌, ◌-◌, ◌*◌, ◌/◌, ◌%◌, ◌^◌, ◌<◌, ◌≤◌, List, [], ◌∷◌, ◌++◌, length, drop, take, get_or, replicate, refl, sym, ap, ◌∙◌, arith, append_assoc, add-zero, ⊎_elim}
+use Rattle.std.proofs.Math.Nat.{mul-le-mul_right, mul-le-mul, mul-div_cancel}
 use Rattle.std.proofs.lemmas.List.{length-append, length-replicate, drop_at, take_all, drop-append-le, take-append-le, length-drop, append-nil}
 use Rattle.std.proofs.lemmas.Bool.{cases_lt}
 use Rattle.cw_base.specs.Bytes.{be32}
 use Rattle.rs_code.specs.Rows.{joined, row_of, code_row, AreRows, OriginalsComeFirst}
-use Rattle.cw_coding.proofs.Joined.{joined_none, joined_more, joined_same, length-joined, length-symbol_bytes}
+use Rattle.cw_coding.proofs.Joined.{joined_none, joined_more, length-joined, length-symbol_bytes}
 use Rattle.cw_base.specs.Rows.{listed, listed_same, length-listed, row_hashes}
 use Rattle.cw_tree.specs.Widths.{shard_len}
-use Rattle.cw_tree.specs.WidthLaws.{shard_len-even, shard_len-covers, shard_len-some, shard_len-narrow}
+use Rattle.cw_tree.specs.WidthLaws.{shard_len-even, shard_len-covers, shard_len-some}
 use Rattle.cw_coding.specs.Layout.{layout, row_at, row_digests}
 
 pub length-be32 : (n : ℕ) → length (be32 n) ≡ 4

@@ -1,16 +1,15 @@
 -- Chunks in the order in which they are used.
-use Rattle.std.proofs.Common.{◌≡◌, ℕ, suc, zero, ◌+◌, ◌-◌, ◌*◌, ◌<◌, ◌≤◌, Bool, true, false, cond, not, nat_lt, List, [], ◌∷◌, ◌++◌, length, drop, take, get_or, map, Contains, All, refl, sym, ap, subst, ◌∙◌, arith, ◌⊎◌, inl, inr, ⊎_elim, add-one}
+use Rattle.std.proofs.Common.{◌≡◌, ℕ, suc, zero, ◌+◌, ◌*◌, ◌<◌, ◌≤◌, Bool, true, false, cond, not, nat_lt, List, [], ◌∷◌, ◌++◌, length, drop, take, get_or, All, refl, sym, ap, ◌∙◌, arith}
 use Rattle.std.specs.List.{filter, flat_map}
-use Rattle.std.proofs.lemmas.Bool.{cases_lt}
-use Rattle.std.proofs.lemmas.List.{length-append, map-append, length-map, take_at, drop_at, get_or-take, get_or_default, drop-drop, length-take-le}
-use Rattle.std.proofs.lemmas.List.Elements.{All-append, Contains-get_or, Contains-append_cases}
+use Rattle.std.proofs.lemmas.List.{length-append, map-append, length-map, take_at, drop_at, get_or-take, drop-drop, length-take-le}
+use Rattle.std.proofs.lemmas.List.Elements.{All-append}
 use Rattle.rs_code.specs.Rows.{row_of}
 use Rattle.rs_code.specs.Indices.{AreSound}
 use Rattle.cw_coding.specs.Checked.{Checked}
 use Rattle.cw_base.specs.Shards.{Shards}
 use Rattle.cw_coding.specs.Layout.{row_at}
 use Rattle.cw_coding.proofs.IndexLaws.{sound_split}
-use Rattle.cw_coding.specs.Decoding.{indices_of, in_order, FitTogether, compared, width_of, AreDecodable, IsDecoding, Fits}
+use Rattle.cw_coding.specs.Decoding.{indices_of, in_order, compared, width_of, AreDecodable, IsDecoding, Fits}
 
 indices_filter : {D : Type 0} (q : ℕ → Bool) (cs : List (Checked D)) → indices_of (filter (λ c. q c.index) cs) ≡ filter q (indices_of cs)
 indices_filter q [] = refl

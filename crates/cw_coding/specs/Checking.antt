@@ -1,16 +1,13 @@
 -- When a chunk is taken under a root, and why it is refused.
-use Rattle.std.specs.Prelude.{◌≡◌, ◌≢◌, ℕ, ◌+◌, ◌-◌, ◌*◌, ◌%◌, ◌^◌, ◌<◌, ◌≤◌, ◌⊎◌, List, [], ◌∷◌, length, Option, Some, Result, Ok, Err}
+use Rattle.std.specs.Prelude.{◌≡◌, ◌≢◌, ℕ, ◌%◌, ◌<◌, ◌≤◌, ◌⊎◌, List, [], ◌∷◌, length, Some, Result, Ok, Err}
 use Rattle.cw_base.specs.Shards.{Shards}
 use Rattle.cw_tree.specs.Chunks.{Piece}
-use Rattle.cw_base.specs.Rows.{listed}
-use Rattle.cw_tree.specs.Widths.{shard_len}
-use Rattle.cw_coding.specs.Layout.{row_at, row_digests}
-use Rattle.cw_tree.specs.Tree.{root_by, root_of, path_of}
+use Rattle.cw_tree.specs.Tree.{root_by}
 use Rattle.cw_coding.specs.Totals.{total_of}
 use Rattle.cw_coding.specs.Checked.{Checked}
 use Rattle.cw_coding.specs.declared.error.RsError.TheVariants.{InvalidShardSize}
 use Rattle.cw_coding.specs.declared.error.ReedSolomonError.{ReedSolomonError}
-use Rattle.cw_coding.specs.declared.error.ReedSolomonError.TheVariants.{ReedSolomon, Inconsistent, InvalidProof, NotEnoughChunks, DuplicateIndex, InvalidDataLength, InvalidIndex, TooManyTotalShards, CommitmentMismatch, NoMemory}
+use Rattle.cw_coding.specs.declared.error.ReedSolomonError.TheVariants.{ReedSolomon, InvalidProof, InvalidIndex, TooManyTotalShards, NoMemory}
 
 -- a chunk whose way up leads to the root, at its place
 pub record IsUnder {D : Type 0} (hash : List ℕ → D) (content : D → List ℕ) (c : Shards) (root : D) (index : ℕ) (p : Piece D) : Type 0 where

@@ -1,5 +1,5 @@
 -- What chunks are decoded, and to what.
-use Rattle.std.specs.Prelude.{◌≡◌, ◌≢◌, ℕ, ◌+◌, ◌-◌, ◌*◌, ◌^◌, ◌<◌, ◌≤◌, ◌==◌, nat_lt, not, if◌then◌else◌, ◌⊎◌, List, [], ◌∷◌, ◌++◌, length, take, map, filter, All, Contains, Option, Some, slice_get, slice_index}
+use Rattle.std.specs.Prelude.{◌≡◌, ◌≢◌, ℕ, ◌-◌, ◌^◌, ◌<◌, ◌≤◌, ◌==◌, nat_lt, not, if◌then◌else◌, ◌⊎◌, List, [], ◌∷◌, ◌++◌, length, take, map, filter, All, Contains, Some, slice_get, slice_index}
 use Rattle.cw_base.specs.Shards.{Shards}
 use Rattle.rs_code.specs.Rows.{row_of}
 use Rattle.rs_code.specs.Indices.{AreSound}
@@ -9,7 +9,7 @@ use Rattle.cw_coding.specs.Totals.{total_of, IsWidth}
 use Rattle.cw_tree.specs.Tree.{root_of}
 use Rattle.cw_coding.specs.declared.error.RsError.TheVariants.{InvalidShardSize}
 use Rattle.cw_coding.specs.declared.error.ReedSolomonError.{ReedSolomonError}
-use Rattle.cw_coding.specs.declared.error.ReedSolomonError.TheVariants.{ReedSolomon, Inconsistent, InvalidProof, NotEnoughChunks, DuplicateIndex, InvalidDataLength, InvalidIndex, TooManyTotalShards, CommitmentMismatch, NoMemory}
+use Rattle.cw_coding.specs.declared.error.ReedSolomonError.TheVariants.{ReedSolomon, Inconsistent, NotEnoughChunks, DuplicateIndex, InvalidIndex, TooManyTotalShards, CommitmentMismatch, NoMemory}
 
 abbrev pub indices_of : {D : Type 0} → List (Checked D) → List ℕ
 indices_of chunks = map (λ c. c.index) chunks

@@ -1,15 +1,14 @@
 -- What a text is encoded to, and why it is refused.
-use Rattle.std.specs.Prelude.{◌≡◌, ◌≢◌, ℕ, ◌+◌, ◌-◌, ◌*◌, ◌%◌, ◌^◌, ◌<◌, ◌≤◌, ◌⊎◌, List, length, Option, Some}
+use Rattle.std.specs.Prelude.{◌≡◌, ℕ, ◌-◌, ◌*◌, ◌^◌, ◌<◌, ◌≤◌, List, length, Option, Some}
 use Rattle.cw_base.specs.Shards.{Shards}
 use Rattle.cw_tree.specs.Chunks.{Piece}
 use Rattle.cw_base.specs.Rows.{listed}
 use Rattle.cw_tree.specs.Widths.{shard_len}
 use Rattle.cw_coding.specs.Layout.{row_at, row_digests}
-use Rattle.cw_tree.specs.Tree.{root_by, root_of, path_of}
+use Rattle.cw_tree.specs.Tree.{root_of, path_of}
 use Rattle.cw_coding.specs.Totals.{total_of}
-use Rattle.cw_coding.specs.declared.error.RsError.TheVariants.{InvalidShardSize}
 use Rattle.cw_coding.specs.declared.error.ReedSolomonError.{ReedSolomonError}
-use Rattle.cw_coding.specs.declared.error.ReedSolomonError.TheVariants.{ReedSolomon, Inconsistent, InvalidProof, NotEnoughChunks, DuplicateIndex, InvalidDataLength, InvalidIndex, TooManyTotalShards, CommitmentMismatch, NoMemory}
+use Rattle.cw_coding.specs.declared.error.ReedSolomonError.TheVariants.{InvalidDataLength, TooManyTotalShards, NoMemory}
 
 -- a text of n bytes whose shards have room
 pub record IsCodable (c : Shards) (n : ℕ) : Type 0 where

@@ -1,5 +1,5 @@
 -- What holds of every encoding.
-use Rattle.std.specs.Prelude.{◌≡◌, ℕ, ◌+◌, ◌*◌, ◌^◌, ◌<◌, ◌≤◌, List, length, slice_index, slice_get, Some, All}
+use Rattle.std.specs.Prelude.{◌≡◌, ℕ, ◌+◌, ◌*◌, ◌<◌, ◌≤◌, List, length, slice_index, slice_get, Some, All}
 use Rattle.cw_base.specs.Shards.{Shards}
 use Rattle.rs_code.specs.Indices.{AreSound}
 use Rattle.cw_tree.specs.Chunks.{Piece}
@@ -10,7 +10,7 @@ use Rattle.cw_coding.specs.declared.error.ReedSolomonError.{ReedSolomonError}
 use Rattle.cw_coding.specs.declared.error.ReedSolomonError.TheVariants.{NoMemory}
 use Rattle.cw_coding.specs.Checked.{Checked}
 use Rattle.cw_coding.specs.Checking.{IsUnder}
-use Rattle.cw_coding.specs.Decoding.{IsDecoding, IsRefusal, AreDecodable, indices_of}
+use Rattle.cw_coding.specs.Decoding.{IsDecoding, IsRefusal, indices_of}
 use Rattle.cw_coding.specs.Encoding.{IsEncoding}
 use Rattle.cw_coding.specs.Layout.{row_at}
 use Rattle.cw_coding.specs.Totals.{total_of}

@@ -10,3 +10,4 @@ pub mod Checking
 pub mod Encoding
 pub mod Decoding
 pub mod Laws
+pub mod Clash

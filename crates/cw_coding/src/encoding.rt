@@ -122,6 +122,7 @@ pub(crate) fn encode_text<H: Hasher, R: Threads + Sync, S: Strategy>(
 ) -> Result<(H::Digest, Vec<Chunk<H::Digest>>), ReedSolomonError>
     ensures encoded { IfOk result (λ r. IsEncoding H.digest_of H.Digest.content config.now input.now r.0 r.1.items) }
     ensures refused { IfErr result (λ e. IsEncodeRefusal config.now (length input.now) e) }
+    ensures some { IfOk result (λ _. 1 ≤ config.now.minimum) }
 {
     let total = config.total_shards();
     if total > 65535 {

@@ -3,6 +3,7 @@
 #![tactic(auto)]
 
 mod checking;
+mod clash;
 mod decoding;
 mod encoding;
 mod error;
@@ -12,8 +13,10 @@ mod layout;
 mod recovering;
 mod scheme;
 mod sizes;
+mod ways;
 
 pub use checking::CheckedChunk;
+pub use clash::find_clash;
 pub use cw_base::Config;
 pub use cw_tree::{Chunk, bmt, canonical_shard_len};
 pub use error::{ReedSolomonError, RsError};

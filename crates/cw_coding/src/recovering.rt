@@ -1,6 +1,6 @@
 //! From rows to the text that they come of.
 
-ghost use Rattle.std.specs.Prelude.{◌≡◌, ℕ, ◌+◌, ◌-◌, ◌*◌, ◌%◌, ◌^◌, ◌<◌, ◌≤◌, ◌↔◌, List, length, slice_index, IfOk, IsTrue, Some, MatchOption};
+ghost use Rattle.std.specs.Prelude.{◌≡◌, ℕ, ◌+◌, ◌-◌, ◌*◌, ◌%◌, ◌^◌, ◌<◌, ◌≤◌, ◌↔◌, List, length, slice_index, take, IfOk, IsTrue, Some, MatchOption};
 ghost use Rattle.rs_code.specs.Rows.{joined, row_of, code_row};
 ghost use Rattle.rs_code.specs.Indices.{AreSound};
 ghost use Rattle.cw_tree.specs.Tree.{root_of};
@@ -92,6 +92,21 @@ fn same_rows(
     true
 }
 
+// The plan for codewords of which rows at these different indices are given.
+fn plan_of(alloc: Global, k: u16, m: u16, indices: &[u16]) -> Result<Plan, NoMemory>
+    requires enough { k ≤ length indices.now }
+    requires sound { AreSound (k + m) indices.now }
+    ensures { IfOk result (λ plan. plan ≡ record { k = k; m = m; points = take k indices.now }) }
+{
+    match Plan::new(alloc, k, m, indices) {
+        Ok(plan) => Ok(plan),
+        Err(PlanError::NoMemory) => Err(NoMemory),
+        Err(PlanError::TooFew) => unreachable!(),
+        Err(PlanError::OutOfRange(_)) => unreachable!(),
+        Err(PlanError::Duplicate(_)) => unreachable!(),
+    }
+}
+
 // The originals, rebuilt from the first k rows given.
 fn rebuilt<R: Threads + Sync, S: Strategy>(
     rt: &R,
@@ -116,11 +131,7 @@ fn rebuilt<R: Threads + Sync, S: Strategy>(
         ((s : ℕ) → s < k → row_of rows.now width s ≡ code_row k originals width (slice_index indices.now s)) →
         IfOk result (λ v. v.items ≡ joined k (λ i. code_row k originals width i)) }
 {
-    let plan = match Plan::new(alloc, k, m, indices) {
-        Ok(plan) => plan,
-        Err(PlanError::NoMemory) => return Err(NoMemory),
-        Err(_) => return Err(NoMemory),
-    };
+    let plan = plan_of(alloc, k, m, indices)?;
     let targets = first_indices(alloc, k)?;
     let used = &rows[..usize::from(k) * width];
     match plan.rebuild(rt, alloc, used, width, &targets, strategy) {

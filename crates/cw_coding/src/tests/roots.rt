@@ -1,7 +1,68 @@
 //! Roots of codewords that an independent program gave, under SHA-256.
 
+use super::*;
+use cw_base::Digest;
+
+// The value of a hexadecimal digit.
+fn digit_of(digit: u8) -> u8 {
+    if digit.is_ascii_digit() {
+        digit.wrapping_sub(b'0')
+    } else {
+        digit.wrapping_sub(b'a' - 10)
+    }
+}
+
+// The bytes of hexadecimal digits.
+fn bytes_of(alloc: Global, text: &str) -> Result<Vec<u8>, ReedSolomonError> {
+    let mut bytes = Vec::new(alloc);
+    for pair in text.as_bytes().chunks_exact(2) {
+        let mut byte = 0u8;
+        for digit in pair {
+            byte = byte.wrapping_mul(16).wrapping_add(digit_of(*digit));
+        }
+        bytes.push(byte)?;
+    }
+    Ok(bytes)
+}
+
+// The root of an input, and what all its chunks are decoded to, the last one first.
+fn root_and_back<R: Threads + Sync>(
+    rt: &R,
+    alloc: Global,
+    config: Config,
+    input: &[u8],
+) -> Result<(<Sha256 as Hasher>::Digest, Vec<u8>), ReedSolomonError> {
+    let coded = encoded::<Sha256, R>(rt, alloc, config, input)?;
+    let indices = downwards(alloc, coded.chunks.len().min(65535) as u16)?;
+    let back = decoded(rt, alloc, &coded, &indices)?;
+    Ok((coded.root, back))
+}
+
+// Whether an input has this root, and comes back.
+fn has_root<R: Threads + Sync>(
+    rt: &R,
+    alloc: Global,
+    config: Config,
+    input: &str,
+    root: &str,
+) -> Result<bool, ReedSolomonError> {
+    let input = bytes_of(alloc, input)?;
+    let want = bytes_of(alloc, root)?;
+    let (found, back) = root_and_back(rt, alloc, config, &input)?;
+    Ok(found.as_bytes() == want.as_slice() && back.as_slice() == input.as_slice())
+}
+
+#[test]
+fn roots_of_an_independent_program(rt: HostRuntime) -> Result<(), Fail> {
+    for (k, m, input, root) in ROOTS {
+        let right = has_root(&rt, rt.alloc(), config(k, m), input, root)?;
+        assert!(rt; right, "at {k} of {m}");
+    }
+    Ok(())
+}
+
 // The minimum and the extra shards, the data, and the root, both in hexadecimal digits.
-pub const ROOTS: [(u16, u16, &str, &str); 14] = [
+const ROOTS: [(u16, u16, &str, &str); 14] = [
     (
         1,
         1,

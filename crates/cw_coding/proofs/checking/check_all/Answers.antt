@@ -1,4 +1,4 @@
-use Rattle.std.proofs.Common.{◌≡◌, ℕ, ◌<◌, ◌≤◌, List, length, ap, sym, ◌∙◌, arith, get_or}
+use Rattle.std.proofs.Common.{length, ap, ◌∙◌, arith, get_or}
 use Rattle.cw_coding.proofs.CheckLaws.{stands_at, stood_long, all_more, all_checked}
 use Rattle.cw_coding.proofs.checking.check_all.Goals as goal
 

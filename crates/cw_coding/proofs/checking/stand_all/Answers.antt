@@ -1,4 +1,4 @@
-use Rattle.std.proofs.Common.{◌≡◌, ℕ, ◌≤◌, List, length, map, ap, ◌∙◌, arith, Bor}
+use Rattle.std.proofs.Common.{map, ap, ◌∙◌, arith}
 use Rattle.cw_coding.proofs.CheckLaws.{stood, all_stood, shown_stands}
 use Rattle.cw_coding.proofs.checking.stand_all.Goals as goal
 

@@ -1,7 +1,7 @@
-use Rattle.std.proofs.Common.{◌≡◌, ℕ, ◌+◌, ◌≤◌, length, ◌∙◌, ap, sym, arith, rules, inl, inr}
+use Rattle.std.proofs.Common.{◌+◌, ◌≤◌, length, ap, arith, inr}
 use Rattle.rs_code.specs.Indices.{AreSound}
-use Rattle.cw_coding.specs.Decoding.{indices_of, in_order, compared, width_of}
-use Rattle.cw_coding.proofs.OrderLaws.{sound_in_order, length-indices, compared-le, compared-ge, rows_long_of, decoding_from, fits_from}
+use Rattle.cw_coding.specs.Decoding.{indices_of}
+use Rattle.cw_coding.proofs.OrderLaws.{sound_in_order, length-indices, compared-le, rows_long_of, decoding_from, fits_from}
 use Rattle.cw_coding.proofs.decoding.decode_chunks.Goals as goal
 
 pub recovered-requires-clause-compared : goal.recovered-requires-clause-compared

@@ -1,4 +1,4 @@
-use Rattle.std.proofs.Common.{◌≡◌, ◌+◌, ◌*◌, ◌≤◌, ℕ, length, sym, ap, ◌∙◌, arith, IsTrue, rules}
+use Rattle.std.proofs.Common.{◌≡◌, ◌+◌, length, arith, IsTrue, rules}
 use Rattle.rs_code.specs.Rows.{joined}
 use Rattle.cw_tree.specs.Widths.{shard_len}
 use Rattle.cw_coding.specs.Layout.{row_at}

@@ -1,4 +1,4 @@
-use Rattle.std.proofs.Common.{◌≡◌, ◌*◌, ◌%◌, ◌<◌, ◌≤◌, ◌-◌, ◌^◌, ℕ, length, ap, ◌∙◌, arith}
+use Rattle.std.proofs.Common.{◌%◌, ℕ, length, ap, ◌∙◌, arith}
 use Rattle.std.proofs.Math.Nat.{mul-mod_left}
 use Rattle.cw_coding.proofs.LayoutLaws.{row_count}
 use Rattle.cw_coding.proofs.encoding.tree_of_rows.Goals as goal

@@ -1,4 +1,4 @@
-use Rattle.std.proofs.Common.{◌≡◌, refl}
+use Rattle.std.proofs.Common.{refl}
 use Rattle.std.proofs.lemmas.Option.{slice_get_read}
 use Rattle.cw_coding.proofs.DecodingLaws.{fit_more}
 use Rattle.cw_coding.proofs.gathering.fitting.Goals as goal

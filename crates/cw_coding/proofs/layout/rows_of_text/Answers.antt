@@ -1,4 +1,4 @@
-use Rattle.std.proofs.Common.{◌≡◌, ℕ, ◌+◌, ◌*◌, ◌<◌, List, ◌++◌, get_or, length, sym, ◌∙◌, ap, arith}
+use Rattle.std.proofs.Common.{◌≡◌, ℕ, ◌+◌, ◌*◌, ◌<◌, get_or, length, sym, ◌∙◌, ap, arith}
 use Rattle.rs_code.specs.Rows.{joined, code_row}
 use Rattle.cw_tree.specs.Widths.{shard_len}
 use Rattle.cw_coding.specs.Layout.{layout}

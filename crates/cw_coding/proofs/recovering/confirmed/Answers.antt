@@ -1,4 +1,4 @@
-use Rattle.std.proofs.Common.{◌≡◌, ℕ, ◌+◌, ◌<◌, get_or, length, ◌∙◌, ap, sym, Some, arith}
+use Rattle.std.proofs.Common.{◌≡◌, ℕ, ◌<◌, get_or, ◌∙◌, ap, sym, Some}
 use Rattle.rs_code.specs.Rows.{row_of}
 use Rattle.cw_coding.specs.Layout.{row_at, row_digests}
 use Rattle.cw_tree.specs.Tree.{root_of}

@@ -1,8 +1,7 @@
-use Rattle.std.proofs.Common.{◌≡◌, ◌+◌, ◌≤◌, ℕ, length, ◌∙◌, ap, arith, sym, refl, rules}
+use Rattle.std.proofs.Common.{◌≡◌, ℕ, length, ◌∙◌, ap, arith, refl, rules}
 use Rattle.std.proofs.lemmas.List.{length-take, length-drop}
 use Rattle.cw_tree.specs.Widths.{shard_len}
-use Rattle.cw_coding.specs.Layout.{layout}
-use Rattle.cw_coding.proofs.DecodingLaws.{layout_count, layout_text, layout_room, layout_width, laid_again}
+use Rattle.cw_coding.proofs.DecodingLaws.{layout_count, layout_room, layout_width, laid_again}
 use Rattle.cw_coding.proofs.recovering.text_of.Goals as goal
 use Rattle.cw_coding.proofs.recovering.text_of.Goals.{then-rest-count-via-then-rest-count, then-rest-count-via-else-rest-count+then-canonical_shard_len-width}
 

@@ -1,4 +1,4 @@
-use Rattle.std.proofs.Common.{◌≤◌, ◌<◌, arith}
+use Rattle.std.proofs.Common.{arith}
 use Rattle.cw_coding.proofs.Heights.{rises, risen}
 use Rattle.cw_coding.proofs.sizes.height_of.Goals as goal
 
