@@ -15,8 +15,11 @@ use Rattle.cw_rules.specs.FirstSetting.{Setting}
 use Rattle.cw_rules.specs.FirstStep.{IsStep, with_step}
 use Rattle.hail_script.specs.declared.event.EventLine.{EventLine}
 use Rattle.hail_script.specs.Scenario.{Scenario}
+use Rattle.cw_types.specs.declared.application.AcceptAll.{AcceptAll}
+use Rattle.node.specs.State.{NodeState}
 use Rattle.hailstorm.specs.declared.report.Entry.{Entry}
 use Rattle.hailstorm.specs.declared.report.Sent.{Sent}
+use Rattle.hailstorm.specs.Seats.{nodes_from}
 use Rattle.hailstorm.specs.Turn.{Takes, Acts, event_for, entry_of, signs_in}
 use Rattle.hailstorm.specs.World.{Outcome, IsRun, Plays, standings_from}
 
@@ -86,7 +89,7 @@ one_report hash script one two p q =
     let opening : one.opening ≡ two.opening = p.opening ∙ sym q.opening in
     let acked : one.acked ≡ two.acked = p.acked ∙ ap (standings_from 0) plays.1 ∙ sym q.acked in
     let disks : one.disks ≡ two.disks = p.disks ∙ sym q.disks in
-    let nodes : one.nodes ≡ two.nodes = p.nodes ∙ ap (λ (l : List Member). map (λ (m : Member). let o : Option Member = Some m in o) l) plays.1 ∙ sym q.nodes in
+    let nodes : one.nodes ≡ two.nodes = p.nodes ∙ ap (λ (l : List Member). map (λ (x : NodeState AcceptAll). let o : Option (NodeState AcceptAll) = Some x in o) (nodes_from script 0 l)) plays.1 ∙ sym q.nodes in
     let chain : one.chain ≡ two.chain = p.chain ∙ sym q.chain in
     let steps : one.steps ≡ two.steps = plays.0 in
     (λ i. record { opening = opening i; steps = steps i; acked = acked i; disks = disks i; nodes = nodes i; chain = chain i })

@@ -1,39 +1,23 @@
 -- A run, from what its parts give.
-use Rattle.std.proofs.Common.{◌≡◌, ℕ, zero, suc, ◌+◌, List, [], ◌∷◌, ◌++◌, length, map, Option, Some, None, Ok, refl, sym, ap, ◌∙◌, subst, arith, length-append}
-use Rattle.std.specs.Prelude.{option_map}
+use Rattle.std.proofs.Common.{◌≡◌, ℕ, suc, ◌+◌, List, [], ◌∷◌, ◌++◌, length, map, Option, Some, None, Ok, refl, sym, ap, ◌∙◌, subst}
 use Rattle.std.specs.List.{flat_map, AllByRecursion}
 use Rattle.cw_base.specs.declared.hash.Digest32.{Digest32}
 use Rattle.cw_types.specs.Block.{Block}
 use Rattle.cw_types.specs.Commit.{genesis}
-use Rattle.cw_types.specs.declared.application.AcceptAll.{AcceptAll}
 use Rattle.cw_types.specs.declared.event.Event.{Event}
 use Rattle.cw_types.specs.declared.event.Handed.{Handed}
 use Rattle.cw_types.specs.declared.event.StepOut.{StepOut}
 use Rattle.cw_rules.specs.declared.first_path.Member.{Member}
 use Rattle.cw_rules.specs.FirstSetting.{Setting}
-use Rattle.node.specs.State.{NodeState}
 use Rattle.hail_script.specs.declared.event.EventLine.{EventLine}
 use Rattle.hail_script.specs.Grammar.{script_of}
 use Rattle.hail_script.specs.Scenario.{Scenario}
 use Rattle.hailstorm.specs.declared.report.Entry.{Entry}
 use Rattle.hailstorm.specs.declared.report.Sent.{Sent}
 use Rattle.hailstorm.specs.Outcome.{IsReport, IsLink, handed_in}
-use Rattle.hailstorm.specs.Seats.{members_in}
 use Rattle.hailstorm.specs.Turn.{Takes, event_for}
 use Rattle.hailstorm.specs.World.{Outcome, IsRun, Plays, below, opening_entry}
-
--- live nodes are the members that they are
-pub live_members : (nodes : List (NodeState AcceptAll)) → map (option_map (λ (x : NodeState AcceptAll). x.member)) (map (λ (x : NodeState AcceptAll). let o : Option (NodeState AcceptAll) = Some x in o) nodes) ≡ map (λ (m : Member). let o : Option Member = Some m in o) (members_in nodes)
-live_members [] = refl
-live_members (x ∷ nodes) = ap (λ (l : List (Option Member)). Some x.member ∷ l) (live_members nodes)
-
-length-map : {A B : Type 0} (f : A → B) (xs : List A) → length (map f xs) ≡ length xs
-length-map f [] = refl
-length-map f (x ∷ xs) = ap suc (length-map f xs)
-
-length-below : (n : ℕ) → length (below n) ≡ n
-length-below zero = refl
-length-below (suc n) = omega (arith, length-append (below n) (n ∷ []), length-below n)
+use Rattle.hailstorm.proofs.Members.{length-map, length-below}
 
 -- as many entries as lines
 as_many : (s : Setting) (at : ℕ) (pool : List Sent) (members : List Member) (lines : List EventLine) (entries : List Entry) (last : List Member) → Plays s at pool members lines entries last → length entries ≡ length lines

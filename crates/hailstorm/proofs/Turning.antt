@@ -1,5 +1,5 @@
 -- What one node's step makes of the members.
-use Rattle.std.proofs.Common.{◌≡◌, ℕ, zero, suc, ◌+◌, ◌<◌, List, [], ◌∷◌, ◌++◌, length, Some, None, Result, Ok, Err, Bool, true, false, refl, sym, ap, ◌∙◌, subst, arith, get_or}
+use Rattle.std.proofs.Common.{◌≡◌, ℕ, zero, suc, ◌+◌, ◌<◌, List, [], ◌∷◌, length, Some, None, Result, Ok, Err, Bool, true, false, refl, sym, ap, ◌∙◌, subst, arith, get_or}
 use Rattle.std.specs.Prelude.{slice_get, slice_set, option_map, nat_lt, if◌then◌else◌, IfOk, OnOk}
 use Rattle.std.proofs.lemmas.Bool.{ltb-true}
 use Rattle.hail_script.specs.declared.event.EventLine.{EventLine}
@@ -14,7 +14,7 @@ use Rattle.cw_rules.specs.FirstStep.{IsStep}
 use Rattle.node.specs.State.{NodeState}
 use Rattle.hailstorm.specs.declared.report.Entry.{Entry}
 use Rattle.hailstorm.specs.declared.report.Sent.{Sent}
-use Rattle.hailstorm.specs.Seats.{AreSeated, members_in}
+use Rattle.hailstorm.specs.Seats.{AreSeated, members_in, seat_of, seats_in}
 use Rattle.hailstorm.specs.Turn.{Acts, Steps, entry_of, setting_of, signs_in}
 
 -- two facts of what came
@@ -46,15 +46,13 @@ seat_at at n (node ∷ nodes) (suc i) x s h =
     let there = seat_at (at + 1) n nodes i x s.2 h in
     (omega (arith, there.0), there.1)
 
--- a node that keeps its number and the number of members takes its place
-seated_set : (at n : ℕ) (nodes : List Seat) (i : ℕ) (x y : Seat) → AreSeated at n nodes → slice_get nodes i ≡ Some x → y.id ≡ x.id → y.n ≡ x.n → AreSeated at n (slice_set nodes i y)
-seated_set at n [] i x y s h e f = cc
-seated_set at n (node ∷ nodes) zero x y s h e f =
+-- a node that keeps all but what it knows takes its place
+seats_set : (nodes : List Seat) (i : ℕ) (x y : Seat) → slice_get nodes i ≡ Some x → y ≡ record x { member = y.member } → seats_in (slice_set nodes i y) ≡ seats_in nodes
+seats_set [] i x y h e = cc
+seats_set (node ∷ nodes) zero x y h e =
     let same : node ≡ x = cc in
-    let id : y.id ≡ node.id = e ∙ ap (λ (z : Seat). z.id) (sym same) in
-    let count : y.n ≡ node.n = f ∙ ap (λ (z : Seat). z.n) (sym same) in
-    (id ∙ s.0, count ∙ s.1, s.2)
-seated_set at n (node ∷ nodes) (suc i) x y s h e f = (s.0, s.1, seated_set (at + 1) n nodes i x y s.2 h e f)
+    ap (λ (z : Seat). seat_of z ∷ seats_in nodes) e ∙ ap (λ (z : Seat). seat_of z ∷ seats_in nodes) (sym same)
+seats_set (node ∷ nodes) (suc i) x y h e = ap (λ (l : List Seat). seat_of node ∷ l) (seats_set nodes i x y h e)
 
 members_set : (nodes : List Seat) (i : ℕ) (y : Seat) → members_in (slice_set nodes i y) ≡ slice_set (members_in nodes) i y.member
 members_set [] i y = refl
@@ -78,12 +76,16 @@ acted hash pool n at member event old new out entry seated s is =
       enters = is;
     }
 
-pub still_seated : (hash : List ℕ → Digest32) (pool : List Sent) (n member : ℕ) (event : Event) (old new : List Seat) (out : StepOut)
-    → AreSeated 0 n old → Steps hash pool member event old new out → AreSeated 0 n new
-still_seated hash pool n member event old new out seated s =
-    subst (λ (l : List Seat). AreSeated 0 n l) (sym s.becomes)
-    (seated_set 0 n old member s.before s.after seated s.was (ap (λ (x : Seat). x.id) s.kept) (ap (λ (x : Seat). x.n) s.kept))
+pub kept_seats : (hash : List ℕ → Digest32) (pool : List Sent) (member : ℕ) (event : Event) (old new : List Seat) (out : StepOut)
+    → Steps hash pool member event old new out → seats_in new ≡ seats_in old
+kept_seats hash pool member event old new out s = ap (λ (l : List Seat). seats_in l) s.becomes ∙ seats_set old member s.before s.after s.was s.kept
 
-pub seated_more : (at n : ℕ) (nodes : List Seat) (x : Seat) → AreSeated at n nodes → x.id ≡ at + length nodes → x.n ≡ n → AreSeated at n (nodes ++ x ∷ [])
-seated_more at n [] x s id count = (omega (arith, id), count, tt)
-seated_more at n (node ∷ nodes) x s id count = (s.0, s.1, seated_more (at + 1) n nodes x s.2 (omega (arith, id)) count)
+-- nodes that are the same but for what they know sit at the same places
+pub seated_as : (at n : ℕ) (xs ys : List Seat) → seats_in ys ≡ seats_in xs → AreSeated at n xs → AreSeated at n ys
+seated_as at n [] [] e s = tt
+seated_as at n [] (y ∷ ys) e s = cc
+seated_as at n (x ∷ xs) [] e s = cc
+seated_as at n (x ∷ xs) (y ∷ ys) e s =
+    let first : seat_of y ≡ seat_of x = cc in
+    let rest : seats_in ys ≡ seats_in xs = cc in
+    (ap (λ (z : Seat). z.id) first ∙ s.0, ap (λ (z : Seat). z.n) first ∙ s.1, seated_as (at + 1) n xs ys rest s.2)

@@ -85,6 +85,16 @@ HasFault reads later_reads writes later_writes TooLong = Unit {0}
 HasFault reads later_reads writes later_writes (Refused e) = Unit {0}
 HasFault reads later_reads writes later_writes NoMemory = Unit {0}
 
+-- where the source failed, or memory is short, the sink took nothing
+abbrev pub IsSilent : {R : Type 0} → Option (List ℕ) → Option (List ℕ) → Exit R → Type 0
+IsSilent held written ReadFault = Keeps held written
+IsSilent held written NoMemory = Keeps held written
+IsSilent held written (Done r) = Unit {0}
+IsSilent held written Usage = Unit {0}
+IsSilent held written TooLong = Unit {0}
+IsSilent held written (Refused e) = Unit {0}
+IsSilent held written WriteFault = Unit {0}
+
 -- The text was written and the end is as given, or the sink failed behind a front of the text.
 abbrev pub Finishes : {R : Type 0} → Option (List ℕ) → Option (List ℕ) → ℕ → ℕ → List ℕ → Exit R → Exit R → Type 0
 Finishes held written writes later_writes text exit result =

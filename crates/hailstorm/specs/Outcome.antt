@@ -1,5 +1,5 @@
 -- What a report tells, and when it is that of a text.
-use Rattle.std.specs.Prelude.{◌≡◌, ℕ, List, ◌++◌, length, map, option_map, Some, Ok}
+use Rattle.std.specs.Prelude.{◌≡◌, ℕ, List, ◌++◌, length, Some, Ok}
 use Rattle.std.specs.List.{flat_map, AllByRecursion}
 use Rattle.std.specs.Prelude.{slice_get}
 use Rattle.cw_base.specs.declared.hash.Digest32.{Digest32}
@@ -12,7 +12,7 @@ use Rattle.hailstorm.specs.declared.report.Report.{Report}
 use Rattle.hailstorm.specs.World.{Outcome, IsRun}
 
 abbrev pub outcome_of : {H : Type 0} → Report H → Outcome
-outcome_of r = record { opening = r.opening; steps = r.steps; acked = r.acked; disks = r.disks; nodes = map (option_map (λ node. node.member)) r.nodes; chain = r.chain }
+outcome_of r = record { opening = r.opening; steps = r.steps; acked = r.acked; disks = r.disks; nodes = r.nodes; chain = r.chain }
 
 -- all that was handed out
 abbrev pub handed_in : Outcome → List Handed

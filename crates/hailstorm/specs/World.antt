@@ -3,6 +3,7 @@ use Rattle.std.specs.Prelude.{◌≡◌, ℕ, zero, suc, ◌+◌, ◌-◌, ◌^�
 use Rattle.cw_base.specs.declared.hash.Digest32.{Digest32}
 use Rattle.cw_types.specs.Block.{Block}
 use Rattle.cw_types.specs.Commit.{genesis}
+use Rattle.cw_types.specs.declared.application.AcceptAll.{AcceptAll}
 use Rattle.cw_rules.specs.declared.first_path.Member.{Member}
 use Rattle.cw_rules.specs.FirstNotes.{notes_of}
 use Rattle.cw_rules.specs.FirstSetting.{Setting, genesis_handed, fresh}
@@ -11,20 +12,22 @@ use Rattle.hail_script.specs.Scenario.{Scenario}
 use Rattle.hailstorm.specs.declared.report.Acked.{Acked}
 use Rattle.hailstorm.specs.declared.report.Entry.{Entry}
 use Rattle.hailstorm.specs.declared.report.Sent.{Sent}
+use Rattle.hailstorm.specs.Seats.{nodes_from}
 use Rattle.hailstorm.specs.Turn.{IsTurn, setting_of}
+use Rattle.node.specs.State.{NodeState}
 
 -- the numbers below n, in order
 abbrev pub below : ℕ → List ℕ
 below zero = []
 below (suc n) = below n ++ n ∷ []
 
--- what a report tells: each node as the member that it is, where it is live
+-- what a report tells, with the node of each member that is live
 pub record Outcome : Type 0 where
   pub opening : List Entry
   pub steps : List Entry
   pub acked : List Acked
   pub disks : List (List ℕ)
-  pub nodes : List (Option Member)
+  pub nodes : List (Option (NodeState AcceptAll))
   pub chain : List Block
 
 -- a member's start on nothing: genesis is handed out
@@ -46,12 +49,12 @@ abbrev pub standings_from : ℕ → List Member → List Acked
 standings_from at [] = []
 standings_from at (m ∷ ms) = standing at m ∷ standings_from (at + 1) ms
 
--- The report of a script's run: each member starts, by number, and each line has its turn. All members are live at the end, there are no disks, and the chain is genesis.
+-- The report of a script's run: each member starts, by number, and each line has its turn. All members are live at the end, each in the node of its number; there are no disks, and the chain is genesis.
 pub record IsRun (hash : List ℕ → Digest32) (script : Scenario) (outcome : Outcome) : Type 0 where
   pub opening : outcome.opening ≡ map (opening_entry hash) (below script.members)
   pub last : List Member
   pub plays : Plays (setting_of hash script.members) 2 [] (map (λ _. fresh) (below script.members)) script.events outcome.steps last
   pub acked : outcome.acked ≡ standings_from 0 last
   pub disks : outcome.disks ≡ []
-  pub nodes : outcome.nodes ≡ map Some last
+  pub nodes : outcome.nodes ≡ map Some (nodes_from script 0 last)
   pub chain : outcome.chain ≡ genesis hash ∷ []

@@ -1,7 +1,7 @@
 //! The program: from the bytes that come in to the bytes that go out.
 
 ghost use Rattle.std.specs.Prelude.{◌≡◌, ◌<◌, List, ℕ, length};
-ghost use Rattle.hailstorm.specs.Headline.{status_of, Means, MeansUsage, Answers, HasFault, Finishes};
+ghost use Rattle.hailstorm.specs.Headline.{status_of, Means, MeansUsage, Answers, HasFault, IsSilent, Finishes};
 ghost use Rattle.hailstorm.specs.Outcome.{outcome_of};
 
 use crate::reading::{Reading, read_script, write_all};
@@ -69,7 +69,8 @@ pub fn run_program<
     output: &mut O,
     strategy: &S,
 ) -> Exit<Report<H>>
-    // Where there are words, the usage is written.
+    // Where there are words nothing is read, and the usage is written.
+    ensures unread { 0 < length words.now → input.new ≡ input.old }
     ensures usage { 0 < length words.now → MeansUsage (O.held output.old) (O.held output.new) result }
 
     // Else each answer has its meaning for the bytes that the source had left.
@@ -78,6 +79,9 @@ pub fn run_program<
 
     // A fault is told only where the source or the sink has failed in this call.
     ensures fault { HasFault (I.faults input.old) (I.faults input.new) (O.faults output.old) (O.faults output.new) result }
+
+    // Where the source failed, or memory is short, nothing is written, whether or not the source tells its bytes.
+    ensures silent { IsSilent (O.held output.old) (O.held output.new) result }
 {
     if !words.is_empty() {
         return finish(output, USAGE, Exit::Usage);
@@ -100,6 +104,7 @@ fn run_text<H: Hasher<Digest = Digest32>, R: Threads + Sync, O: Sink, S: Strateg
 ) -> Exit<Report<H>>
     ensures answer { Answers H.digest_of outcome_of script.now (O.held output.old) (O.held output.new) result }
     ensures fault { HasFault 0 0 (O.faults output.old) (O.faults output.new) result }
+    ensures silent { IsSilent (O.held output.old) (O.held output.new) result }
 {
     match World::run(rt, alloc, script, strategy) {
         Ok(report) => match report_text(alloc, &report) {

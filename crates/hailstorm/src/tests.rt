@@ -76,89 +76,107 @@ const OPENING: &str =
 const FIRST_BLOCK: &str =
     "step 2\nsent 0 1 all block 1 B\nsent 1 1 all vote 1 notarize 1 L\nstep 3\nstep 4\nsent 2 0 all vote 0 notarize 1 V\nmember 0 live acked none notes 2\nmember 1 live acked none notes 3\nmember 2 live acked none notes 0\nmember 3 live acked none notes 0\nchain 0 G\ndone 3\n";
 
+// what is written where member 1 proposes a block and member 0 takes it and the vote
+fn first_report(alloc: Global) -> Result<Vec<u8>, Fail> {
+    let mut want = spelled(alloc, OPENING)?;
+    want.extend_from_slice(&spelled(alloc, FIRST_BLOCK)?)?;
+    Ok(want)
+}
+
 #[test]
 fn a_proposed_block_is_noted_and_voted_for(rt: HostRuntime) -> Result<(), Fail> {
     let script = b"cluster 4 3\npropose 1 6869\ndeliver 0 0\ndeliver 1 0\n";
     let run = played(&rt, rt.alloc(), script)?;
-    let mut want = spelled(rt.alloc(), OPENING)?;
-    want.extend_from_slice(&spelled(rt.alloc(), FIRST_BLOCK)?)?;
+    let want = first_report(rt.alloc())?;
     assert_eq!(rt; run.status, 0);
     assert!(rt; run.text.as_slice() == want.as_slice());
     Ok(())
 }
 
+// whether a script is refused, with this line
+fn is_refused<R: Threads + Sync>(
+    rt: &R,
+    alloc: Global,
+    script: &[u8],
+    want: &[u8],
+) -> Result<bool, Fail> {
+    let run = played(rt, alloc, script)?;
+    Ok(run.status == 3 && run.text.as_slice() == want)
+}
+
+const REFUSALS: [(&[u8], &[u8]); 9] = [
+    (b"", b"error 1 Syntax 1\n"),
+    (b"cluster 4 0\n", b"error 1 Syntax 1\n"),
+    (b"cluster 4 3\n\n", b"error 1 Syntax 2\n"),
+    (b"cluster 4 3\ntimeout 0 1\n", b"error 1 Syntax 2\n"),
+    (b"cluster 4 3\npropose 1 686\n", b"error 1 Syntax 2\n"),
+    (b"cluster 3 1\npropose 9 -\n", b"error 2 BadCommittee\n"),
+    (b"cluster 65536 1", b"error 2 BadCommittee\n"),
+    (
+        b"cluster 4 3\npropose 1 -\npropose 4 61\n",
+        b"error 3 UnknownMember 3\n",
+    ),
+    (
+        b"cluster 4 3\ndeliver 0 4\npropose\n",
+        b"error 1 Syntax 3\n",
+    ),
+];
+
 #[test]
 fn a_script_that_is_not_run_is_refused_by_its_first_cause(rt: HostRuntime) -> Result<(), Fail> {
-    let cases: [(&[u8], &[u8]); 9] = [
-        (b"", b"error 1 Syntax 1\n"),
-        (b"cluster 4 0\n", b"error 1 Syntax 1\n"),
-        (b"cluster 4 3\n\n", b"error 1 Syntax 2\n"),
-        (b"cluster 4 3\ntimeout 0 1\n", b"error 1 Syntax 2\n"),
-        (b"cluster 4 3\npropose 1 686\n", b"error 1 Syntax 2\n"),
-        (b"cluster 3 1\npropose 9 -\n", b"error 2 BadCommittee\n"),
-        (b"cluster 65536 1", b"error 2 BadCommittee\n"),
-        (
-            b"cluster 4 3\npropose 1 -\npropose 4 61\n",
-            b"error 3 UnknownMember 3\n",
-        ),
-        (
-            b"cluster 4 3\ndeliver 0 4\npropose\n",
-            b"error 1 Syntax 3\n",
-        ),
-    ];
-    for (script, want) in cases {
-        let run = played(&rt, rt.alloc(), script)?;
-        assert_eq!(rt; run.status, 3);
-        assert!(rt; run.text.as_slice() == want);
+    for (script, want) in REFUSALS {
+        assert!(rt; is_refused(&rt, rt.alloc(), script, want)?);
     }
     Ok(())
 }
 
+fn with_a_word<R: Threads + Sync>(rt: &R, alloc: Global) -> Result<Outcome, Fail> {
+    let words = [String::from_str(alloc, "x")?];
+    let none = Vec::new(alloc);
+    ran(rt, alloc, &words, none, Vec::new(alloc), Vec::new(alloc))
+}
+
 #[test]
-fn words_and_long_scripts_are_refused(rt: HostRuntime) -> Result<(), Fail> {
-    let alloc = rt.alloc();
-    let word = String::from_str(alloc, "x")?;
-    let usage = ran(
-        &rt,
-        alloc,
-        &[word],
-        Vec::new(alloc),
-        Vec::new(alloc),
-        Vec::new(alloc),
-    )?;
-    assert_eq!(rt; usage.status, 2);
-    assert!(rt; usage.text.as_slice() == b"usage: hail_run\n".as_slice());
-    let long = vec![in alloc; 0u8; 16_777_217]?;
-    let run = ran(&rt, alloc, &[], long, Vec::new(alloc), Vec::new(alloc))?;
+fn words_are_refused(rt: HostRuntime) -> Result<(), Fail> {
+    let run = with_a_word(&rt, rt.alloc())?;
+    assert_eq!(rt; run.status, 2);
+    assert!(rt; run.text.as_slice() == b"usage: hail_run\n".as_slice());
+    Ok(())
+}
+
+fn of_zeros<R: Threads + Sync>(rt: &R, alloc: Global, count: usize) -> Result<Outcome, Fail> {
+    let script = vec![in alloc; 0u8; count]?;
+    ran(rt, alloc, &[], script, Vec::new(alloc), Vec::new(alloc))
+}
+
+#[test]
+fn long_scripts_are_refused(rt: HostRuntime) -> Result<(), Fail> {
+    let run = of_zeros(&rt, rt.alloc(), 16_777_217)?;
     assert_eq!(rt; run.status, 3);
     assert!(rt; run.text.as_slice() == b"error TooLong\n".as_slice());
     Ok(())
 }
 
+const HEADER: &[u8] = b"cluster 4 3\n";
+
+fn with_a_read_fault<R: Threads + Sync>(rt: &R, alloc: Global) -> Result<Outcome, Fail> {
+    let second = [2u64].to_vec(alloc)?;
+    let script = HEADER.to_vec(alloc)?;
+    ran(rt, alloc, &[], script, second, Vec::new(alloc))
+}
+
+fn with_a_write_fault<R: Threads + Sync>(rt: &R, alloc: Global) -> Result<Outcome, Fail> {
+    let second = [2u64].to_vec(alloc)?;
+    let script = HEADER.to_vec(alloc)?;
+    ran(rt, alloc, &[], script, Vec::new(alloc), second)
+}
+
 #[test]
 fn a_fault_of_the_outside_is_told(rt: HostRuntime) -> Result<(), Fail> {
-    let alloc = rt.alloc();
-    let script = b"cluster 4 3\n";
-    let second = [2u64].to_vec(alloc)?;
-    let read = ran(
-        &rt,
-        alloc,
-        &[],
-        script.to_vec(alloc)?,
-        second,
-        Vec::new(alloc),
-    )?;
+    let read = with_a_read_fault(&rt, rt.alloc())?;
     assert_eq!(rt; read.status, 5);
     assert!(rt; read.text.is_empty());
-    let second = [2u64].to_vec(alloc)?;
-    let written = ran(
-        &rt,
-        alloc,
-        &[],
-        script.to_vec(alloc)?,
-        Vec::new(alloc),
-        second,
-    )?;
+    let written = with_a_write_fault(&rt, rt.alloc())?;
     assert_eq!(rt; written.status, 6);
     assert!(rt; written.text.as_slice() == b"open 0\nhan".as_slice());
     Ok(())

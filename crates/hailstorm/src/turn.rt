@@ -3,7 +3,7 @@
 ghost use Rattle.std.specs.Prelude.{◌≡◌, ◌+◌, ◌^◌, ◌<◌, ◌++◌, length, IfOk, OnOk};
 ghost use Rattle.std.specs.List.{list_any};
 ghost use Rattle.std.specs.Option.{option_map};
-ghost use Rattle.hailstorm.specs.Seats.{AreSeated, members_in};
+ghost use Rattle.hailstorm.specs.Seats.{AreSeated, members_in, seats_in};
 ghost use Rattle.hailstorm.specs.Turn as rule;
 
 use crate::report::{Entry, Sent};
@@ -165,7 +165,7 @@ fn take<H: Hasher<Digest = Digest32>, R: Threads + Sync, S: Strategy>(
     requires seated { AreSeated 0 (length nodes.old) nodes.old }
     ensures acts { IfOk result (λ entry. rule.Acts (rule.setting_of H.digest_of (length nodes.old)) line pool.old.items (members_in nodes.old) member event.now entry (members_in nodes.new)) }
     ensures sent { IfOk result (λ entry. pool.new.items ≡ pool.old.items ++ entry.sent) }
-    ensures seated { OnOk result (AreSeated 0 (length nodes.old) nodes.new) }
+    ensures kept { OnOk result (seats_in nodes.new ≡ seats_in nodes.old) }
 {
     let out = act(rt, alloc, nodes, pool, member, event, strategy)?;
     let entry = enter(alloc, pool, line, member, out)?;
@@ -188,7 +188,7 @@ pub(crate) fn play<H: Hasher<Digest = Digest32>, R: Threads + Sync, S: Strategy>
     requires few { length nodes.old < 2 ^ 16 }
     ensures turn { IfOk result (λ entry. rule.IsTurn (rule.setting_of H.digest_of (length nodes.old)) line pool.old.items (members_in nodes.old) asked.now entry (members_in nodes.new)) }
     ensures sent { IfOk result (λ entry. pool.new.items ≡ pool.old.items ++ entry.sent) }
-    ensures seated { OnOk result (AreSeated 0 (length nodes.old) nodes.new) }
+    ensures kept { OnOk result (seats_in nodes.new ≡ seats_in nodes.old) }
 {
     let member = asked.member as u16;
     let found = event_for(alloc, pool, member, &asked.ask)?;

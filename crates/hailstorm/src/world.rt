@@ -1,13 +1,13 @@
 //! The cluster that a script runs.
 
-ghost use Rattle.std.specs.Prelude.{◌≡◌, ◌⊎◌, ◌≤◌, ◌<◌, ◌^◌, ◌-◌, [], ◌∷◌, Some, None, map, min, length, IfOk, IfErr};
+ghost use Rattle.std.specs.Prelude.{◌≡◌, ◌⊎◌, ◌≤◌, ◌<◌, ◌^◌, ◌-◌, [], ◌∷◌, Some, None, map, min, length, IfOk, IfErr, OnOk};
 ghost use Rattle.cw_rules.specs.FirstNotes.{notes_of};
 ghost use Rattle.cw_rules.specs.FirstSetting.{fresh};
 ghost use Rattle.cw_types.specs.Commit as first;
 ghost use Rattle.hail_script.specs.Grammar.{script_of, first_unknown};
 ghost use Rattle.hail_script.specs.declared.error.RunError.TheVariants as error;
 ghost use Rattle.hailstorm.specs.Outcome.{outcome_of, IsReport};
-ghost use Rattle.hailstorm.specs.Seats.{AreSeated, members_in};
+ghost use Rattle.hailstorm.specs.Seats.{AreSeated, members_in, seats_in, node_at, nodes_from};
 ghost use Rattle.hailstorm.specs.Turn.{setting_of};
 ghost use Rattle.hailstorm.specs.World.{below, opening_entry, standings_from, IsRun, Plays};
 
@@ -84,7 +84,7 @@ fn open_all<H: Hasher<Digest = Digest32>, R: Threads + Sync, S: Strategy>(
     strategy: &S,
 ) -> Result<(Items<Entry>, Vec<Node<H, AcceptAll>>), NoMemory>
     ensures opening { IfOk result (λ r. r.0 ≡ map (opening_entry H.digest_of) (below script.now.members)) }
-    ensures fresh { IfOk result (λ r. members_in r.1.items ≡ map (λ _. fresh) (below script.now.members)) }
+    ensures nodes { IfOk result (λ r. r.1.items ≡ nodes_from script.now 0 (map (λ _. fresh) (below script.now.members))) }
     ensures seated { IfOk result (λ r. AreSeated 0 script.now.members r.1.items) }
     ensures count { IfOk result (λ r. length r.1.items ≡ script.now.members) }
 {
@@ -107,8 +107,7 @@ fn open<H: Hasher<Digest = Digest32>, R: Threads + Sync, S: Strategy>(
     strategy: &S,
 ) -> Result<(Node<H, AcceptAll>, Entry), NoMemory>
     requires { id < script.now.members }
-    ensures fresh { IfOk result (λ r. r.0.member ≡ fresh) }
-    ensures seated { IfOk result (λ r. (r.0.id ≡ id) × (r.0.n ≡ script.now.members)) }
+    ensures node { IfOk result (λ r. r.0 ≡ node_at script.now id fresh) }
     ensures entry { IfOk result (λ r. r.1 ≡ opening_entry H.digest_of id) }
 {
     let (node, out) = Node::start(
@@ -142,6 +141,7 @@ fn play_all<H: Hasher<Digest = Digest32>, R: Threads + Sync, S: Strategy>(
     requires seated { AreSeated 0 (length nodes.old) nodes.old }
     requires few { length nodes.old < 2 ^ 16 }
     ensures plays { IfOk result (λ steps. Plays (setting_of H.digest_of (length nodes.old)) 2 [] (members_in nodes.old) lines.now steps (members_in nodes.new)) }
+    ensures kept { OnOk result (seats_in nodes.new ≡ seats_in nodes.old) }
 {
     let mut pool: Vec<Sent> = Vec::new(alloc);
     let mut steps = Items::new(alloc);

@@ -28,11 +28,11 @@ blocks_left notes (x ∷ came) = cond (has_block notes x.commitment) 0 1 + block
 abbrev pub notes_left : List Note → Came → ℕ
 notes_left notes came = blocks_left notes came.blocks + cond (has_voted notes 1) 0 1
 
-same_bytes : (xs : List ℕ) → bytes_eq xs xs ≡ true
+pub same_bytes : (xs : List ℕ) → bytes_eq xs xs ≡ true
 same_bytes [] = refl
 same_bytes (x ∷ xs) = rw (eq-eqb x x refl) (same_bytes xs)
 
-same_itself : (c : Commitment) → same_commitment c c ≡ true
+pub same_itself : (c : Commitment) → same_commitment c c ≡ true
 unfolding same_commitment
 same_itself c =
     rw (same_bytes c.block.0, same_bytes c.root.0, same_bytes c.context.0, eq-eqb c.config.minimum c.config.minimum refl)

@@ -1,6 +1,6 @@
 //! What a member accepts.
 
-ghost use Rattle.std.specs.Prelude.{◌≡◌, IfOk, OnOk};
+ghost use Rattle.std.specs.Prelude.{◌≡◌, IfOk, OnOk, OnErr};
 ghost use Rattle.std.specs.List.{list_any};
 ghost use Rattle.cw_rules.specs.FirstAccepting as rule;
 ghost use Rattle.node.specs.State.{setting_of};
@@ -50,6 +50,7 @@ impl<H: Hasher<Digest = Digest32>, A: Application> Node<H, A> {
     ) -> Result<(), NoMemory>
         ensures ok { OnOk result (self.new.member.came.ballots ≡ rule.ballots_with (setting_of H.digest_of A.accepts self.old) (V.signs verifier.now) self.old.member.came.ballots (Message.Vote signer vote.now)) }
         ensures kept { self.new ≡ record self.old { member = record self.old.member { came = record self.old.member.came { ballots = self.new.member.came.ballots } } } }
+        ensures err { OnErr result (self.new ≡ self.old) }
     {
         if !self.is_acceptable(verifier, signer, vote) {
             return Ok(());
@@ -70,6 +71,7 @@ impl<H: Hasher<Digest = Digest32>, A: Application> Node<H, A> {
     ) -> Result<(), NoMemory>
         ensures ok { OnOk result (self.new.member.came.blocks ≡ rule.blocks_with (setting_of H.digest_of A.accepts self.old) self.old.member.came.blocks (Message.Block block.now)) }
         ensures kept { self.new ≡ record self.old { member = record self.old.member { came = record self.old.member.came { blocks = self.new.member.came.blocks } } } }
+        ensures err { OnErr result (self.new ≡ self.old) }
     {
         if has_arrived(self.member.came.blocks.as_slice(), block) {
             return Ok(());
@@ -80,7 +82,7 @@ impl<H: Hasher<Digest = Digest32>, A: Application> Node<H, A> {
         Ok(())
     }
 
-    /// Takes in what an event brings.
+    /// Takes in what an event brings. Where memory is short nothing changes.
     pub(crate) fn accept<R: Threads + Sync, V: Verifier, S: Strategy>(
         &mut self,
         rt: &R,
@@ -91,6 +93,7 @@ impl<H: Hasher<Digest = Digest32>, A: Application> Node<H, A> {
     ) -> Result<(), NoMemory>
         ensures ok { OnOk result (self.new.member.came ≡ rule.came_with (setting_of H.digest_of A.accepts self.old) (V.signs verifier.now) self.old.member.came event.now) }
         ensures kept { self.new ≡ record self.old { member = record self.old.member { came = self.new.member.came } } }
+        ensures err { OnErr result (self.new ≡ self.old) }
     {
         match event {
             Event::Deliver(Message::Vote(signer, vote)) => {

@@ -2,6 +2,7 @@
 #![tactic(auto)]
 
 mod accept;
+mod laws;
 mod notes;
 mod owe;
 mod propose;
@@ -9,6 +10,7 @@ mod send;
 mod state;
 mod step;
 
+pub use laws::step_again;
 pub use state::{Node, NodeError};
 
 #[cfg(test)]

@@ -1,9 +1,10 @@
 //! One step of a member.
 
-ghost use Rattle.std.specs.Prelude.{◌≡◌, ◌++◌, [], IfOk, OnOk};
+ghost use Rattle.std.specs.Prelude.{◌≡◌, ◌++◌, [], IfOk, OnOk, OnErr};
 ghost use Rattle.cw_rules.specs.FirstNotes.{notes_of};
 ghost use Rattle.cw_rules.specs.FirstOwing as rule;
 ghost use Rattle.cw_rules.specs.FirstStep.{IsStep, with_step};
+ghost use Rattle.node.specs.Refusal.{NotesNothing};
 ghost use Rattle.node.specs.State.{setting_of};
 
 use crate::state::{Node, NodeError};
@@ -27,6 +28,7 @@ impl<H: Hasher<Digest = Digest32>, A: Application> Node<H, A> {
     fn keep(&mut self, written: Vec<Note>) -> Result<(), NoMemory>
         ensures ok { OnOk result (self.new.member.notes ≡ with_step self.old.member.notes written.items) }
         ensures kept { self.new ≡ record self.old { member = record self.old.member { notes = self.new.member.notes } } }
+        ensures err { OnErr result (self.new ≡ self.old) }
     {
         if written.is_empty() {
             return Ok(());
@@ -35,8 +37,8 @@ impl<H: Hasher<Digest = Digest32>, A: Application> Node<H, A> {
         Ok(())
     }
 
-    /// Takes an event: accepts, notes and sends as the rules say. Where memory is short the node is
-    /// not to be used further.
+    /// Takes an event: accepts, notes and sends as the rules say. Where memory is short nothing is
+    /// noted, and what the event brings is accepted or not; the same event may then be given again.
     pub fn step<R: Threads + Sync, V: Verifier, S: Strategy>(
         &mut self,
         rt: &R,
@@ -47,6 +49,7 @@ impl<H: Hasher<Digest = Digest32>, A: Application> Node<H, A> {
     ) -> Result<StepOut, NodeError>
         ensures step { IfOk result (λ out. IsStep (setting_of H.digest_of A.accepts self.old) (V.signs verifier.now) self.old.id self.old.member event.now self.new.member out) }
         ensures kept { OnOk result (self.new ≡ record self.old { member = self.new.member }) }
+        ensures refused { OnErr result (NotesNothing (setting_of H.digest_of A.accepts self.old) (V.signs verifier.now) event.now self.old self.new) }
     {
         self.accept(rt, alloc, event, verifier, strategy)?;
         let direct = self.direct_notes(rt, alloc, event, strategy)?;

@@ -1,5 +1,5 @@
 use Rattle.std.proofs.Common.{length}
-use Rattle.hailstorm.proofs.Turning.{acted, still_seated}
+use Rattle.hailstorm.proofs.Turning.{acted, kept_seats}
 use Rattle.hailstorm.proofs.turn.take.Goals as goal
 
 pub returns-clause-acts : goal.returns-clause-acts
@@ -9,6 +9,6 @@ returns-clause-acts g c =
     (rw c.deref.ensures.value at c.in_ok-out.ensures.step)
     (rw c.deref-2.ensures.value at c.in_ok-entry.ensures)
 
-pub returns-clause-seated : goal.returns-clause-seated
-returns-clause-seated g c =
-    still_seated g.H.Hasher.digest_of c.deref.result.now (length c.args.nodes.now) c.args.member c.args.event.now c.args.nodes.now c.act.new.nodes c.in_ok-out.out c.requires.seated c.in_ok-out.ensures.step
+pub returns-clause-kept : goal.returns-clause-kept
+returns-clause-kept g c =
+    kept_seats g.H.Hasher.digest_of c.deref.result.now c.args.member c.args.event.now c.args.nodes.now c.act.new.nodes c.in_ok-out.out c.in_ok-out.ensures.step

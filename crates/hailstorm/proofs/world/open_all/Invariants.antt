@@ -1,6 +1,6 @@
 use Rattle.std.proofs.Common.{◌≡◌, map, length}
 use Rattle.cw_rules.specs.FirstSetting.{fresh}
-use Rattle.hailstorm.specs.Seats.{AreSeated, members_in}
+use Rattle.hailstorm.specs.Seats.{nodes_from}
 use Rattle.hailstorm.specs.World.{below, opening_entry}
 use Rattle.hailstorm.proofs.world.open_all.Given as goal
 
@@ -9,7 +9,6 @@ abbrev pub invariant-loop-id : goal.invariant-loop-id
 invariant-loop-id g l =
     record {
       opening : l.opening ≡ map (opening_entry g.H.Hasher.digest_of) (below l.id);
-      fresh : members_in l.nodes.items ≡ map (λ _. fresh) (below l.id);
-      seated : AreSeated 0 l.script.members l.nodes.items;
+      nodes : l.nodes.items ≡ nodes_from l.script 0 (map (λ _. fresh) (below l.id));
       count : length l.nodes.items ≡ l.id;
     }

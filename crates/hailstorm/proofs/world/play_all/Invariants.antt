@@ -1,7 +1,7 @@
-use Rattle.std.proofs.Common.{◌+◌, ◌++◌, [], List, drop, length}
+use Rattle.std.proofs.Common.{◌≡◌, ◌+◌, ◌++◌, [], List, drop, length}
 use Rattle.cw_rules.specs.declared.first_path.Member.{Member}
 use Rattle.hailstorm.specs.declared.report.Entry.{Entry}
-use Rattle.hailstorm.specs.Seats.{AreSeated, members_in}
+use Rattle.hailstorm.specs.Seats.{members_in, seats_in}
 use Rattle.hailstorm.specs.Turn.{setting_of}
 use Rattle.hailstorm.specs.World.{Plays}
 use Rattle.hailstorm.proofs.world.play_all.Given as goal
@@ -13,5 +13,5 @@ invariant-loop-index g l =
     record {
       rest : (entries : List Entry) (last : List Member) → Plays s (l.index + 2) l.pool.items (members_in l.nodes) (drop l.index l.lines) entries last
           → Plays s 2 [] (members_in l.fn.nodes) l.lines (l.steps ++ entries) last;
-      seated : AreSeated 0 (length l.fn.nodes) l.nodes;
+      kept : seats_in l.nodes ≡ seats_in l.fn.nodes;
     }

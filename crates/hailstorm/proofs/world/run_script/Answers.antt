@@ -1,18 +1,22 @@
 use Rattle.std.proofs.Common.{◌≡◌, ℕ, List, Option, Some, ◌++◌, [], ap, sym, subst, ◌∙◌, take, drop, length, map, arith}
-use Rattle.std.specs.Prelude.{option_map}
 use Rattle.std.proofs.lemmas.List.{take_at}
 use Rattle.cw_types.specs.declared.application.AcceptAll.{AcceptAll}
+use Rattle.cw_rules.specs.declared.first_path.Member.{Member}
 use Rattle.cw_rules.specs.FirstSetting.{fresh}
 use Rattle.node.specs.State.{NodeState}
 use Rattle.hailstorm.specs.declared.report.Entry.{Entry}
-use Rattle.hailstorm.specs.Seats.{members_in}
+use Rattle.hail_script.specs.Scenario.{Scenario}
+use Rattle.hailstorm.specs.Seats.{members_in, seats_in, nodes_from}
 use Rattle.hailstorm.specs.Turn.{setting_of}
 use Rattle.hailstorm.specs.World.{Plays, below, standings_from}
-use Rattle.hailstorm.proofs.Running.{live_members}
+use Rattle.hailstorm.proofs.Members.{members_from, still_nodes}
 use Rattle.hailstorm.proofs.world.run_script.Goals as goal
 
 abbrev Seats : Type 0
 Seats = List (NodeState AcceptAll)
+
+abbrev fresh_members : Scenario → List Member
+fresh_members script = map (λ (_ : ℕ). fresh) (below script.members)
 
 pub returns : goal.returns
 returns g c =
@@ -22,7 +26,11 @@ returns g c =
     let opened = c.in_ok-opening.ensures in
     let long : length last ≡ c.in_ok-opening.nodes.len = omega (arith, c.play_all.auto.nodes, c.deref_mut.ensures.len) in
     let kept : take c.in_ok-opening.nodes.len (last ++ drop (length last) first) ≡ last = take_at last _ _ long in
-    let plays = rw (c.deref_mut.ensures.value, opened.count, opened.fresh, c.lines.ensures.value) at c.in_ok-steps.ensures.plays in
+    let starts : members_in first ≡ fresh_members script = ap (λ (l : Seats). members_in l) opened.nodes ∙ members_from script 0 (fresh_members script) in
+    let plays = rw (c.deref_mut.ensures.value, opened.count, starts, c.lines.ensures.value) at c.in_ok-steps.ensures.plays in
+    let same : seats_in last ≡ seats_in (nodes_from script 0 (fresh_members script)) =
+    c.in_ok-steps.ensures.kept ∙ ap (λ (l : Seats). seats_in l) (c.deref_mut.ensures.value ∙ opened.nodes) in
+    let still : last ≡ nodes_from script 0 (members_in last) = still_nodes script 0 (fresh_members script) last same in
     record {
       opening = c.opening.view_is ∙ opened.opening;
       last = members_in last;
@@ -32,8 +40,6 @@ returns g c =
       acked = c.in_ok-acked.ensures ∙ ap (λ (l : Seats). standings_from 0 (members_in l)) (c.deref.ensures.value ∙ kept);
       disks = c.new.ensures;
       nodes =
-          ap (λ (l : List (Option (NodeState AcceptAll))). map (option_map (λ (x : NodeState AcceptAll). x.member)) l)
-          (c.in_ok-seats.ensures ∙ ap (λ (l : Seats). map (λ (x : NodeState AcceptAll). let o : Option (NodeState AcceptAll) = Some x in o) l) kept)
-          ∙ live_members last;
+          c.in_ok-seats.ensures ∙ ap (λ (l : Seats). map (λ (x : NodeState AcceptAll). let o : Option (NodeState AcceptAll) = Some x in o) l) (kept ∙ still);
       chain = c.in_ok-first_chain.ensures;
     }
