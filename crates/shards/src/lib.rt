@@ -17,3 +17,6 @@ mod verdict;
 pub use cut::cut_block;
 pub use kept::Shards;
 pub use verdict::Verdict;
+
+#[cfg(test)]
+mod tests;
