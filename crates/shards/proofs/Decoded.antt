@@ -1,16 +1,14 @@
 -- The text that chunks are decoded to, as the rules name it.
-use Rattle.std.proofs.Common.{◌≡◌, ◌≢◌, ℕ, zero, suc, ◌+◌, ◌-◌, ◌*◌, ◌^◌, ◌<◌, ◌≤◌, Bool, true, false, cond, not, ◌==◌, nat_lt, IsTrue, List, [], ◌∷◌, ◌++◌, length, map, take, get_or, slice_get, slice_index, Contains, All, Option, Some, refl, sym, ◌∙◌, ap, subst, arith, ◌⊎◌, inl, inr, length-append, if◌then◌else◌}
+use Rattle.std.proofs.Common.{◌≡◌, ◌≢◌, ℕ, zero, suc, ◌+◌, ◌-◌, ◌<◌, ◌≤◌, Bool, true, false, cond, not, ◌==◌, nat_lt, List, [], ◌∷◌, ◌++◌, length, map, take, get_or, slice_get, slice_index, All, Some, refl, sym, ◌∙◌, ap, subst, arith, ◌⊎◌, inl, inr, length-append, if◌then◌else◌}
 use Rattle.std.specs.List.{AllByRecursion, filter}
-use Rattle.std.proofs.lemmas.Bool.{cases_lt, cases_Bool, and_parts}
+use Rattle.std.proofs.lemmas.Bool.{cases_lt}
 use Rattle.std.proofs.lemmas.List.{length-map, take_all}
 use Rattle.std.proofs.lemmas.List.Elements.{All-from_recursion, recursion_from_All}
 use Rattle.std.proofs.lemmas.Option.{same_Some, slice_get_past}
 use Rattle.cw_base.specs.Rows.{length-listed, listed}
-use Rattle.cw_base.specs.Shards.{Shards}
 use Rattle.cw_base.specs.declared.hash.Digest32.{Digest32}
 use Rattle.rs_code.specs.Indices.{AreSound}
 use Rattle.cw_coding.specs.Checked.{Checked}
-use Rattle.cw_coding.specs.Checking.{IsUnder}
 use Rattle.cw_coding.specs.Decoding.{IsDecoding, IsRefusal, compared, in_order, indices_of}
 use Rattle.cw_coding.specs.Encoding.{IsEncoding, piece_of}
 use Rattle.cw_coding.specs.Layout.{row_at}
@@ -20,7 +18,7 @@ use Rattle.cw_coding.specs.declared.error.ReedSolomonError.{ReedSolomonError}
 use Rattle.cw_coding.specs.declared.error.ReedSolomonError.TheVariants.{NoMemory}
 use Rattle.cw_types.specs.Epochs.{Epochs}
 use Rattle.cw_types.specs.declared.commitment.Commitment.{Commitment}
-use Rattle.cw_rules.specs.Coding.{AreApart, AreByteChunks, AreBytes, IsCoder, IsText}
+use Rattle.cw_rules.specs.Coding.{AreApart, AreByteChunks, AreBytes, IsCoder}
 use Rattle.cw_rules.specs.Rules.{Chunk}
 use Rattle.cw_rules_coded.specs.Coded.{code_rows, digest_bytes}
 use Rattle.shards.specs.Enough.{AreEnough, AreOfText, AreUnder, checked_of}

@@ -1,5 +1,5 @@
 -- The commitment and the chunks of a block, as the encoding gives them.
-use Rattle.std.proofs.Common.{◌≡◌, ℕ, zero, suc, ◌+◌, ◌<◌, List, [], ◌∷◌, ◌++◌, length, map, Some, refl, sym, ◌∙◌, ap, subst, arith, add-one}
+use Rattle.std.proofs.Common.{◌≡◌, ℕ, zero, suc, ◌+◌, ◌<◌, List, [], ◌∷◌, ◌++◌, length, map, refl, sym, ◌∙◌, ap, subst, arith, add-one}
 use Rattle.std.specs.List.{enumerate_from}
 use Rattle.std.proofs.lemmas.List.{map-append}
 use Rattle.std.proofs.lemmas.Option.{same_Some}
@@ -8,13 +8,12 @@ use Rattle.cw_base.specs.Shards.{Shards}
 use Rattle.cw_base.specs.declared.hash.Digest32.{Digest32}
 use Rattle.cw_coding.specs.Encoding.{IsEncoding, piece_of}
 use Rattle.cw_coding.specs.Layout.{row_at, row_digests}
-use Rattle.cw_tree.specs.Tree.{path_of, root_of}
+use Rattle.cw_tree.specs.Tree.{path_of}
 use Rattle.cw_types.specs.Block.{Block}
 use Rattle.cw_types.specs.Encoding.{block_bytes, context_bytes}
 use Rattle.cw_types.specs.Epochs.{Epochs}
-use Rattle.cw_types.specs.declared.commitment.Commitment.{Commitment}
 use Rattle.cw_rules.specs.Coding.{IsCoder}
-use Rattle.cw_rules.specs.Rules.{Chunk, chunk_at, chunks, commit, config, rows_of}
+use Rattle.cw_rules.specs.Rules.{Chunk, chunk_at, chunks, commit, config}
 use Rattle.cw_rules_coded.specs.Coded.{code_rows, digest_bytes, root_over}
 use Rattle.shards.specs.Kept.{rules_of}
 use Rattle.shards.proofs.Shown.{root_there}

@@ -1,13 +1,12 @@
 -- The chunks that are kept of a commitment, and one more.
-use Rattle.std.proofs.Common.{◌≡◌, ◌≢◌, ℕ, ◌+◌, ◌≤◌, Bool, true, false, ◌&&◌, ◌||◌, ◌==◌, if◌then◌else◌, IsTrue, List, [], ◌∷◌, ◌++◌, length, map, take, Option, Some, None, refl, sym, ◌∙◌, ap, subst, arith, ◌⊎◌, inl, inr, eq-eqb}
-use Rattle.std.specs.List.{AllByRecursion, filter, filter_map, list_any}
+use Rattle.std.proofs.Common.{◌≡◌, ◌≢◌, ◌+◌, Bool, true, false, ◌&&◌, ◌||◌, ◌==◌, if◌then◌else◌, IsTrue, List, [], ◌∷◌, ◌++◌, length, map, take, None, refl, sym, ◌∙◌, ap, subst, arith, ◌⊎◌, inl, inr, eq-eqb}
+use Rattle.std.specs.List.{AllByRecursion, filter_map}
 use Rattle.std.specs.Option.{option_and_then, option_or}
 use Rattle.std.proofs.lemmas.Bool.{cases_Bool}
 use Rattle.std.proofs.lemmas.List.{append-nil, take_all}
-use Rattle.cw_types.specs.Block.{Block}
 use Rattle.cw_types.specs.Same.{same_commitment}
 use Rattle.cw_types.specs.declared.commitment.Commitment.{Commitment}
-use Rattle.cw_rules.specs.Accepted.{Part, Row, first_some, is_chunk_of, same_part}
+use Rattle.cw_rules.specs.Accepted.{first_some, is_chunk_of}
 use Rattle.cw_rules.specs.Coding.{AreApart}
 use Rattle.cw_rules.specs.Held.{if_committed, row_of, shown, whole_of}
 use Rattle.cw_rules.specs.Rules.{Chunk, Rules, block_of}

@@ -1,5 +1,5 @@
 -- How many bytes a block has.
-use Rattle.std.proofs.Common.{◌≡◌, ℕ, ◌+◌, ◌^◌, ◌<◌, ◌≤◌, ◌++◌, length, refl, arith, length-append}
+use Rattle.std.proofs.Common.{◌≡◌, ℕ, ◌+◌, ◌≤◌, ◌++◌, length, refl, arith, length-append}
 use Rattle.cw_base.specs.Bytes.{be16, be64, varint}
 use Rattle.cw_base.specs.Config.{config_bytes}
 use Rattle.cw_base.specs.Shards.{Shards}

@@ -1,5 +1,5 @@
 -- What a check of a chunk answers, and what the rules ask.
-use Rattle.std.proofs.Common.{◌≡◌, ◌≢◌, ℕ, ◌+◌, ◌%◌, ◌<◌, ◌≤◌, ◌&&◌, ◌==◌, ◌⊎◌, inl, inr, Bool, true, false, nat_lt, List, length, Some, None, Option, refl, sym, ◌∙◌, ap, subst, arith, eq-eqb, eqb-true, ltb-true}
+use Rattle.std.proofs.Common.{◌≡◌, ◌≢◌, ℕ, ◌%◌, ◌≤◌, ◌&&◌, ◌==◌, ◌⊎◌, inl, inr, true, false, nat_lt, List, length, Some, None, Option, refl, sym, ap, arith, eq-eqb, eqb-true, ltb-true}
 use Rattle.std.specs.Option.{option_map_or}
 use Rattle.std.proofs.lemmas.Bool.{and_parts, and_from, cases_Bool, lt-ltb}
 use Rattle.cw_base.specs.declared.hash.Digest32.{Digest32}

@@ -1,5 +1,5 @@
 -- What is answered to a chunk, and what it leaves.
-use Rattle.std.specs.Prelude.{ℕ, ◌+◌, ◌==◌, List, Option, None, Some, if◌then◌else◌, length, not, ◌||◌}
+use Rattle.std.specs.Prelude.{◌+◌, ◌==◌, List, Option, None, Some, if◌then◌else◌, length}
 use Rattle.cw_types.specs.Block.{Block}
 use Rattle.cw_types.specs.declared.commitment.Commitment.{Commitment}
 use Rattle.cw_rules.specs.Accepted.{is_chunk_of}

@@ -1,4 +1,4 @@
-use Rattle.std.proofs.Common.{◌≡◌, ◌<◌, ◌≤◌, ◌∙◌, ap, arith, sym, length}
+use Rattle.std.proofs.Common.{◌≡◌, ◌∙◌, ap, arith, sym, length}
 use Rattle.cw_base.specs.Config.{same_shards}
 use Rattle.cw_rules.specs.Rules.{config_for}
 use Rattle.shards.proofs.Lists.{any_epoch, none_epoch}

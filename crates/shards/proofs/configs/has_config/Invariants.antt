@@ -1,4 +1,4 @@
-use Rattle.std.proofs.Common.{◌≡◌, ◌<◌, ◌≤◌, ℕ, false, length}
+use Rattle.std.proofs.Common.{◌≡◌, ◌<◌, ℕ, false, length}
 use Rattle.cw_base.specs.Config.{same_shards}
 use Rattle.cw_rules.specs.Rules.{config_for}
 use Rattle.cw_types.specs.Epochs.{list_of}

@@ -1,6 +1,5 @@
-use Rattle.std.proofs.Common.{◌≡◌, ◌≢◌, ◌∙◌, ◌⊎◌, IfNone, IfOk, List, None, Ok, Err, Option, Result, Some, ℕ, inl, inr, map, subst}
+use Rattle.std.proofs.Common.{◌≡◌, ◌≢◌, ◌∙◌, IfNone, IfOk, List, None, Ok, Err, Option, Result, Some, ℕ, inl, inr, map, subst}
 use Rattle.std.proofs.lemmas.Iterator.{YieldsList-from_slice, items_from_drains}
-use Rattle.cw_coding.specs.Checked.{Checked}
 use Rattle.cw_coding.specs.Decoding.{IsDecoding, IsRefusal}
 use Rattle.cw_coding.specs.declared.error.ReedSolomonError.TheVariants.{NoMemory}
 use Rattle.cw_rules_coded.specs.Coded.{digest_bytes}

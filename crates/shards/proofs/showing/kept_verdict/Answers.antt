@@ -1,9 +1,9 @@
-use Rattle.std.proofs.Common.{◌≡◌, ◌++◌, ◌∷◌, [], ◌∙◌, ◌-◌, Some, None, ap, eqb-true, map, subst, sym}
+use Rattle.std.proofs.Common.{◌≡◌, ◌∙◌, ◌-◌, Some, None, ap, eqb-true, map, subst, sym}
 use Rattle.std.specs.Option.{option_and_then}
 use Rattle.cw_rules.specs.Held.{if_committed}
 use Rattle.cw_rules.specs.Rules.{block_of}
 use Rattle.shards.specs.Enough.{AreEnough}
-use Rattle.shards.specs.Kept.{chunks_of, rules_of}
+use Rattle.shards.specs.Kept.{rules_of}
 use Rattle.shards.proofs.Answered.{count, enough_kept, verdict_shown}
 use Rattle.shards.proofs.showing.kept_verdict.Goals as goal
 

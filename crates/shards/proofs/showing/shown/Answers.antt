@@ -1,5 +1,5 @@
-use Rattle.std.proofs.Common.{◌∙◌, map, arith, sym}
-use Rattle.shards.proofs.Shown.{shows_none, shows_text}
+use Rattle.std.proofs.Common.{map, arith, sym}
+use Rattle.shards.proofs.Shown.{shows_none}
 use Rattle.shards.proofs.showing.shown.Goals as goal
 
 pub returns-in-None : goal.returns-in-None
