@@ -1,5 +1,7 @@
+pub mod Agreeing
 pub mod Certified
 pub mod Committees
+pub mod Formed
 pub mod Heights
 pub mod Joined
 pub mod Lists

@@ -1,3 +1,4 @@
 pub mod Kinds
 pub mod Known
 pub mod Owing
+pub mod Standing

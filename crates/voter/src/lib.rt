@@ -15,7 +15,7 @@ mod proposals;
 mod tally;
 mod votes;
 
-pub use laws::chain_laws;
+pub use laws::{chain_laws, owed_is_countable, tally_stands};
 pub use own::OwnChunk;
 pub use tally::Tally;
 

@@ -1,0 +1,11 @@
+pub mod SameLemmas
+pub mod Read
+pub mod Lists
+pub mod InChunks
+pub mod Answered
+pub mod KeptLemmas
+pub mod Sizes
+pub mod Standing
+pub mod Decoded
+pub mod Shown
+pub mod Short

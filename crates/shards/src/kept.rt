@@ -1,0 +1,89 @@
+//! The chunks that are kept.
+
+ghost use Rattle.std.specs.Prelude.{◌≡◌, [], IfOk, OnErr, OnOk};
+ghost use Rattle.shards.specs.Kept.{rules_of};
+ghost use Rattle.shards.specs.Verdicts.{after, verdict};
+
+use crate::checks::is_chunk_of;
+use crate::pieces::{self, KeptChunk};
+use crate::showing::kept_verdict;
+use crate::verdict::Verdict;
+use cw_base::{Digest32, Hasher, Items, NoMemory, Strategy};
+use cw_coding::Chunk;
+use cw_types::{Commitment, Committees};
+use std::alloc::Global;
+use std::marker::{Model, PhantomData};
+use std::thread::Threads;
+
+/// The chunks that a member kept. Contracts see them as the committees and the list of the chunks, each
+/// with what it is of, in the order in which they came.
+#[derive(Drop)]
+pub struct Shards<H: Hasher<Digest = Digest32>> {
+    committees: Committees,
+    // an index by commitment and place replaces the scans over this list
+    kept: Items<KeptChunk>,
+    alloc: Global,
+    hasher: PhantomData<H>,
+}
+
+impl<H: Hasher<Digest = Digest32>> Model for Shards<H> {
+    ghost use Rattle.shards.specs.Kept.{AreKept, Gathered, rules_of};
+
+    ghost Value = { Gathered };
+
+    ghost view = { λ s. record { epochs = s.committees; kept = s.kept } };
+
+    ghost invariant = { λ s. AreKept (rules_of H.digest_of s.committees) s.kept };
+}
+
+impl<H: Hasher<Digest = Digest32>> Shards<H> {
+    /// Nothing is kept yet. Takes no memory.
+    pub fn new(alloc: Global, committees: Committees) -> Shards<H>
+        ensures { result ≡ record { epochs = committees; kept = [] } }
+    {
+        Shards {
+            committees,
+            kept: Items::new(alloc),
+            alloc,
+            hasher: PhantomData,
+        }
+    }
+
+    /// Takes a chunk that came, under the commitment that it was said to be of. The verdict is the first
+    /// that holds: it is known, where one of that commitment and index was kept; foreign, where the
+    /// commitment's config is that of no epoch or the chunk doesn't stand under its root. Else it is kept;
+    /// and as the last of as many chunks as show a block, it shows the block of whose codeword they are
+    /// rows, if there is one that is committed to so. Where memory is short nothing changes.
+    pub fn take<R: Threads + Sync, S: Strategy>(
+        &mut self,
+        rt: &R,
+        commitment: &Commitment,
+        chunk: Chunk<Digest32>,
+        strategy: &S,
+    ) -> Result<Verdict, NoMemory>
+        ensures verdict { IfOk result (λ v. v ≡ verdict (rules_of H.digest_of self.old.epochs) self.old.kept commitment.now chunk) }
+        ensures ok { OnOk result (self.new ≡ after (rules_of H.digest_of self.old.epochs) self.old commitment.now chunk) }
+        ensures err { OnErr result (self.new ≡ self.old) }
+    {
+        if pieces::is_known(self.kept.as_slice(), commitment, &chunk) {
+            return Ok(Verdict::Known);
+        }
+        if !is_chunk_of::<H, S>(self.alloc, &self.committees, commitment, &chunk, strategy)? {
+            return Ok(Verdict::Foreign);
+        }
+        let verdict = kept_verdict::<H, R, S>(
+            rt,
+            self.alloc,
+            &self.committees,
+            self.kept.as_slice(),
+            commitment,
+            &chunk,
+            strategy,
+        )?;
+        self.kept.push(KeptChunk {
+            commitment: *commitment,
+            chunk,
+        })?;
+        Ok(verdict)
+    }
+}

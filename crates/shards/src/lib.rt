@@ -1,0 +1,22 @@
+//! Chunks that come, and the blocks that they show; and blocks that are cut into chunks.
+//!
+//! A verdict is the cluster rules' own function of the chunks that were kept. The bodies scan a plain
+//! list.
+#![tactic(auto)]
+
+mod checks;
+mod configs;
+mod cut;
+mod kept;
+mod laws;
+mod pieces;
+mod reading;
+mod showing;
+mod verdict;
+
+pub use cut::cut_block;
+pub use kept::Shards;
+pub use verdict::Verdict;
+
+#[cfg(test)]
+mod tests;

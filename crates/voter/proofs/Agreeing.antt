@@ -1,0 +1,77 @@
+-- A tally answers for every member of the rules that it stands for.
+use Rattle.std.proofs.Common.{◌≡◌, ◌&&◌, ◌||◌, ◌==◌, ℕ, Bool, false, not, List, [], ◌∷◌, Option, Some, None, refl, sym, ◌∙◌, ap}
+use Rattle.std.specs.List.{list_any}
+use Rattle.std.specs.Option.{option_map_or, option_or}
+use Rattle.cw_base.specs.declared.hash.Digest32.{Digest32}
+use Rattle.cw_types.specs.Block.{Block}
+use Rattle.cw_types.specs.Encoding.{block_bytes, context_bytes}
+use Rattle.cw_types.specs.Epochs.{Epochs, is_member, leader, place}
+use Rattle.cw_types.specs.declared.block.Context.{Context}
+use Rattle.cw_types.specs.declared.note.Note.{Note}
+use Rattle.cw_types.specs.declared.vote.Proposal.{Proposal}
+use Rattle.cw_types.specs.declared.vote.Vote.{Vote}
+use Rattle.cw_types.specs.declared.vote.Vote.TheVariants.{Notarize}
+use Rattle.cw_rules.specs.Accepted.{Ballot, State, first_some}
+use Rattle.cw_rules.specs.Notes.{epoch_of, settled, view_of}
+use Rattle.cw_rules.specs.Owed.{all_nullified, cert_owed, finalize_owed, has_own_row, has_voted, is_again, is_payload_for, is_row_at, is_single, named_proposals, named_votes, notarize_owed, when}
+use Rattle.cw_rules.specs.Rules.{Rules, genesis_commitment}
+use Rattle.voter.specs.Known.{Known, is_own_at, rules_of, state_of}
+use Rattle.voter.specs.Owing as owing
+use Rattle.voter.specs.Standing.{StandsFor}
+use Rattle.voter.proofs.Voted.{own_at}
+
+first_same : {X Y : Type 0} (f g : X → Option Y) → ((x : X) → f x ≡ g x) → (xs : List X) → first_some f xs ≡ first_some g xs
+first_same f g h [] = refl
+first_same f g h (x ∷ xs) = ap (λ o. option_or o (first_some f xs)) (h x) ∙ ap (option_or (g x)) (first_same f g h xs)
+
+-- a state of these notes and of what came
+abbrev state_with : List Note → List Ballot → State
+state_with notes ballots = record { notes = notes; came = record { ballots = ballots; parts = []; wishes = [] }; given = [] }
+
+-- rules over these bytes
+abbrev rules_with : Epochs → (List ℕ → Digest32) → (Block → List ℕ) → (Context → List ℕ) → Rules
+rules_with epochs hash blocks contexts = record {
+  epochs = epochs;
+  backlog = 0;
+  hash = hash;
+  block_bytes = blocks;
+  context_bytes = contexts;
+  code = λ text minimum extra. [];
+  root = λ digests. hash [];
+  path = λ digests at. [];
+  leads_to = λ root chunk. false;
+  text_of = λ shards chunks. None;
+  read_block = λ bytes. None;
+  accepts = λ a b. false;
+}
+
+-- a vote to notarize, where the chunk at the member's place came or didn't
+abbrev notarize_with : Rules → ℕ → List Note → List Ballot → Bool → Proposal → Option Note
+notarize_with r id notes ballots own p =
+    when ((p.epoch == epoch_of notes) && (p.view == view_of notes p.epoch)
+    && is_member r.epochs p.epoch id
+    && list_any (is_single (leader r.epochs p.epoch p.view) (Notarize p)) ballots
+    && not (has_voted notes p.epoch p.view)
+    && option_map_or (λ c. (own && is_payload_for r p c) || is_again r notes p c) (settled (genesis_commitment r) notes p.epoch p.parent) false
+    && all_nullified notes p.epoch p.parent p.view)
+    (Note.Vote (Notarize p))
+
+module _ (hash : List ℕ → Digest32) (t : Known) (r : Rules) (s : State) (stands : StandsFor hash t r s) where
+  pub cert_agrees : first_some (cert_owed r t.id s) (named_votes s) ≡ owing.cert_owed hash t
+  cert_agrees = λ i. first_some (cert_owed (rules_with (stands.epochs i) hash block_bytes context_bytes) t.id (state_with (stands.notes i) (stands.ballots i))) (named_votes (state_with (stands.notes i) (stands.ballots i)))
+
+  pub finalize_agrees : first_some (finalize_owed r t.id s) (named_proposals s) ≡ owing.finalize_owed hash t
+  finalize_agrees = λ i. first_some (finalize_owed (rules_with (stands.epochs i) hash block_bytes context_bytes) t.id (state_with (stands.notes i) (stands.ballots i))) (named_proposals (state_with (stands.notes i) (stands.ballots i)))
+
+  own_row : (p : Proposal) → has_own_row r t.id s p ≡ has_own_row (rules_of hash t.epochs) t.id (state_of t) p
+  own_row p = ap (λ (x : Epochs). option_map_or (λ at. list_any (is_row_at at p.payload) s.came.parts) (place x p.epoch t.id) false) stands.epochs ∙ (at (place t.epochs p.epoch t.id) refl ∙ sym (own_at p.payload t.own (place t.epochs p.epoch t.id)))
+    where
+      at : (o : Option ℕ) → place t.epochs p.epoch t.id ≡ o → option_map_or (λ at. list_any (is_row_at at p.payload) s.came.parts) (place t.epochs p.epoch t.id) false ≡ option_map_or (λ at. list_any (is_own_at at p.payload) t.own) (place t.epochs p.epoch t.id) false
+      at None e = rw e refl
+      at (Some n) e = rw e (stands.own p.epoch n p.payload e)
+
+  notarize_same : (p : Proposal) → notarize_owed r t.id s p ≡ notarize_owed (rules_of hash t.epochs) t.id (state_of t) p
+  notarize_same p = λ i. notarize_with (rules_with (stands.epochs i) (stands.hash_same i) (stands.blocks i) (stands.contexts i)) t.id (stands.notes i) (stands.ballots i) (own_row p i) p
+
+  pub notarize_agrees : first_some (notarize_owed r t.id s) (named_proposals s) ≡ owing.notarize_owed hash t
+  notarize_agrees = first_same (notarize_owed r t.id s) (notarize_owed (rules_of hash t.epochs) t.id (state_of t)) notarize_same (named_proposals s) ∙ (λ i. first_some (notarize_owed (rules_of hash t.epochs) t.id (state_of t)) (named_proposals (state_with (stands.notes i) (stands.ballots i))))
