@@ -1,7 +1,7 @@
 -- The tree, as it is built.
-use Rattle.std.proofs.Common.{◌≡◌, ℕ, suc, zero, ◌+◌, ◌-◌, ◌/◌, ◌%◌, ◌<◌, ◌≤◌, List, [], ◌∷◌, ◌++◌, length, drop, take, get_or, Option, Some, None, refl, sym, ap, ◌∙◌, arith, append_assoc}
+use Rattle.std.proofs.Common.{◌≡◌, ℕ, suc, zero, ◌+◌, ◌/◌, ◌%◌, ◌<◌, ◌≤◌, List, [], ◌∷◌, ◌++◌, length, drop, take, get_or, Option, Some, None, refl, sym, ap, subst, ◌∙◌, arith, append_assoc}
 use Rattle.std.proofs.lemmas.List.{drop_more, drop_all, append-nil}
-use Rattle.cw_tree.specs.Tree.{leaf, above, rooted, rooted_some, leaves_from, paired, top_within, root_of, climb, alone, beside, path_within, path_of}
+use Rattle.cw_tree.specs.Tree.{AreLevels, leaf, above, rooted, leaves_from, paired, top_within, root_of, climb, alone, beside, path_within, path_of}
 
 -- one more leaf
 pub leaves_more : {D : Type 0} (hash : List ℕ → D) (content : D → List ℕ) (ds : List D) (i : ℕ) (d : D) (before after whole : List D) →
@@ -180,3 +180,59 @@ pub path_is : {D : Type 0} (hash : List ℕ → D) (content : D → List ℕ) (i
 unfolding path_of
 path_is hash content i ds leaves path l p =
     p ∙ rw (l, length-leaves hash content 0 ds) refl
+
+-- ---- the levels that are kept
+
+-- more levels behind those that were kept
+pub levels_more : {D : Type 0} (hash : List ℕ → D) (content : D → List ℕ) (leaves level next : List D) (kept after : List (List D)) →
+    1 < length level → next ≡ paired hash content level → after ≡ kept ++ level ∷ [] →
+    ((ms : List (List D)) → AreLevels hash content level ms → AreLevels hash content leaves (kept ++ ms)) →
+    (ms : List (List D)) → AreLevels hash content next ms → AreLevels hash content leaves (after ++ ms)
+levels_more {D = D} hash content leaves level next kept after long e more h ms are =
+    let whole : after ++ ms ≡ kept ++ level ∷ ms = ap (λ xs. xs ++ ms) more ∙ append_assoc kept (level ∷ []) ms in
+    let up : AreLevels hash content (paired hash content level) ms = subst (λ (xs : List D). AreLevels hash content xs ms) e are in
+    subst (λ (xs : List (List D)). AreLevels hash content leaves xs) (sym whole) (h (level ∷ ms) (refl, long, up))
+
+pub levels_done : {D : Type 0} (hash : List ℕ → D) (content : D → List ℕ) (leaves level : List D) (kept : List (List D)) →
+    length level ≤ 1 → ((ms : List (List D)) → AreLevels hash content level ms → AreLevels hash content leaves (kept ++ ms)) →
+    AreLevels hash content leaves kept
+levels_done {D = D} hash content leaves level kept short h =
+    subst (λ (xs : List (List D)). AreLevels hash content leaves xs) (append-nil kept) (h [] short)
+
+-- how far a way up has come, and the levels that are left
+pub record UpTo {D : Type 0} (hash : List ℕ → D) (content : D → List ℕ) (taken : List D) (at : ℕ) (left : List (List D)) (path : List D) : Type 0 where
+  pub level : List D
+  pub levels : AreLevels hash content level left
+  pub way : PathTo hash content taken at level path
+
+pub up_within : {D : Type 0} (hash : List ℕ → D) (content : D → List ℕ) (taken : List D) (at : ℕ) (first : List D) (left : List (List D)) (path : List D) →
+    UpTo hash content taken at (first ∷ left) path → at < length first
+up_within hash content taken at first left path u = let w = u.way.within in rw (u.levels.0) w
+
+pub up_more : {D : Type 0} (hash : List ℕ → D) (content : D → List ℕ) (before after : List D) (at : ℕ) (first : List D) (left : List (List D)) (path : List D) →
+    after ≡ before ++ beside at first → UpTo hash content before at (first ∷ left) path → UpTo hash content after (at / 2) left path
+up_more hash content before after at first left path e u =
+    let same : after ≡ before ++ beside at u.level = e ∙ ap (λ xs. before ++ beside at xs) u.levels.0 in
+    record { level = paired hash content u.level; levels = u.levels.2; way = path_up hash content before after at u.level (paired hash content u.level) path u.levels.1 same refl u.way }
+
+pub up_done : {D : Type 0} (hash : List ℕ → D) (content : D → List ℕ) (taken : List D) (at : ℕ) (path : List D) → UpTo hash content taken at [] path → taken ≡ path
+up_done hash content taken at path u = path_done hash content taken at u.level path u.levels u.way
+
+pub up_start : {D : Type 0} (hash : List ℕ → D) (content : D → List ℕ) (i : ℕ) (ds : List D) (left : List (List D)) →
+    i < length ds → AreLevels hash content (leaves_from hash content 0 ds) left → UpTo hash content [] i left (path_of hash content i ds)
+unfolding path_of
+up_start hash content i ds left h are =
+    let long = length-leaves hash content 0 ds in
+    record { level = leaves_from hash content 0 ds; levels = are; way = record { fuel = length ds; enough = omega arith; within = omega arith; same = refl } }
+
+-- the levels that are left, the next one first
+pub next_left : {D : Type 0} (hash : List ℕ → D) (content : D → List ℕ) (taken : List D) (at i : ℕ) (levels : List (List D)) (first path : List D) →
+    i < length levels → first ≡ get_or levels i first → UpTo hash content taken at (drop i levels) path → UpTo hash content taken at (first ∷ drop (i + 1) levels) path
+next_left {D = D} hash content taken at i levels first path h is u =
+    let split : drop i levels ≡ first ∷ drop (i + 1) levels = drop_more levels i first h ∙ ap (λ x. x ∷ drop (i + 1) levels) (sym is) in
+    subst (λ (xs : List (List D)). UpTo hash content taken at xs path) split u
+
+pub none_left : {D : Type 0} (hash : List ℕ → D) (content : D → List ℕ) (taken : List D) (at i : ℕ) (levels : List (List D)) (path : List D) →
+    length levels ≤ i → UpTo hash content taken at (drop i levels) path → taken ≡ path
+none_left {D = D} hash content taken at i levels path h u =
+    up_done hash content taken at path (subst (λ (xs : List (List D)). UpTo hash content taken at xs path) (drop_all i levels h) u)

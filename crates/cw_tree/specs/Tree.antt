@@ -1,5 +1,5 @@
 -- The tree over a list of digests, for any hash function. content gives the bytes of a digest.
-use Rattle.std.specs.Prelude.{◌≡◌, ℕ, zero, suc, ◌+◌, ◌-◌, ◌/◌, ◌%◌, ◌==◌, nat_lt, nat_le, if◌then◌else◌, List, [], ◌∷◌, ◌++◌, length, take, drop, Option, Some, None}
+use Rattle.std.specs.Prelude.{◌≡◌, ℕ, zero, suc, ◌+◌, ◌-◌, ◌/◌, ◌%◌, ◌<◌, ◌≤◌, ◌==◌, nat_lt, nat_le, if◌then◌else◌, List, [], ◌∷◌, ◌++◌, length, take, drop, Option, Some, None}
 use Rattle.cw_base.specs.Bytes.{be32}
 
 -- leaf i, of the digest d
@@ -53,6 +53,11 @@ path_within hash content (suc n) i level = beside i level ++ path_within hash co
 -- the siblings that a proof of digest i holds
 unfoldable pub path_of : {D : Type 0} → (List ℕ → D) → (D → List ℕ) → ℕ → List D → List D
 path_of hash content i digests = path_within hash content (length digests) i (leaves_from hash content 0 digests)
+
+-- a level and those above it, as far as they have more than one node
+abbrev pub AreLevels : {D : Type 0} → (List ℕ → D) → (D → List ℕ) → List D → List (List D) → Type 0
+AreLevels hash content level [] = length level ≤ 1
+AreLevels hash content level (first ∷ others) = (first ≡ level) × (1 < length level) × AreLevels hash content (paired hash content level) others
 
 -- what comes of the first and the rest, where there is a first
 abbrev pub with_first : {D : Type 0} → List D → (D → List D → Option D) → Option D

@@ -1,9 +1,9 @@
 -- Each digest of a tree leads to the root by its path, which is no longer than the tree is high.
-use Rattle.std.proofs.Common.{◌≡◌, ◌≢◌, ℕ, suc, zero, ◌+◌, ◌-◌, ◌*◌, ◌/◌, ◌%◌, ◌^◌, ◌<◌, ◌≤◌, Bool, true, false, cond, eqb, nat_lt, nat_le, List, [], ◌∷◌, ◌++◌, length, drop, take, get_or, Option, Some, None, refl, sym, ap, ◌∙◌, arith, inl, inr, ◌⊎◌, ⊎_elim}
+use Rattle.std.proofs.Common.{◌≡◌, ℕ, suc, zero, ◌+◌, ◌-◌, ◌*◌, ◌/◌, ◌%◌, ◌^◌, ◌<◌, ◌≤◌, Bool, true, false, cond, eqb, nat_le, List, [], ◌∷◌, length, drop, take, get_or, Option, Some, refl, sym, ap, ◌∙◌, arith, inl, inr}
 use Rattle.std.proofs.lemmas.Bool.{lt-ltb, eq-eqb, eqb-true, leb-true, cases_lt}
 use Rattle.std.proofs.lemmas.List.{drop_more, drop_all, get_or_default, length-append, length-take}
 use Rattle.std.proofs.Math.Nat.{pow-suc}
-use Rattle.cw_tree.specs.Tree.{leaf, above, rooted, rooted_some, leaves_from, paired, top_within, root_of, root_by, climb, alone, with_first, beside, path_within, path_of}
+use Rattle.cw_tree.specs.Tree.{leaf, above, leaves_from, paired, top_within, root_of, root_by, climb, beside, path_within, path_of}
 
 length-pairs : {D : Type 0} (hash : List ℕ → D) (content : D → List ℕ) (xs : List D) → length (paired hash content xs) ≡ (length xs + 1) / 2
 length-pairs hash content [] = refl

@@ -1,7 +1,7 @@
 //! A tree as it is built, and the way up from each of its leaves.
 
 ghost use Rattle.std.specs.Prelude.{◌≡◌, ℕ, ◌+◌, ◌-◌, ◌*◌, ◌/◌, ◌^◌, ◌<◌, ◌≤◌, [], ◌∷◌, ◌++◌, length, IfOk, OnOk, OnErr, Some, take, drop};
-ghost use Rattle.cw_tree.specs.Tree.{beside, path_within, leaves_from, paired, top_within, root_of, path_of};
+ghost use Rattle.cw_tree.specs.Tree.{AreLevels, beside, leaves_from, paired, top_within, root_of, path_of};
 
 use crate::bmt::node::{above_of, leaf_of, rooted_of};
 use crate::bmt::proof::Proof;
@@ -65,9 +65,10 @@ impl<H: Hasher> Builder<H> {
     {
         let count = self.digests.len() as u32;
         let leaves = leaves_of::<H>(alloc, self.digests.as_slice())?;
-        let top = top_over::<H>(alloc, leaves)?;
+        let (levels, top) = levels_over::<H>(alloc, leaves)?;
         Ok(Tree {
             digests: self.digests,
+            levels,
             root: rooted_of::<H>(count, &top),
         })
     }
@@ -77,18 +78,22 @@ impl<H: Hasher> Builder<H> {
 #[derive(Drop)]
 pub struct Tree<H: Hasher> {
     digests: Items<H::Digest>,
+    // the leaves and the levels above them, as far as they have more than one node
+    levels: Items<Items<H::Digest>>,
     root: H::Digest,
 }
 
 impl<H: Hasher> Model for Tree<H> {
     ghost use Rattle.std.specs.Prelude.{◌≡◌, ℕ, ◌-◌, ◌^◌, ◌≤◌, List, length, Some};
-    ghost use Rattle.cw_tree.specs.Tree.{root_of};
+    ghost use Rattle.cw_tree.specs.Tree.{AreLevels, leaves_from, root_of};
 
     ghost Value = { List H.Digest };
 
     ghost view = { λ t. t.digests };
 
-    ghost invariant = { λ t. (root_of H.digest_of H.Digest.content t.digests ≡ Some t.root) × (length t.digests ≤ 2 ^ 32 - 1) };
+    ghost invariant = { λ t. (root_of H.digest_of H.Digest.content t.digests ≡ Some t.root)
+        × (AreLevels H.digest_of H.Digest.content (leaves_from H.digest_of H.Digest.content 0 t.digests) t.levels)
+        × (length t.digests ≤ 2 ^ 32 - 1) };
 }
 
 impl<H: Hasher> Tree<H> {
@@ -106,8 +111,12 @@ impl<H: Hasher> Tree<H> {
         ensures siblings { IfOk result (λ p. p.siblings ≡ path_of H.digest_of H.Digest.content index self.now) }
     {
         let leaf_count = self.digests.len() as u32;
-        let leaves = leaves_of::<H>(alloc, self.digests.as_slice())?;
-        let siblings = path_over::<H>(alloc, leaves, index)?;
+        let mut siblings = Items::new(alloc);
+        let mut at = index as usize;
+        for level in self.levels.as_slice() {
+            put_beside(&mut siblings, level.as_slice(), at)?;
+            at /= 2;
+        }
         Ok(Proof {
             leaf_count,
             siblings,
@@ -145,16 +154,24 @@ fn pair_up<H: Hasher>(alloc: Global, level: &[H::Digest]) -> Result<Items<H::Dig
     Ok(next)
 }
 
-// The top of the tree over these leaves.
-fn top_over<H: Hasher>(alloc: Global, leaves: Items<H::Digest>) -> Result<H::Digest, NoMemory>
+// These leaves and the levels above them, as far as they have more than one node, and the top.
+fn levels_over<H: Hasher>(
+    alloc: Global,
+    leaves: Items<H::Digest>,
+) -> Result<(Items<Items<H::Digest>>, H::Digest), NoMemory>
     requires some { 0 < length leaves }
-    ensures { IfOk result (λ top. top_within H.digest_of H.Digest.content (length leaves) leaves ≡ Some top) }
+    ensures levels { IfOk result (λ r. AreLevels H.digest_of H.Digest.content leaves r.0) }
+    ensures top { IfOk result (λ r. top_within H.digest_of H.Digest.content (length leaves) leaves ≡ Some r.1) }
 {
+    let mut levels = Items::new(alloc);
     let mut level = leaves;
     'up: while level.len() > 1 {
-        level = pair_up::<H>(alloc, level.as_slice())?;
+        let above = pair_up::<H>(alloc, level.as_slice())?;
+        levels.push(level)?;
+        level = above;
     }
-    Ok(level.as_slice()[0])
+    let top = level.as_slice()[0];
+    Ok((levels, top))
 }
 
 // Adds the node at a place, where there is one.
@@ -179,24 +196,4 @@ fn put_beside<D: Copy>(out: &mut Items<D>, level: &[D], at: usize) -> Result<(),
         put_one(out, level, at - 1)?;
         Ok(())
     }
-}
-
-// The nodes beside the way up from a leaf.
-fn path_over<H: Hasher>(
-    alloc: Global,
-    leaves: Items<H::Digest>,
-    index: u32,
-) -> Result<Items<H::Digest>, NoMemory>
-    requires within { index < length leaves }
-    ensures { IfOk result (λ path. path ≡ path_within H.digest_of H.Digest.content (length leaves) index leaves) }
-{
-    let mut level = leaves;
-    let mut at = index;
-    let mut path = Items::new(alloc);
-    'up: while level.len() > 1 {
-        put_beside(&mut path, level.as_slice(), at as usize)?;
-        level = pair_up::<H>(alloc, level.as_slice())?;
-        at /= 2;
-    }
-    Ok(path)
 }

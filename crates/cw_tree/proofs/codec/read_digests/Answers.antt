@@ -1,4 +1,4 @@
-use Rattle.std.proofs.Common.{map, arith, ◌≡◌, ◌++◌, ◌∷◌, [], sym, ap, ◌∙◌}
+use Rattle.std.proofs.Common.{map, ◌≡◌, ◌++◌, ◌∷◌, []}
 use Rattle.std.proofs.lemmas.List.{map_push}
 use Rattle.cw_tree.specs.Formats.{digests_at}
 use Rattle.cw_tree.proofs.ReadLoop.{goes_on, ends}

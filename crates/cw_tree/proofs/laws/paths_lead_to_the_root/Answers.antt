@@ -1,4 +1,4 @@
-use Rattle.std.proofs.Common.{◌≡◌, List, get_or, length, Some, sym, subst, ◌∙◌}
+use Rattle.std.proofs.Common.{sym, subst}
 use Rattle.std.proofs.lemmas.Option.{slice_get_within, get_or_from_slice_get}
 use Rattle.cw_tree.specs.TreeRoots.{root_by-path_of, path_of-le}
 use Rattle.cw_tree.specs.Sizes.{AreSized, sized_path, chunk_bytes-le}

@@ -1,4 +1,4 @@
-use Rattle.std.proofs.Common.{ap, arith}
+use Rattle.std.proofs.Common.{arith}
 use Rattle.cw_tree.specs.WidthLaws.{shard_len-even, shard_len-some, shard_len-narrow, shard_len-covers, product_fits}
 use Rattle.cw_tree.proofs.width.canonical_shard_len.Goals as goal
 

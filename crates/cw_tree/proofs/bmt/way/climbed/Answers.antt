@@ -1,4 +1,4 @@
-use Rattle.std.proofs.Common.{◌≡◌, ◌<◌, length, arith}
+use Rattle.std.proofs.Common.{◌<◌, length, arith}
 use Rattle.cw_tree.proofs.TreeLaws.{climbs_up, climbs_alone, climbs_not}
 use Rattle.cw_tree.proofs.bmt.way.climbed.Goals as goal
 

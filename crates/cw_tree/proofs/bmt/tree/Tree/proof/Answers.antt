@@ -1,19 +1,32 @@
-use Rattle.std.proofs.Common.{◌≡◌, ◌<◌, length, ap, ◌∙◌, arith}
-use Rattle.cw_tree.specs.Tree.{leaves_from, path_of}
-use Rattle.cw_tree.proofs.TreeLaws.{length-leaves, path_is}
+use Rattle.std.proofs.Common.{◌≡◌, ◌<◌, ◌++◌, ◌+◌, drop, length, ap, arith}
+use Rattle.cw_tree.specs.Tree.{beside}
+use Rattle.cw_tree.proofs.TreeLaws.{next_left, none_left, up_more, up_start, up_within}
 use Rattle.cw_tree.proofs.bmt.tree.Tree.proof.Goals as goal
 
-pub path_over-requires-clause-within : goal.path_over-requires-clause-within
-path_over-requires-clause-within g c =
+pub loop-level-init : goal.loop-level-init
+loop-level-init g c =
     let hash = g.H.Hasher.digest_of in
     let content = g.H.Digest.Digest.content in
-    let is : c.in_ok-leaves.leaves ≡ leaves_from hash content 0 c.self.inside.digests = rw c.as_slice.ensures at c.in_ok-leaves.ensures in
-    omega (arith, ap length is, length-leaves hash content 0 c.self.inside.digests, ap length c.self.view_is, c.requires.within)
+    let within : c.args.index < length c.self.inside.digests = omega (arith, ap length c.self.view_is, c.requires.within) in
+    rw (c.new-siblings.ensures, c.as_slice-level-items.ensures, ← c.self.view_is) (up_start hash content c.args.index c.self.inside.digests c.self.inside.levels within c.self.invariant.1)
+
+pub put_beside-requires : goal.put_beside-requires
+put_beside-requires g c =
+    let hash = g.H.Hasher.digest_of in
+    let content = g.H.Digest.Digest.content in
+    record {
+      within = rw c.as_slice.ensures (up_within hash content c.loop-level.siblings c.loop-level.at c.level-item.result (drop (c.loop-level.level-index + 1) c.as_slice-level-items.result.now) _
+          (next_left hash content c.loop-level.siblings c.loop-level.at c.loop-level.level-index c.as_slice-level-items.result.now c.level-item.result _ c.loop-level-test.true c.level-item.is c.loop-level.invariant));
+    }
+
+pub loop-level-preserved : goal.loop-level-preserved
+loop-level-preserved g c =
+    let hash = g.H.Hasher.digest_of in
+    let content = g.H.Digest.Digest.content in
+    let more : c.put_beside.new.out ≡ c.loop-level.siblings ++ beside c.loop-level.at c.level-item.result = rw c.as_slice.ensures at c.in_ok-put_beside.ensures in
+    up_more hash content c.loop-level.siblings c.put_beside.new.out c.loop-level.at c.level-item.result (drop (c.loop-level.level-index + 1) c.as_slice-level-items.result.now) _ more
+    (next_left hash content c.loop-level.siblings c.loop-level.at c.loop-level.level-index c.as_slice-level-items.result.now c.level-item.result _ c.loop-level-test.true c.level-item.is c.loop-level.invariant)
 
 pub returns-clause-siblings : goal.returns-clause-siblings
 returns-clause-siblings g c =
-    let hash = g.H.Hasher.digest_of in
-    let content = g.H.Digest.Digest.content in
-    let is : c.in_ok-leaves.leaves ≡ leaves_from hash content 0 c.self.inside.digests = rw c.as_slice.ensures at c.in_ok-leaves.ensures in
-    path_is hash content c.args.index c.self.inside.digests c.in_ok-leaves.leaves c.in_ok-siblings.siblings is c.in_ok-siblings.ensures
-    ∙ ap (path_of hash content c.args.index) c.self.view_is
+    none_left g.H.Hasher.digest_of g.H.Digest.Digest.content c.loop-level.siblings c.loop-level.at c.loop-level.level-index c.as_slice-level-items.result.now _ c.loop-level-test.false c.loop-level.invariant
