@@ -8,5 +8,6 @@ pub mod NoteLaws
 pub mod Numbers
 pub mod Reading
 pub mod Same
+pub mod Sizes
 pub mod TaggedLaws
 pub mod Votes

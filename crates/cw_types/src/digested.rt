@@ -1,6 +1,6 @@
 //! What a block is to those who agree on it, and a block with its digest.
 
-ghost use Rattle.std.specs.Prelude.{◌≡◌, ◌≤◌, ℕ, IfOk, length};
+ghost use Rattle.std.specs.Prelude.{◌≡◌, ◌≤◌, ℕ, List, IfOk, length};
 ghost use Rattle.cw_types.specs.Encoding.{block_bytes};
 
 use crate::block::{ChainBlock, Context, MAX_BLOCK};
@@ -37,11 +37,19 @@ pub trait CertifiableBlock: Block {
 
 /// A block whose bytes are bounded.
 pub trait BoundedBlock: Block {
+    /// A block's bytes.
+    ghost bytes_of: { Self → List ℕ };
+
+    /// What each block has that a program holds.
+    ghost fits: { Self → Type 0 };
+
     /// The most bytes of a block.
     ghost max_bytes: { ℕ };
 
+    /// The most bytes that a block has.
     fn max_encode_size() -> usize
-        ensures { result ≡ max_bytes };
+        ensures value { result ≡ max_bytes }
+        ensures bound { (block : Self) → fits block → length (bytes_of block) ≤ result };
 }
 
 /// A block with its digest, which is hashed once.
@@ -125,6 +133,13 @@ impl<H: Hasher<Digest = Digest32>> CertifiableBlock for Digested<H> {
 }
 
 impl<H: Hasher<Digest = Digest32>> BoundedBlock for Digested<H> {
+    ghost use Rattle.cw_types.specs.Encoding.{block_bytes};
+    ghost use Rattle.cw_types.specs.FormatLaws.{IsBlock};
+
+    ghost bytes_of = { block_bytes };
+
+    ghost fits = { IsBlock };
+
     ghost max_bytes = { 1048745 };
 
     fn max_encode_size() -> usize {

@@ -1,6 +1,6 @@
 //! What is written reads back, and what reads is in its format: laws, which take no work.
 
-ghost use Rattle.std.specs.Prelude.{◌≡◌, ◌<◌, ◌^◌, ℕ, List, Some};
+ghost use Rattle.std.specs.Prelude.{◌≡◌, ◌<◌, ◌≤◌, ◌^◌, ℕ, List, Some, length};
 ghost use Rattle.cw_base.specs.ReadingLaws.{IsBytes, ReadsBack};
 ghost use Rattle.cw_types.specs.Block.{Block};
 ghost use Rattle.cw_types.specs.Encoding.{block_bytes, commitment_bytes, context_bytes, cert_bytes, message_bytes, note_bytes, proposal_bytes, vote_bytes};
@@ -75,6 +75,12 @@ pub fn block_fits(block: &ChainBlock)
     let _height = block.height();
     let _payload = block.payload().bytes();
 }
+
+/// A block has at most 1,048,745 bytes, and one with the longest payload has as many.
+pub fn blocks_are_bounded()
+    ensures bound { (b : Block) → IsBlock b → length (block_bytes b) ≤ 1048745 }
+    ensures reached { (b : Block) → IsBlock b → length b.payload ≡ 1048576 → length (block_bytes b) ≡ 1048745 }
+{}
 
 /// Each vote reads back.
 pub fn vote_fits(vote: Vote)
