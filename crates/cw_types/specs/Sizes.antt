@@ -42,17 +42,17 @@ length-greatest = refl
 length-commitment : (c : Commitment) → IsCommitment c → length (commitment_bytes c) ≡ 100
 unfolding commitment_bytes config_bytes
 length-commitment c fits = omega (
-    arith,
-    fits.block,
-    fits.root,
-    fits.context,
-    length-append (c.block.0 ++ c.root.0 ++ c.context.0) (be16 c.config.minimum ++ be16 c.config.extra),
-    length-append (c.block.0 ++ c.root.0) c.context.0,
-    length-append c.block.0 c.root.0,
-    length-append (be16 c.config.minimum) (be16 c.config.extra),
-    length-be16 c.config.minimum,
-    length-be16 c.config.extra,
-  )
+  arith,
+  fits.block,
+  fits.root,
+  fits.context,
+  length-append (c.block.0 ++ c.root.0 ++ c.context.0) (be16 c.config.minimum ++ be16 c.config.extra),
+  length-append (c.block.0 ++ c.root.0) c.context.0,
+  length-append c.block.0 c.root.0,
+  length-append (be16 c.config.minimum) (be16 c.config.extra),
+  length-be16 c.config.minimum,
+  length-be16 c.config.extra,
+)
 
 length-context : (c : Context) → IsContext c → length (context_bytes c) ≡ 126
 unfolding context_bytes

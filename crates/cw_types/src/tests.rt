@@ -1,5 +1,5 @@
 use super::*;
-use cw_base::{CodecError, Digest32, Items, Reader, Sequential, SumHasher};
+use cw_base::{CodecError, Digest32, Items, Reader, Sequential, SumHasher, put_bytes};
 use std::alloc::Global;
 use std::test::Fail;
 
@@ -231,9 +231,11 @@ enum Format {
     Commitment,
     Context,
     Block,
+    Proposal,
     Vote,
     Cert,
     Note,
+    Message,
 }
 
 fn commitment_again(bytes: &[u8], out: &mut Vec<u8>) -> Result<(), CodecError> {
@@ -257,6 +259,13 @@ fn block_again(alloc: Global, bytes: &[u8], out: &mut Vec<u8>) -> Result<(), Cod
     Ok(block.write(out)?)
 }
 
+fn proposal_again(bytes: &[u8], out: &mut Vec<u8>) -> Result<(), CodecError> {
+    let mut reader = Reader::new(bytes);
+    let proposal = Proposal::read(&mut reader, 0)?;
+    reader.finish()?;
+    Ok(proposal.write(out)?)
+}
+
 fn vote_again(bytes: &[u8], out: &mut Vec<u8>) -> Result<(), CodecError> {
     let mut reader = Reader::new(bytes);
     let vote = Vote::read(&mut reader)?;
@@ -278,6 +287,14 @@ fn note_again(alloc: Global, bytes: &[u8], out: &mut Vec<u8>) -> Result<(), Code
     Ok(note.write(out)?)
 }
 
+// a message is never refused: junk counts as cut here
+fn message_again(alloc: Global, bytes: &[u8], out: &mut Vec<u8>) -> Result<(), CodecError> {
+    if is_junk(alloc, bytes)? {
+        return Err(CodecError::EndOfBuffer);
+    }
+    Ok(read_message(alloc, bytes)?.write(out)?)
+}
+
 // the bytes of the value that these bytes are read as
 fn again(alloc: Global, format: Format, bytes: &[u8]) -> Result<Vec<u8>, CodecError> {
     let mut out = Vec::new(alloc);
@@ -285,52 +302,85 @@ fn again(alloc: Global, format: Format, bytes: &[u8]) -> Result<Vec<u8>, CodecEr
         Format::Commitment => commitment_again(bytes, &mut out),
         Format::Context => context_again(bytes, &mut out),
         Format::Block => block_again(alloc, bytes, &mut out),
+        Format::Proposal => proposal_again(bytes, &mut out),
         Format::Vote => vote_again(bytes, &mut out),
         Format::Cert => cert_again(alloc, bytes, &mut out),
         Format::Note => note_again(alloc, bytes, &mut out),
+        Format::Message => message_again(alloc, bytes, &mut out),
     }?;
     Ok(out)
 }
 
-fn commitment_bytes(alloc: Global) -> Result<Vec<u8>, Fail> {
-    let mut bytes = Vec::new(alloc);
-    genesis_commitment::<SumHasher>().write(&mut bytes)?;
-    Ok(bytes)
+// What stands at the end of an example.
+#[derive(Clone, Copy)]
+enum Part {
+    Nothing,
+    Commitment,
+    Context,
+    Block,
+    NotedBlock,
+    Proposal,
+    Vote,
+    Cert,
+    Shard,
 }
 
-fn context_bytes(alloc: Global) -> Result<Vec<u8>, Fail> {
-    let mut bytes = Vec::new(alloc);
-    first_block(alloc)?.context().write(&mut bytes)?;
-    Ok(bytes)
+fn put_commitment(out: &mut Vec<u8>) -> Result<(), Fail> {
+    Ok(genesis_commitment::<SumHasher>().write(out)?)
 }
 
-fn block_bytes(alloc: Global) -> Result<Vec<u8>, Fail> {
-    let mut bytes = Vec::new(alloc);
-    first_block(alloc)?.write(&mut bytes)?;
-    Ok(bytes)
+fn put_context(alloc: Global, out: &mut Vec<u8>) -> Result<(), Fail> {
+    Ok(first_block(alloc)?.context().write(out)?)
 }
 
-// a vote to notarize in epoch 0
-fn vote_bytes(alloc: Global) -> Result<Vec<u8>, Fail> {
-    let mut bytes = Vec::new(alloc);
-    Vote::Notarize(proposal(2, 1)).write(&mut bytes)?;
-    Ok(bytes)
+fn put_block(alloc: Global, out: &mut Vec<u8>) -> Result<(), Fail> {
+    Ok(first_block(alloc)?.write(out)?)
 }
 
-// the epoch 1, entered over a commitment
-fn entered_bytes(alloc: Global) -> Result<Vec<u8>, Fail> {
-    written_note(alloc, Note::Epoch(1, genesis_commitment::<SumHasher>()))
+fn put_noted_block(alloc: Global, out: &mut Vec<u8>) -> Result<(), Fail> {
+    put_commitment(out)?;
+    put_block(alloc, out)
 }
 
-fn example(alloc: Global, format: Format) -> Result<Vec<u8>, Fail> {
-    match format {
-        Format::Commitment => commitment_bytes(alloc),
-        Format::Context => context_bytes(alloc),
-        Format::Block => block_bytes(alloc),
-        Format::Vote => vote_bytes(alloc),
-        Format::Cert => Ok([1u8, 0, 0, 0, 0, 0, 0, 0, 9, 0, 2, 0, 0, 0, 3].to_vec(alloc)?),
-        Format::Note => entered_bytes(alloc),
+// a proposal of view 2 over view 1
+fn put_proposal(out: &mut Vec<u8>) -> Result<(), Fail> {
+    Ok(proposal(2, 1).write(out)?)
+}
+
+// a vote to notarize it in epoch 0
+fn put_vote(out: &mut Vec<u8>) -> Result<(), Fail> {
+    Ok(Vote::Notarize(proposal(2, 1)).write(out)?)
+}
+
+// a certificate to nullify view 9, of the members 0 and 3
+fn put_cert(out: &mut Vec<u8>) -> Result<(), Fail> {
+    Ok(put_bytes(out, &[1, 0, 0, 0, 0, 0, 0, 0, 9, 0, 2, 0, 0, 0, 3])?)
+}
+
+// a commitment, and a chunk of it: the shard 7 of index 1, of a tree of 2 leaves, with no sibling
+fn put_shard(out: &mut Vec<u8>) -> Result<(), Fail> {
+    put_commitment(out)?;
+    Ok(put_bytes(out, &[1, 7, 0, 1, 0, 0, 0, 2, 0])?)
+}
+
+fn put_part(alloc: Global, part: Part, out: &mut Vec<u8>) -> Result<(), Fail> {
+    match part {
+        Part::Nothing => Ok(()),
+        Part::Commitment => put_commitment(out),
+        Part::Context => put_context(alloc, out),
+        Part::Block => put_block(alloc, out),
+        Part::NotedBlock => put_noted_block(alloc, out),
+        Part::Proposal => put_proposal(out),
+        Part::Vote => put_vote(out),
+        Part::Cert => put_cert(out),
+        Part::Shard => put_shard(out),
     }
+}
+
+fn example(alloc: Global, front: &[u8], part: Part) -> Result<Vec<u8>, Fail> {
+    let mut out = front.to_vec(alloc)?;
+    put_part(alloc, part, &mut out)?;
+    Ok(out)
 }
 
 // whether each cut of these bytes is refused as cut
@@ -370,34 +420,123 @@ fn refused_changes(alloc: Global, format: Format, bytes: &[u8]) -> Result<Vec<us
     Ok(places)
 }
 
-// how many bytes a format's example has, and where none can be changed
-fn is_told(alloc: Global, format: Format, size: usize, places: &[usize]) -> Result<bool, Fail> {
-    let bytes = example(alloc, format)?;
-    let refused = refused_changes(alloc, format, &bytes)?;
+// how many bytes an example has, and where none can be changed
+fn is_told(
+    alloc: Global,
+    format: Format,
+    bytes: &[u8],
+    size: usize,
+    places: &[usize],
+) -> Result<bool, Fail> {
+    let refused = refused_changes(alloc, format, bytes)?;
     Ok(
         bytes.len() == size
-            && cuts_are_refused(alloc, format, &bytes)
+            && cuts_are_refused(alloc, format, bytes)
             && refused.as_slice() == places,
     )
 }
 
-// A commitment ends in two numbers that aren't 0; so does what ends in one. Of a block the length of
-// the payload can't be 3, of a vote the tag can't be that to nullify, of a certificate neither the tag
-// can be that to notarize nor the count another, and of the note neither its tag nor its epoch can be
-// others'.
-const EXAMPLES: [(Format, usize, &[usize]); 6] = [
-    (Format::Commitment, 100, &[97, 99]),
-    (Format::Context, 126, &[123, 125]),
-    (Format::Block, 169, &[123, 125, 166]),
-    (Format::Vote, 117, &[0, 114, 116]),
-    (Format::Cert, 15, &[0, 9, 10]),
-    (Format::Note, 109, &[0, 8, 106, 108]),
+// Each format: the front of the example and the part behind it, how many bytes it has, and where the
+// lowest bit of a byte can't be changed. A commitment ends in two numbers that aren't 0. Of a block the
+// length of the payload can't be 3, of a vote to notarize the tag can't be that to nullify, of a
+// certificate neither the tag can be that to notarize nor the count another.
+const VALUES: [(Format, &[u8], Part, usize, &[usize]); 7] = [
+    (Format::Commitment, &[], Part::Commitment, 100, &[97, 99]),
+    (Format::Context, &[], Part::Context, 126, &[123, 125]),
+    (Format::Block, &[], Part::Block, 169, &[123, 125, 166]),
+    (Format::Proposal, &[], Part::Proposal, 116, &[113, 115]),
+    (Format::Vote, &[], Part::Vote, 117, &[0, 114, 116]),
+    (
+        Format::Vote,
+        &[4, 0, 0, 0, 0, 0, 0, 0, 1, 0, 0, 0, 0, 0, 0, 0, 2],
+        Part::Nothing,
+        17,
+        &[0, 8],
+    ),
+    (Format::Cert, &[], Part::Cert, 15, &[0, 9, 10]),
 ];
 
 #[test]
-fn formats_are_read_whole_and_in_one_spelling(rt: HostRuntime) -> Result<(), Fail> {
-    for (format, size, places) in EXAMPLES {
-        assert!(rt; is_told(rt.alloc(), format, size, places)?);
+fn values_are_read_whole_and_in_one_spelling(rt: HostRuntime) -> Result<(), Fail> {
+    for (format, front, part, size, places) in VALUES {
+        let bytes = example(rt.alloc(), front, part)?;
+        assert!(rt; is_told(rt.alloc(), format, &bytes, size, places)?);
+    }
+    Ok(())
+}
+
+// The same of each note. The notes of a floor and of a prune differ in their tag alone, so it can be the
+// other's. An epoch behind a later tag can't be 0, and a proposal or a vote can't stand over a view that
+// isn't earlier, so none but the last byte of its parent's view can be changed.
+const NOTES: [(&[u8], Part, usize, &[usize]); 11] = [
+    (&[0], Part::NotedBlock, 270, &[0, 98, 100, 224, 226, 267]),
+    (
+        &[1, 0, 0, 0, 0, 0, 0, 0, 2],
+        Part::Commitment,
+        109,
+        &[0, 106, 108],
+    ),
+    (
+        &[2],
+        Part::Proposal,
+        117,
+        &[0, 9, 10, 11, 12, 13, 14, 15, 114, 116],
+    ),
+    (
+        &[3],
+        Part::Vote,
+        118,
+        &[0, 1, 10, 11, 12, 13, 14, 15, 16, 115, 117],
+    ),
+    (&[4], Part::Cert, 16, &[0, 1, 10, 11]),
+    (&[5, 0, 0, 0, 0, 0, 0, 0, 9], Part::Nothing, 9, &[0]),
+    (&[6, 0, 0, 0, 0, 0, 0, 0, 9], Part::Nothing, 9, &[]),
+    (&[7, 0, 0, 0, 0, 0, 0, 0, 9], Part::Nothing, 9, &[]),
+    (
+        &[8, 0, 0, 0, 0, 0, 0, 0, 1],
+        Part::Commitment,
+        109,
+        &[0, 8, 106, 108],
+    ),
+    (
+        &[9, 0, 0, 0, 0, 0, 0, 0, 1],
+        Part::Proposal,
+        125,
+        &[0, 8, 17, 18, 19, 20, 21, 22, 23, 122, 124],
+    ),
+    (
+        &[10, 0, 0, 0, 0, 0, 0, 0, 1, 0, 0, 0, 0, 0, 0, 0, 2],
+        Part::Commitment,
+        117,
+        &[0, 8, 114, 116],
+    ),
+];
+
+#[test]
+fn notes_are_read_whole_and_in_one_spelling(rt: HostRuntime) -> Result<(), Fail> {
+    for (front, part, size, places) in NOTES {
+        let bytes = example(rt.alloc(), front, part)?;
+        assert!(rt; is_told(rt.alloc(), Format::Note, &bytes, size, places)?);
+    }
+    Ok(())
+}
+
+// The same of each message: cut or changed at these places it is junk. A chunk is known by its length and
+// by its number of siblings; a vote may be ill-formed here.
+const MESSAGES: [(&[u8], Part, usize, &[usize]); 6] = [
+    (&[0], Part::Shard, 110, &[0, 98, 100, 101, 109]),
+    (&[1, 0, 3], Part::Vote, 120, &[0, 3, 117, 119]),
+    (&[2], Part::Cert, 16, &[0, 1, 10, 11]),
+    (&[3, 0, 3], Part::Commitment, 103, &[0, 100, 102]),
+    (&[4, 0, 3, 0, 0, 0, 0, 0, 0, 0, 9], Part::Nothing, 11, &[0]),
+    (&[5], Part::Block, 170, &[0, 124, 126, 167]),
+];
+
+#[test]
+fn messages_are_read_whole_and_in_one_spelling(rt: HostRuntime) -> Result<(), Fail> {
+    for (front, part, size, places) in MESSAGES {
+        let bytes = example(rt.alloc(), front, part)?;
+        assert!(rt; is_told(rt.alloc(), Format::Message, &bytes, size, places)?);
     }
     Ok(())
 }
