@@ -9,7 +9,9 @@ use std::num::NonZeroU16;
 /// How many shards a text is cut into: any `minimum_shards` of the `total_shards` give it back.
 #[derive(Clone, Copy, Debug, PartialEq, Eq, PartialOrd, Ord, Hash)]
 pub struct Config {
+    /// How many shards hold the text, and give it back.
     pub minimum_shards: NonZeroU16,
+    /// How many are added.
     pub extra_shards: NonZeroU16,
 }
 

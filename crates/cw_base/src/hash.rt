@@ -28,6 +28,7 @@ pub trait Digest: Copy + Eq + Ord + Hash + Send + Sync {
     /// The digest whose bytes are all zero.
     const EMPTY: Self;
 
+    /// Its `SIZE` bytes.
     fn as_bytes(&self) -> &[u8]
         ensures value { result.now ≡ content self.now }
         ensures size { length (content self.now) ≡ SIZE };

@@ -41,8 +41,8 @@ impl Model for MemorySource {
 }
 
 impl MemorySource {
-    /// A source that gives at most `piece` bytes a call. The calls whose numbers, counted from 1, stand
-    /// in `failing` fail, and no others.
+    /// A source that gives at most `piece` bytes a call, at least one. The calls whose numbers, counted
+    /// from 1, stand in `failing` fail, and no others.
     pub fn new(bytes: Vec<u8>, piece: usize, failing: Vec<u64>) -> MemorySource
         requires { 1 ≤ piece }
         ensures { result ≡ record { left = bytes.items; piece = piece; failing = failing.items; calls = 0; faults = 0 } }
@@ -119,8 +119,8 @@ impl Model for MemorySink {
 }
 
 impl MemorySink {
-    /// An empty sink with room for 1,024 bytes, that takes at most `piece` bytes a call. The calls
-    /// whose numbers, counted from 1, stand in `failing` fail.
+    /// An empty sink with room for 1,024 bytes, that takes at most `piece` bytes a call, at least one.
+    /// The calls whose numbers, counted from 1, stand in `failing` fail.
     pub fn new(alloc: Global, piece: usize, failing: Vec<u64>) -> Result<MemorySink, NoMemory>
         requires { 1 ≤ piece }
         ensures { IfOk result (λ s. s ≡ record { held = []; room = 1024; piece = piece; failing = failing.items; calls = 0; faults = 0 }) }

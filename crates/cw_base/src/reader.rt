@@ -1,6 +1,7 @@
 //! Reading at the front of a byte slice.
 
 ghost use Rattle.std.specs.Prelude.{◌≡◌, ◌↔◌, ℕ, ◌+◌, ◌*◌, ◌^◌, ◌<◌, ◌≤◌, Bool, List, MatchResult, IfOk, Ok, Err};
+ghost use Rattle.cw_base.specs.Ends.{IsEnd};
 ghost use Rattle.cw_base.specs.Reading.{IsRead, byte_at, bytes_at, be16_at, be32_at, be64_at, varint_at, varint_from, end_at, config_at, nonzero_at};
 ghost use Rattle.cw_base.specs.declared.reader.CodecError.TheVariants as codec;
 
@@ -84,8 +85,10 @@ impl<'a> Reader<'a> {
     }
 
     /// The next `count` bytes, or `EndOfBuffer`.
+    #[tactic(auto, using(crate::specs::Ends::ends))]
     pub fn take(&mut self, count: usize) -> Result<&'a [u8], CodecError>
-        ensures { IsRead (λ bytes. bytes.now) result self.new (bytes_at count self.old) }
+        ensures value { IsRead (λ bytes. bytes.now) result self.new (bytes_at count self.old) }
+        ensures place { IsEnd self.old self.new }
     {
         if self.left.len() < count {
             return Err(CodecError::EndOfBuffer);
@@ -96,8 +99,10 @@ impl<'a> Reader<'a> {
     }
 
     /// The next byte, or `EndOfBuffer`.
+    #[tactic(auto, using(crate::specs::Ends::ends))]
     pub fn u8(&mut self) -> Result<u8, CodecError>
-        ensures { IsRead (λ n. n) result self.new (byte_at self.old) }
+        ensures value { IsRead (λ n. n) result self.new (byte_at self.old) }
+        ensures place { IsEnd self.old self.new }
     {
         let Some((first, rest)) = self.left.split_first() else {
             return Err(CodecError::EndOfBuffer);
@@ -107,9 +112,10 @@ impl<'a> Reader<'a> {
     }
 
     /// A number of two bytes, the high byte first, or `EndOfBuffer`.
-    #[tactic(auto, unfolding(crate::specs::Reading::be16_at))]
+    #[tactic(auto, using(crate::specs::Ends::ends), unfolding(crate::specs::Reading::be16_at))]
     pub fn be16(&mut self) -> Result<u16, CodecError>
-        ensures { IsRead (λ n. n) result self.new (be16_at self.old) }
+        ensures value { IsRead (λ n. n) result self.new (be16_at self.old) }
+        ensures place { IsEnd self.old self.new }
     {
         let Some((front, rest)) = self.left.split_first_chunk::<2>() else {
             return Err(CodecError::EndOfBuffer);
@@ -119,9 +125,10 @@ impl<'a> Reader<'a> {
     }
 
     /// A number of four bytes, the high byte first, or `EndOfBuffer`.
-    #[tactic(auto, unfolding(crate::specs::Reading::be32_at))]
+    #[tactic(auto, using(crate::specs::Ends::ends), unfolding(crate::specs::Reading::be32_at))]
     pub fn be32(&mut self) -> Result<u32, CodecError>
-        ensures { IsRead (λ n. n) result self.new (be32_at self.old) }
+        ensures value { IsRead (λ n. n) result self.new (be32_at self.old) }
+        ensures place { IsEnd self.old self.new }
     {
         let Some((front, rest)) = self.left.split_first_chunk::<4>() else {
             return Err(CodecError::EndOfBuffer);
@@ -131,9 +138,10 @@ impl<'a> Reader<'a> {
     }
 
     /// A number of eight bytes, the high byte first, or `EndOfBuffer`.
-    #[tactic(auto, unfolding(crate::specs::Reading::be64_at))]
+    #[tactic(auto, using(crate::specs::Ends::ends), unfolding(crate::specs::Reading::be64_at))]
     pub fn be64(&mut self) -> Result<u64, CodecError>
-        ensures { IsRead (λ n. n) result self.new (be64_at self.old) }
+        ensures value { IsRead (λ n. n) result self.new (be64_at self.old) }
+        ensures place { IsEnd self.old self.new }
     {
         let Some((front, rest)) = self.left.split_first_chunk::<8>() else {
             return Err(CodecError::EndOfBuffer);
@@ -145,9 +153,10 @@ impl<'a> Reader<'a> {
     /// A number of seven bits a byte, the low part first, in its shortest form: `EndOfBuffer`
     /// where the bytes end before its last byte, `InvalidVarint` where the fifth byte is above 15,
     /// or the last of several bytes is 0.
-    #[tactic(auto, unfolding(crate::specs::Reading::varint_at))]
+    #[tactic(auto, using(crate::specs::Ends::ends), unfolding(crate::specs::Reading::varint_at))]
     pub fn varint(&mut self) -> Result<u32, CodecError>
-        ensures { IsRead (λ n. n) result self.new (varint_at self.old) }
+        ensures value { IsRead (λ n. n) result self.new (varint_at self.old) }
+        ensures place { IsEnd self.old self.new }
     {
         match varint_of(self.left, 4, true) {
             Ok((value, rest)) => {
@@ -159,8 +168,10 @@ impl<'a> Reader<'a> {
     }
 
     /// The end, or `Extra` where bytes are left.
+    #[tactic(auto, using(crate::specs::Ends::ends))]
     pub fn finish(&mut self) -> Result<(), CodecError>
-        ensures { IsRead (λ _. tt) result self.new (end_at self.old) }
+        ensures value { IsRead (λ _. tt) result self.new (end_at self.old) }
+        ensures place { IsEnd self.old self.new }
     {
         if !self.left.is_empty() {
             return Err(CodecError::Extra);
@@ -170,12 +181,14 @@ impl<'a> Reader<'a> {
 }
 
 // The number that a varint of at most `more + 1` bytes spells, and the bytes after it.
+#[tactic(auto, using(crate::specs::Ends::ends))]
 fn varint_of(bytes: &[u8], more: u32, first: bool) -> Result<(u32, &[u8]), CodecError>
     requires { more ≤ 4 }
     ensures value { MatchResult result
         (λ x. varint_from more first bytes.now ≡ Ok (x.0, x.1.now))
         (λ e. varint_from more first bytes.now ≡ Err e) }
     ensures small { IfOk result (λ x. x.0 < 16 * 128 ^ more) }
+    ensures place { IfOk result (λ x. IsEnd bytes.now x.1.now) }
 {
     let Some((byte, rest)) = bytes.split_first() else {
         return Err(CodecError::EndOfBuffer);
@@ -201,9 +214,10 @@ impl Config {
     /// The config at the front: `Invalid` for a number that is zero, which is taken.
     ///
     /// Refused, the reader stands behind the parts that were taken.
-    #[tactic(auto, unfolding(crate::specs::Reading::config_at))]
+    #[tactic(auto, using(crate::specs::Ends::ends), unfolding(crate::specs::Reading::config_at))]
     pub fn read(reader: &mut Reader) -> Result<Config, CodecError>
-        ensures { IsRead (λ config. config) result reader.new (config_at reader.old) }
+        ensures value { IsRead (λ config. config) result reader.new (config_at reader.old) }
+        ensures place { IsEnd reader.old reader.new }
     {
         let minimum_shards = nonzero(reader)?;
         let extra_shards = nonzero(reader)?;
@@ -215,8 +229,10 @@ impl Config {
 }
 
 // A number of two bytes that isn't zero.
+#[tactic(auto, using(crate::specs::Ends::ends))]
 fn nonzero(reader: &mut Reader) -> Result<NonZeroU16, CodecError>
-    ensures { IsRead (λ n. n.value) result reader.new (nonzero_at reader.old) }
+    ensures value { IsRead (λ n. n.value) result reader.new (nonzero_at reader.old) }
+    ensures place { IsEnd reader.old reader.new }
 {
     let value = reader.be16()?;
     match NonZeroU16::new(value) {

@@ -3,7 +3,7 @@ use std::test::Fail;
 
 #[test]
 fn varints_read_in_their_shortest_form_alone(rt: HostRuntime) {
-    let cases: [(&[u8], Result<u32, CodecError>); 12] = [
+    let cases: [(&[u8], Result<u32, CodecError>); 16] = [
         (&[0x7f], Ok(127)),
         (&[0x80, 0x01], Ok(128)),
         (&[0xac, 0x02], Ok(300)),
@@ -23,7 +23,14 @@ fn varints_read_in_their_shortest_form_alone(rt: HostRuntime) {
             &[0x80, 0x80, 0x80, 0x80, 0x00],
             Err(CodecError::InvalidVarint),
         ),
+        (&[0x80, 0x80, 0x00], Err(CodecError::InvalidVarint)),
+        (
+            &[0xff, 0xff, 0xff, 0xff, 0xff],
+            Err(CodecError::InvalidVarint),
+        ),
         (&[], Err(CodecError::EndOfBuffer)),
+        (&[0x80], Err(CodecError::EndOfBuffer)),
+        (&[0xff, 0x80], Err(CodecError::EndOfBuffer)),
         (&[0x80, 0x80, 0x80, 0x80], Err(CodecError::EndOfBuffer)),
     ];
     for (bytes, want) in cases.iter() {
@@ -40,7 +47,7 @@ fn a_reader_that_refused_stands_where_it_stood(rt: HostRuntime) {
     assert_eq!(rt; reader.be32(), Ok(0x0203_0405));
     assert_eq!(rt; reader.be32(), Err(CodecError::EndOfBuffer));
     assert_eq!(rt; reader.varint(), Err(CodecError::InvalidVarint));
-    assert_eq!(rt; reader.take(3).is_err(), true);
+    assert_eq!(rt; reader.take(3).err(), Some(CodecError::EndOfBuffer));
     assert_eq!(rt; reader.finish(), Err(CodecError::Extra));
     assert_eq!(rt; reader.be16(), Ok(0x8000));
     assert_eq!(rt; reader.finish(), Ok(()));

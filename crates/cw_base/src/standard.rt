@@ -15,6 +15,7 @@ pub struct StdSource<R> {
 }
 
 impl<R> StdSource<R> {
+    /// A source over a stream that hasn't failed yet.
     pub fn new(inner: R) -> StdSource<R> {
         StdSource { inner, faults: 0 }
     }
@@ -45,6 +46,7 @@ pub struct StdSink<W> {
 }
 
 impl<W> StdSink<W> {
+    /// A sink over a stream that hasn't failed yet.
     pub fn new(inner: W) -> StdSink<W> {
         StdSink { inner, faults: 0 }
     }

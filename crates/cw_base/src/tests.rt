@@ -1,9 +1,15 @@
 use super::*;
+use std::sync::atomic::{AtomicU64, Ordering};
 use std::test::Fail;
 
 fn digest(byte: u8) -> Digest32 {
     Digest32([byte; 32])
 }
+
+const ABC: [u8; 32] = [
+    0xba, 0x78, 0x16, 0xbf, 0x8f, 0x01, 0xcf, 0xea, 0x41, 0x41, 0x40, 0xde, 0x5d, 0xae, 0x22, 0x23,
+    0xb0, 0x03, 0x61, 0xa3, 0x96, 0x17, 0x7a, 0x9c, 0xb4, 0x10, 0xff, 0x61, 0xf2, 0x00, 0x15, 0xad,
+];
 
 #[test]
 fn hashers_give_known_digests(rt: HostRuntime) {
@@ -12,7 +18,7 @@ fn hashers_give_known_digests(rt: HostRuntime) {
     assert_eq!(rt; SumHasher::hash_pair(&[200], &[57, 2]), digest(3));
     // the digest of "abc" in FIPS 180-4
     let abc = Sha256::hash(b"abc");
-    assert!(rt; abc.as_bytes().starts_with(&[0xba, 0x78, 0x16, 0xbf]));
+    assert_eq!(rt; abc, Digest32(ABC));
     assert!(rt; Sha256::hash_pair(b"a", b"bc").is_same(&abc));
     assert_eq!(rt; Digest32::from_slice(&[7; 32]), Some(digest(7)));
     assert_eq!(rt; Digest32::from_slice(&[7; 31]), None);
@@ -74,5 +80,46 @@ fn a_map_answers_in_the_order_of_the_items(rt: HostRuntime) -> Result<(), Fail> 
     let halves = Sequential.map(&rt, rt.alloc(), &[8u64, 2, 5], &|x: &u64| *x / 2)?;
     assert!(rt; halves.as_slice() == [4, 1, 2].as_slice());
     assert_eq!(rt; Sequential.pieces(), 1);
+    Ok(())
+}
+
+// Cuts work into three pieces, and counts how often each arrives: a hexadecimal digit a piece.
+#[derive(Drop)]
+struct Three {
+    arrived: AtomicU64,
+}
+
+impl Strategy for Three {
+    fn pieces(&self) -> usize {
+        3
+    }
+
+    fn arrive(&self, piece: usize) {
+        let place = match piece {
+            0 => 0x1,
+            1 => 0x10,
+            2 => 0x100,
+            _ => 0x1000,
+        };
+        self.arrived.fetch_add(place, Ordering::SeqCst);
+    }
+}
+
+#[test]
+fn each_piece_arrives_once_and_no_more_than_items(rt: HostRuntime) -> Result<(), Fail> {
+    let cases: [(&[u64], u64); 4] = [
+        (&[1, 2, 3, 4, 5], 0x111),
+        (&[1, 2, 3], 0x111),
+        (&[1, 2], 0x11),
+        (&[1], 0x1),
+    ];
+    for (items, arrived) in cases {
+        let three = Three {
+            arrived: AtomicU64::new(0),
+        };
+        let same = three.map(&rt, rt.alloc(), items, &|x: &u64| *x)?;
+        assert!(rt; same.as_slice() == items);
+        assert_eq!(rt; three.arrived.load(Ordering::SeqCst), arrived);
+    }
     Ok(())
 }
