@@ -2,6 +2,7 @@
 
 ghost use Rattle.std.specs.Prelude.{◌≡◌, ℕ, ◌+◌, ◌*◌, ◌-◌, ◌^◌, ◌<◌, ◌≤◌, ◌%◌, min, [], ◌∷◌, ◌++◌, List, length, map, take, IfOk, OnOk, OnErr};
 ghost use Rattle.std.specs.List.{flat_map};
+ghost use Rattle.cw_base.specs.Ends.{IsEnd};
 ghost use Rattle.cw_base.specs.Reading.{IsRead, Gives, bytes_at};
 ghost use Rattle.cw_tree.specs.Formats.{proof_bytes, chunk_bytes, digests_at, siblings_at, proof_at, shard_at, chunk_at, widest, piece_of_bytes};
 
@@ -86,8 +87,10 @@ impl<D: Digest> Chunk<D> {
 }
 
 // The digest at the front.
+#[tactic(auto, using(cw_base::specs::Ends::ends))]
 fn read_digest<D: Digest>(reader: &mut Reader) -> Result<D, CodecError>
-    ensures { IsRead D.content result reader.new (bytes_at D.SIZE reader.old) }
+    ensures value { IsRead D.content result reader.new (bytes_at D.SIZE reader.old) }
+    ensures place { IsEnd reader.old reader.new }
 {
     let bytes = reader.take(D::SIZE)?;
     match D::from_slice(bytes) {
@@ -97,12 +100,14 @@ fn read_digest<D: Digest>(reader: &mut Reader) -> Result<D, CodecError>
 }
 
 // So many digests, one behind the other.
+#[tactic(auto, using(cw_base::specs::Ends::ends))]
 fn read_digests<D: Digest>(
     alloc: Global,
     reader: &mut Reader,
     count: u8,
 ) -> Result<Items<D>, CodecError>
-    ensures { Gives (λ digests. map D.content digests) result reader.new (digests_at D.SIZE count reader.old) }
+    ensures value { Gives (λ digests. map D.content digests) result reader.new (digests_at D.SIZE count reader.old) }
+    ensures place { IsEnd reader.old reader.new }
 {
     let mut digests = Items::new(alloc);
     for i in 0..count {
@@ -115,9 +120,10 @@ fn read_digests<D: Digest>(
 }
 
 // At most 32 digests, behind their number.
-#[tactic(auto, unfolding(crate::specs::Formats::siblings_at))]
+#[tactic(auto, using(cw_base::specs::Ends::ends), unfolding(crate::specs::Formats::siblings_at))]
 fn read_siblings<D: Digest>(alloc: Global, reader: &mut Reader) -> Result<Items<D>, CodecError>
-    ensures { Gives (λ digests. map D.content digests) result reader.new (siblings_at D.SIZE reader.old) }
+    ensures value { Gives (λ digests. map D.content digests) result reader.new (siblings_at D.SIZE reader.old) }
+    ensures place { IsEnd reader.old reader.new }
 {
     let count = reader.u8()?;
     if count > 32 {
@@ -133,9 +139,10 @@ impl<D: Digest> Proof<D> {
     /// The proof at the front: `TooLong` above 32 siblings, `EndOfBuffer` where it is cut.
     ///
     /// Refused, the reader stands behind the parts that were taken, a refused number among them.
-    #[tactic(auto, unfolding(crate::specs::Formats::proof_at))]
+    #[tactic(auto, using(cw_base::specs::Ends::ends), unfolding(crate::specs::Formats::proof_at))]
     pub fn read(alloc: Global, reader: &mut Reader) -> Result<Proof<D>, CodecError>
-        ensures { Gives (λ proof. (proof.leaf_count, map D.content proof.siblings)) result reader.new (proof_at D.SIZE reader.old) }
+        ensures value { Gives (λ proof. (proof.leaf_count, map D.content proof.siblings)) result reader.new (proof_at D.SIZE reader.old) }
+        ensures place { IsEnd reader.old reader.new }
     {
         let leaf_count = reader.be32()?;
         let siblings = read_siblings::<D>(alloc, reader)?;
@@ -147,9 +154,10 @@ impl<D: Digest> Proof<D> {
 }
 
 // A shard of at most so many bytes, behind its length.
-#[tactic(auto, unfolding(crate::specs::Formats::shard_at))]
+#[tactic(auto, using(cw_base::specs::Ends::ends), unfolding(crate::specs::Formats::shard_at))]
 fn read_shard<'a>(reader: &mut Reader<'a>, bound: usize) -> Result<&'a [u8], CodecError>
-    ensures { IsRead (λ bytes. bytes.now) result reader.new (shard_at bound reader.old) }
+    ensures value { IsRead (λ bytes. bytes.now) result reader.new (shard_at bound reader.old) }
+    ensures place { IsEnd reader.old reader.new }
 {
     let length = reader.varint()? as usize;
     if length > bound {
@@ -168,15 +176,16 @@ impl<D: Digest> Chunk<D> {
     /// shortest; `EndOfBuffer` where it is cut.
     ///
     /// Refused, the reader stands behind the parts that were taken, a refused number among them.
-    #[tactic(auto, unfolding(crate::specs::Formats::chunk_at))]
+    #[tactic(auto, using(cw_base::specs::Ends::ends), unfolding(crate::specs::Formats::chunk_at))]
     pub fn read(
         alloc: Global,
         reader: &mut Reader,
         config: &Config,
         maximum: usize,
     ) -> Result<Chunk<D>, CodecError>
-        ensures { Gives (λ chunk. piece_of_bytes D.content chunk) result reader.new
+        ensures value { Gives (λ chunk. piece_of_bytes D.content chunk) result reader.new
             (chunk_at D.SIZE (widest config.now.minimum maximum) reader.old) }
+        ensures place { IsEnd reader.old reader.new }
     {
         let bound = canonical_shard_len(maximum.min(0xffff_ffff), config.minimum_shards.get());
         let shard = read_shard(reader, bound)?;
