@@ -1,6 +1,6 @@
 -- What committees are, list by list.
-use Rattle.std.proofs.Common.{◌≡◌, ℕ, zero, suc, ◌+◌, ◌-◌, ◌<◌, ◌≤◌, ◌&&◌, Bool, true, false, nat_le, nat_lt, List, [], ◌∷◌, ◌++◌, length, Option, Some, None, slice_get, unwrap_or, refl, sym, ◌∙◌, ap, subst, inl, inr, ◌⊎◌, arith, leb-true, ltb-true}
-use Rattle.std.specs.List.{list_all, position, position_or_len, range_with_len}
+use Rattle.std.proofs.Common.{◌≡◌, ℕ, zero, suc, ◌+◌, ◌-◌, ◌<◌, ◌≤◌, ◌&&◌, Bool, IsTrue, true, false, nat_le, nat_lt, List, [], ◌∷◌, ◌++◌, length, Option, Some, None, slice_get, unwrap_or, refl, sym, ◌∙◌, ap, subst, inl, inr, ◌⊎◌, arith, leb-true, ltb-true}
+use Rattle.std.specs.List.{AllByRecursion, list_all, position, position_or_len, range_with_len}
 use Rattle.std.specs.Option.{option_map_or, option_or}
 use Rattle.std.proofs.lemmas.Bool.{and_parts, and_from, cases_Bool, cond-false, cond-true, le-leb, lt-ltb}
 use Rattle.std.proofs.lemmas.Option.{same_Some}
@@ -84,6 +84,25 @@ members_committee x epoch h =
     let q = and_parts (nat_lt 0 (length x.lists) && nat_le (length x.lists) 64) (list_all (is_committee x.total) x.lists) p.0 in
     let s = and_parts (nat_lt 0 (length x.lists)) (nat_le (length x.lists) 64) q.0 in
     list_passes (is_committee x.total) x.lists epoch (ltb-true 0 (length x.lists) s.0) q.1
+
+-- what a test says of each holds of each
+all_below : (total : ℕ) (xs : List ℕ) → list_all (λ i. nat_lt i total) xs ≡ true → AllByRecursion (λ i. i < total) xs
+all_below total [] h = tt
+all_below total (x ∷ xs) h =
+    let p = and_parts (nat_lt x total) (list_all (λ i. nat_lt i total) xs) h in
+    (ltb-true x total p.0, all_below total xs p.1)
+
+-- a committee has at least four members, which rise and stay below the total
+pub record AreMembers (total : ℕ) (list : List ℕ) : Type 0 where
+  pub enough : 4 ≤ length list
+  pub rising : IsTrue (rises_from 0 list)
+  pub there : AllByRecursion (λ i. i < total) list
+
+pub committee_members : (total : ℕ) (list : List ℕ) → is_committee total list ≡ true → AreMembers total list
+committee_members total list h =
+    let p = and_parts (nat_le 4 (length list) && rises_from 0 list) (list_all (λ i. nat_lt i total) list) h in
+    let q = and_parts (nat_le 4 (length list)) (rises_from 0 list) p.0 in
+    record { enough = leb-true 4 (length list) q.0; rising = q.1; there = all_below total list p.1 }
 
 -- a place lies below the length
 pub place_below : (p : ℕ → Bool) (xs : List ℕ) (i : ℕ) → position p xs ≡ Some i → i < length xs

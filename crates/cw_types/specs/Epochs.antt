@@ -38,6 +38,7 @@ members_in x epoch = list_of x.lists epoch
 abbrev pub size : Epochs → ℕ → ℕ
 size x epoch = length (members_in x epoch)
 
+-- the member stands in the list of an epoch
 abbrev pub is_member : Epochs → ℕ → ℕ → Bool
 is_member x epoch id = list_any (λ j. j == id) (members_in x epoch)
 

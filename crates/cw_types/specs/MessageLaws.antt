@@ -1,4 +1,4 @@
--- Messages and notes read back as they were written, and what is read is in its format.
+-- Messages read back as they were written, and what is read is in its format.
 use Rattle.std.proofs.Common.{◌≡◌, ℕ, ◌^◌, ◌<◌, List, [], ◌∷◌, ◌++◌, map, Ok, Err, None, refl, sym, ap, subst, ◌∙◌, inl, inr}
 use Rattle.std.proofs.lemmas.List.{append-nil}
 use Rattle.cw_base.specs.declared.hash.Digest32.{Digest32}
@@ -69,6 +69,7 @@ shard_reads_back config = record { found = found; again = again }
 
 -- ---- messages
 
+-- a member's number
 abbrev pub IsMember : ℕ → Type 0
 IsMember i = i < 2 ^ 16
 

@@ -1,5 +1,5 @@
 -- Notes read back as they were written, and what is read is in its format.
-use Rattle.std.proofs.Common.{◌≡◌, ℕ, ◌%◌, ◌^◌, ◌<◌, true, List, [], ◌∷◌, ◌++◌, length, Ok, Err, refl, sym, ap, subst, ◌∙◌, append_assoc, inl, inr}
+use Rattle.std.proofs.Common.{◌≡◌, ℕ, ◌-◌, ◌%◌, ◌^◌, ◌<◌, ◌&&◌, Bool, nat_lt, true, List, [], ◌∷◌, ◌++◌, length, Ok, Err, refl, sym, ap, subst, ◌∙◌, append_assoc, inl, inr}
 use Rattle.std.specs.List.{flat_map}
 use Rattle.cw_base.specs.Bytes.{be16, be64}
 use Rattle.cw_base.specs.Reading.{Reading, ◌>>=◌, byte_at, be64_at}
@@ -15,6 +15,17 @@ use Rattle.cw_types.specs.declared.vote.Vote.{Vote}
 use Rattle.cw_types.specs.declared.vote.Cert.{Cert}
 use Rattle.cw_types.specs.declared.note.Note.{Note}
 use Rattle.cw_types.specs.declared.note.Note.TheVariants as note
+
+-- what the type of a note leaves open: votes and proposals are well formed, heights below 2^64 - 1, entered epochs above 0, and signers at most 65,535
+abbrev pub is_storable : Note → Bool
+is_storable (note.Certified p) = is_ordered p
+is_storable (note.Vote v) = well_formed v
+is_storable (note.Cert c) = well_formed c.vote && nat_lt (length c.signers) (2 ^ 16)
+is_storable (note.Ack height) = nat_lt height (2 ^ 64 - 1)
+is_storable (note.Floor height) = nat_lt height (2 ^ 64 - 1)
+is_storable (note.Prune height) = nat_lt height (2 ^ 64 - 1)
+is_storable (note.Epoch epoch c) = nat_lt 0 epoch
+is_storable _ = true
 
 -- a note that reads: votes and proposals are well formed, heights below 2^64 - 1, entered epochs above 0
 abbrev pub IsNote : Note → Type 0

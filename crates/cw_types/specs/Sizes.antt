@@ -1,5 +1,5 @@
 -- How many bytes a block has: 126 of its context, 32 of its parent's digest, 8 of its height, at most 3 of its payload's length, and at most 1,048,576 of its payload.
-use Rattle.std.proofs.Common.{◌≡◌, ℕ, zero, suc, ◌+◌, ◌/◌, ◌%◌, ◌^◌, ◌<◌, ◌≤◌, Bool, true, false, cond, nat_lt, List, [], ◌∷◌, ◌++◌, length, refl, ap, ◌∙◌, arith, length-append}
+use Rattle.std.proofs.Common.{◌≡◌, ℕ, zero, suc, ◌+◌, ◌/◌, ◌%◌, ◌^◌, ◌<◌, ◌≤◌, Bool, true, false, cond, nat_lt, List, [], ◌∷◌, ◌++◌, length, refl, ap, arith, length-append}
 use Rattle.std.proofs.lemmas.Bool.{ltb-false}
 use Rattle.cw_base.specs.Bytes.{be16, be64, varint, varint_within}
 use Rattle.cw_base.specs.Config.{config_bytes}

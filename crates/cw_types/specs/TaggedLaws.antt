@@ -1,4 +1,4 @@
--- Votes, certificates, messages and notes read back as they were written, and what is read is in its format.
+-- Votes and certificates read back as they were written, and what is read is in its format; and how values behind tags do, which notes and messages use too.
 use Rattle.std.proofs.Common.{◌≡◌, ℕ, zero, suc, ◌%◌, ◌^◌, ◌<◌, eqb, Bool, true, false, cond, List, [], ◌∷◌, ◌++◌, length, Ok, Err, refl, sym, ap, subst, ◌∙◌, append_assoc, arith, ◌⊎◌, inl, inr}
 use Rattle.std.specs.List.{flat_map}
 use Rattle.std.proofs.lemmas.List.{append-nil}
@@ -282,9 +282,11 @@ AreSigners xs = (length xs < 2 ^ 16) × AreMembers xs
 abbrev cert_of : Vote → List ℕ → Cert
 cert_of vote signers = record { vote = vote; signers = signers }
 
+-- a certificate behind its vote: the number of signers, and each signer
 abbrev pub signed_bytes : Cert → List ℕ
 signed_bytes c = be16 (length c.signers % 2 ^ 16) ++ flat_map be16 c.signers
 
+-- a certificate of this vote that reads
 abbrev pub Signed : Vote → Cert → Type 0
 Signed vote c = AreSigners c.signers × (c ≡ cert_of vote c.signers)
 

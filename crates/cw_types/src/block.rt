@@ -4,6 +4,7 @@ ghost use Rattle.std.specs.Prelude.{◌≡◌, ◌↔◌, ◌-◌, ◌^◌, ◌<
 ghost use Rattle.cw_types.specs.Encoding.{context_bytes, block_bytes};
 ghost use Rattle.cw_types.specs.Same.{same_context, same_block};
 ghost use Rattle.cw_types.specs.Reading.{context_at, height_at, payload_at, block_at};
+ghost use Rattle.cw_base.specs.Ends.{IsEnd};
 ghost use Rattle.cw_base.specs.Reading.{IsRead, Gives};
 
 use crate::commitment::{Commitment, read_digest};
@@ -65,9 +66,10 @@ impl Context {
     /// The context at the front: `Invalid` for a config with a zero, `EndOfBuffer` where it is cut.
     ///
     /// Refused, the reader stands behind the parts that were taken, a zero among them.
-    #[tactic(auto, unfolding(crate::specs::Reading::context_at))]
+    #[tactic(auto, using(cw_base::specs::Ends::end_of_end), unfolding(crate::specs::Reading::context_at))]
     pub fn read(reader: &mut Reader) -> Result<Context, CodecError>
-        ensures { IsRead (λ context. context) result reader.new (context_at reader.old) }
+        ensures value { IsRead (λ context. context) result reader.new (context_at reader.old) }
+        ensures place { IsEnd reader.old reader.new }
     {
         let epoch = reader.be64()?;
         let view = reader.be64()?;
@@ -287,9 +289,10 @@ impl ChainBlock {
     /// above `Payload::MAX`, `EndOfBuffer` where it is cut.
     ///
     /// Refused, the reader stands behind the parts that were taken, a refused value among them.
-    #[tactic(auto, unfolding(crate::specs::Reading::block_at))]
+    #[tactic(auto, using(cw_base::specs::Ends::end_of_end), unfolding(crate::specs::Reading::block_at))]
     pub fn read(alloc: Global, reader: &mut Reader) -> Result<ChainBlock, CodecError>
-        ensures { Gives (λ block. block) result reader.new (block_at reader.old) }
+        ensures value { Gives (λ block. block) result reader.new (block_at reader.old) }
+        ensures place { IsEnd reader.old reader.new }
     {
         let context = Context::read(reader)?;
         let parent = read_digest(reader)?;
@@ -305,9 +308,10 @@ impl ChainBlock {
 }
 
 // A height below 2^64 - 1.
-#[tactic(auto, unfolding(crate::specs::Reading::height_at))]
+#[tactic(auto, using(cw_base::specs::Ends::end_of_end), unfolding(crate::specs::Reading::height_at))]
 pub(crate) fn read_height(reader: &mut Reader) -> Result<u64, CodecError>
     ensures value { IsRead (λ height. height) result reader.new (height_at reader.old) }
+    ensures place { IsEnd reader.old reader.new }
     ensures bound { IfOk result (λ height. height < 2 ^ 64 - 1) }
 {
     let height = reader.be64()?;
@@ -318,9 +322,10 @@ pub(crate) fn read_height(reader: &mut Reader) -> Result<u64, CodecError>
 }
 
 // A payload behind the number of its bytes.
-#[tactic(auto, unfolding(crate::specs::Reading::payload_at))]
+#[tactic(auto, using(cw_base::specs::Ends::end_of_end), unfolding(crate::specs::Reading::payload_at))]
 fn read_payload(alloc: Global, reader: &mut Reader) -> Result<Payload, CodecError>
-    ensures { Gives (λ payload. payload) result reader.new (payload_at reader.old) }
+    ensures value { Gives (λ payload. payload) result reader.new (payload_at reader.old) }
+    ensures place { IsEnd reader.old reader.new }
 {
     let count = reader.varint()? as usize;
     if count > Payload::MAX {

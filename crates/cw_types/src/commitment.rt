@@ -4,6 +4,7 @@ ghost use Rattle.std.specs.Prelude.{◌≡◌, ◌++◌, OnOk, OnErr, take, leng
 ghost use Rattle.cw_types.specs.Encoding.{commitment_bytes};
 ghost use Rattle.cw_types.specs.Same.{same_commitment};
 ghost use Rattle.cw_types.specs.Reading.{commitment_at, digest_at};
+ghost use Rattle.cw_base.specs.Ends.{IsEnd};
 ghost use Rattle.cw_base.specs.Reading.{IsRead};
 
 use cw_base::{CodecError, Config, Digest, Digest32, NoMemory, Reader, put_bytes};
@@ -58,9 +59,10 @@ impl Commitment {
     /// The commitment at the front: `Invalid` for a config with a zero, `EndOfBuffer` where it is cut.
     ///
     /// Refused, the reader stands behind the parts that were taken, a zero among them.
-    #[tactic(auto, unfolding(crate::specs::Reading::commitment_at))]
+    #[tactic(auto, using(cw_base::specs::Ends::end_of_end), unfolding(crate::specs::Reading::commitment_at))]
     pub fn read(reader: &mut Reader) -> Result<Commitment, CodecError>
-        ensures { IsRead (λ commitment. commitment) result reader.new (commitment_at reader.old) }
+        ensures value { IsRead (λ commitment. commitment) result reader.new (commitment_at reader.old) }
+        ensures place { IsEnd reader.old reader.new }
     {
         let block = read_digest(reader)?;
         let root = read_digest(reader)?;
@@ -76,9 +78,10 @@ impl Commitment {
 }
 
 // The digest at the front.
-#[tactic(auto, unfolding(crate::specs::Reading::digest_at))]
+#[tactic(auto, using(cw_base::specs::Ends::end_of_end), unfolding(crate::specs::Reading::digest_at))]
 pub(crate) fn read_digest(reader: &mut Reader) -> Result<Digest32, CodecError>
-    ensures { IsRead (λ digest. digest) result reader.new (digest_at reader.old) }
+    ensures value { IsRead (λ digest. digest) result reader.new (digest_at reader.old) }
+    ensures place { IsEnd reader.old reader.new }
 {
     let bytes = reader.take(Digest32::SIZE)?;
     match Digest32::from_slice(bytes) {

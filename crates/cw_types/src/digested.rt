@@ -4,6 +4,7 @@ ghost use Rattle.std.specs.Prelude.{◌≡◌, ◌≤◌, ℕ, List, IfOk, lengt
 ghost use Rattle.cw_types.specs.Encoding.{block_bytes};
 
 use crate::block::{ChainBlock, Context, MAX_BLOCK};
+use crate::laws::block_fits;
 use crate::round::{Height, Heightable};
 use cw_base::{Digest32, Hasher, NoMemory};
 use std::alloc::Global;
@@ -40,16 +41,16 @@ pub trait BoundedBlock: Block {
     /// A block's bytes.
     ghost bytes_of: { Self → List ℕ };
 
-    /// What each block has that a program holds.
-    ghost fits: { Self → Type 0 };
-
     /// The most bytes of a block.
     ghost max_bytes: { ℕ };
 
     /// The most bytes that a block has.
     fn max_encode_size() -> usize
-        ensures value { result ≡ max_bytes }
-        ensures bound { (block : Self) → fits block → length (bytes_of block) ≤ result };
+        ensures { result ≡ max_bytes };
+
+    /// A law, which takes no work: a block has no more bytes.
+    fn is_bounded(&self)
+        ensures { length (bytes_of self.now) ≤ max_bytes };
 }
 
 /// A block with its digest, which is hashed once.
@@ -134,15 +135,16 @@ impl<H: Hasher<Digest = Digest32>> CertifiableBlock for Digested<H> {
 
 impl<H: Hasher<Digest = Digest32>> BoundedBlock for Digested<H> {
     ghost use Rattle.cw_types.specs.Encoding.{block_bytes};
-    ghost use Rattle.cw_types.specs.FormatLaws.{IsBlock};
 
     ghost bytes_of = { block_bytes };
-
-    ghost fits = { IsBlock };
 
     ghost max_bytes = { 1048745 };
 
     fn max_encode_size() -> usize {
         MAX_BLOCK
+    }
+
+    fn is_bounded(&self) {
+        block_fits(&self.block);
     }
 }

@@ -18,7 +18,8 @@ pub enum Event {
     Timeout(u64),
     /// A message reaches it.
     Deliver(Message),
-    /// The least height that was handed out, and wasn't acknowledged before, is acknowledged.
+    /// The least height that is pending is acknowledged: it was handed out, and lies above the last
+    /// acknowledged one and not below the floor.
     Ack,
     /// Blocks below the height are to be let go.
     Prune(u64),

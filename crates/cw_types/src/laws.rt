@@ -1,19 +1,23 @@
 //! What is written reads back, and what reads is in its format: laws, which take no work.
 
-ghost use Rattle.std.specs.Prelude.{◌≡◌, ◌<◌, ◌≤◌, ◌^◌, ℕ, List, Some, length};
+ghost use Rattle.std.specs.Prelude.{◌≡◌, ◌<◌, ◌≤◌, ◌^◌, ℕ, IsTrue, List, Some, length};
 ghost use Rattle.cw_base.specs.ReadingLaws.{IsBytes, ReadsBack};
+ghost use Rattle.std.specs.List.{AllByRecursion};
 ghost use Rattle.cw_types.specs.Block.{Block};
+ghost use Rattle.cw_types.specs.Epochs.{members_in, rises_from, size};
 ghost use Rattle.cw_types.specs.Encoding.{block_bytes, commitment_bytes, context_bytes, cert_bytes, message_bytes, note_bytes, proposal_bytes, vote_bytes};
 ghost use Rattle.cw_types.specs.Reading.{block_at, block_in, cert_at, commitment_at, context_at, message_of, note_at, proposal_at, vote_at};
 ghost use Rattle.cw_types.specs.FormatLaws.{IsBlock, IsCommitment, IsContext, IsPrefixFree, IsProposal};
 ghost use Rattle.cw_types.specs.MessageLaws.{IsMessage};
-ghost use Rattle.cw_types.specs.NoteLaws.{IsNote};
+ghost use Rattle.cw_types.specs.NoteLaws.{IsNote, is_storable};
 ghost use Rattle.cw_types.specs.declared.message.Message.{Message};
-ghost use Rattle.cw_types.specs.TaggedLaws.{IsCert, IsVote};
+ghost use Rattle.cw_types.specs.TaggedLaws.{AreMembers, IsCert, IsVote};
 
 use crate::block::{ChainBlock, Context};
 use crate::commitment::Commitment;
-use crate::vote::{Proposal, Vote};
+use crate::committees::Committees;
+use crate::note::Note;
+use crate::vote::{Cert, Proposal, Vote};
 
 /// What a commitment, a context, a block, a proposal, a vote, a certificate or a note is read from is in
 /// its format, and what is in the format is read as itself, whatever follows it.
@@ -95,8 +99,8 @@ pub fn vote_fits(vote: Vote)
     }
 }
 
-// Each proposal reads back, of its epoch.
-fn proposal_fits(proposal: Proposal)
+/// Each proposal reads back, of its epoch.
+pub fn proposal_fits(proposal: Proposal)
     ensures epoch { proposal.epoch < 2 ^ 64 }
     ensures fits { IsProposal proposal.epoch proposal }
 {
@@ -104,6 +108,57 @@ fn proposal_fits(proposal: Proposal)
     let _view = proposal.view;
     let _parent = proposal.parent;
     commitment_fits(proposal.payload);
+}
+
+/// Each certificate of at most 65,535 signers reads back.
+pub fn cert_fits(cert: &Cert)
+    requires { length cert.now.signers < 2 ^ 16 }
+    ensures { IsCert cert.now }
+{
+    vote_fits(cert.vote);
+    signers_fit(cert.signers.as_slice());
+}
+
+// Each signer is a member's number.
+fn signers_fit(signers: &[u16])
+    ensures { AreMembers signers.now }
+{}
+
+/// Each note reads back whose votes and proposals are well formed, whose heights are below 2^64 - 1,
+/// whose entered epoch is above 0, and whose certificate has at most 65,535 signers.
+pub fn note_fits(note: &Note)
+    requires { IsTrue (is_storable note.now) }
+    ensures { IsNote note.now }
+{
+    match note {
+        Note::Block(commitment, block) => {
+            commitment_fits(*commitment);
+            block_fits(block);
+        }
+        Note::Verified(epoch, view, commitment) => {
+            let _numbers = (*epoch, *view);
+            commitment_fits(*commitment);
+        }
+        Note::Certified(proposal) => proposal_fits(*proposal),
+        Note::Vote(vote) => vote_fits(*vote),
+        Note::Cert(cert) => cert_fits(cert),
+        Note::Ack(_) | Note::Floor(_) | Note::Prune(_) => {}
+        Note::Epoch(epoch, commitment) => {
+            let _number = *epoch;
+            commitment_fits(*commitment);
+        }
+    }
+}
+
+/// The members of each epoch are at least four, rise, and are members of the cluster; an epoch covers at
+/// least one height.
+pub fn committees_are_sound(committees: &Committees)
+    ensures enough { (epoch : ℕ) → 4 ≤ size committees.now epoch }
+    ensures rising { (epoch : ℕ) → IsTrue (rises_from 0 (members_in committees.now epoch)) }
+    ensures there { (epoch : ℕ) → AllByRecursion (λ i. i < committees.now.total) (members_in committees.now epoch) }
+    ensures spans { (span : ℕ) → committees.now.span ≡ Some span → 0 < span }
+{
+    let _lists = committees.lists();
 }
 
 /// Bytes are those of the message that they read as, and a message reads back as it was written. Junk

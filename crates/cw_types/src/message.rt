@@ -4,6 +4,7 @@ ghost use Rattle.std.specs.Prelude.{◌≡◌, ◌++◌, IfOk, IfErr, OnOk, OnEr
 ghost use Rattle.cw_base.specs.declared.reader.CodecError.TheVariants as codec;
 ghost use Rattle.cw_types.specs.Encoding.{message_bytes};
 ghost use Rattle.cw_types.specs.Reading.{shard_at, shard_message_at, vote_message_at, ask_at, ask_height_at, tagged_message_at, message_at};
+ghost use Rattle.cw_base.specs.Ends.{IsEnd};
 ghost use Rattle.cw_base.specs.Reading.{IsRead, Gives};
 
 use crate::block::{ChainBlock, MAX_BLOCK};
@@ -114,8 +115,10 @@ impl Message {
 
     /// The message that all bytes left are: those that don't read as a message to their end are junk.
     /// The reader is then at its end. The only refusal is `NoMemory`.
+    #[tactic(auto, using(cw_base::specs::Ends::ends))]
     pub fn read(alloc: Global, reader: &mut Reader) -> Result<Message, CodecError>
         ensures value { Gives (λ message. message) result reader.new (message_at reader.old) }
+        ensures place { IsEnd reader.old reader.new }
         ensures err { IfErr result (λ e. e ≡ codec.NoMemory) }
     {
         let bytes = reader.rest();
@@ -132,9 +135,10 @@ impl Message {
 }
 
 // A message at the front.
-#[tactic(auto, unfolding(crate::specs::Reading::tagged_message_at))]
+#[tactic(auto, using(cw_base::specs::Ends::end_of_end), unfolding(crate::specs::Reading::tagged_message_at))]
 fn read_tagged(alloc: Global, reader: &mut Reader) -> Result<Message, CodecError>
-    ensures { Gives (λ message. message) result reader.new (tagged_message_at reader.old) }
+    ensures value { Gives (λ message. message) result reader.new (tagged_message_at reader.old) }
+    ensures place { IsEnd reader.old reader.new }
 {
     match reader.u8()? {
         0 => read_shard_message(alloc, reader),
@@ -148,8 +152,10 @@ fn read_tagged(alloc: Global, reader: &mut Reader) -> Result<Message, CodecError
 }
 
 // A chunk behind its commitment.
+#[tactic(auto, using(cw_base::specs::Ends::end_of_end))]
 fn read_shard_message(alloc: Global, reader: &mut Reader) -> Result<Message, CodecError>
-    ensures { Gives (λ message. message) result reader.new (shard_message_at reader.old) }
+    ensures value { Gives (λ message. message) result reader.new (shard_message_at reader.old) }
+    ensures place { IsEnd reader.old reader.new }
 {
     let commitment = Commitment::read(reader)?;
     let chunk = read_shard(alloc, reader, &commitment.config)?;
@@ -157,20 +163,23 @@ fn read_shard_message(alloc: Global, reader: &mut Reader) -> Result<Message, Cod
 }
 
 // A chunk of a config, of a block of at most `MAX_BLOCK` bytes.
-#[tactic(auto, unfolding(crate::specs::Reading::shard_at))]
+#[tactic(auto, using(cw_base::specs::Ends::end_of_end), unfolding(crate::specs::Reading::shard_at))]
 fn read_shard(
     alloc: Global,
     reader: &mut Reader,
     config: &Config,
 ) -> Result<Chunk<Digest32>, CodecError>
-    ensures { Gives (λ chunk. chunk) result reader.new (shard_at config.now reader.old) }
+    ensures value { Gives (λ chunk. chunk) result reader.new (shard_at config.now reader.old) }
+    ensures place { IsEnd reader.old reader.new }
 {
     Chunk::<Digest32>::read(alloc, reader, config, MAX_BLOCK)
 }
 
 // A vote behind its signer.
+#[tactic(auto, using(cw_base::specs::Ends::end_of_end))]
 fn read_vote_message(reader: &mut Reader) -> Result<Message, CodecError>
-    ensures { IsRead (λ message. message) result reader.new (vote_message_at reader.old) }
+    ensures value { IsRead (λ message. message) result reader.new (vote_message_at reader.old) }
+    ensures place { IsEnd reader.old reader.new }
 {
     let signer = reader.be16()?;
     let vote = Vote::read(reader)?;
@@ -178,8 +187,10 @@ fn read_vote_message(reader: &mut Reader) -> Result<Message, CodecError>
 }
 
 // Who asks, and for which commitment.
+#[tactic(auto, using(cw_base::specs::Ends::end_of_end))]
 fn read_ask(reader: &mut Reader) -> Result<Message, CodecError>
-    ensures { IsRead (λ message. message) result reader.new (ask_at reader.old) }
+    ensures value { IsRead (λ message. message) result reader.new (ask_at reader.old) }
+    ensures place { IsEnd reader.old reader.new }
 {
     let from = reader.be16()?;
     let commitment = Commitment::read(reader)?;
@@ -187,8 +198,10 @@ fn read_ask(reader: &mut Reader) -> Result<Message, CodecError>
 }
 
 // Who asks, and for which height.
+#[tactic(auto, using(cw_base::specs::Ends::end_of_end))]
 fn read_ask_height(reader: &mut Reader) -> Result<Message, CodecError>
-    ensures { IsRead (λ message. message) result reader.new (ask_height_at reader.old) }
+    ensures value { IsRead (λ message. message) result reader.new (ask_height_at reader.old) }
+    ensures place { IsEnd reader.old reader.new }
 {
     let from = reader.be16()?;
     let height = reader.be64()?;

@@ -1,8 +1,10 @@
 //! What a member writes down, and keeps its word by.
 
-ghost use Rattle.std.specs.Prelude.{◌≡◌, ◌++◌, ◌<◌, ◌≤◌, IfOk, OnOk, OnErr, take, length};
+ghost use Rattle.std.specs.Prelude.{◌≡◌, ◌∷◌, ◌++◌, ◌<◌, ◌≤◌, IfOk, OnOk, OnErr, take, length};
+ghost use Rattle.cw_base.specs.Bytes.{be64};
 ghost use Rattle.cw_types.specs.Encoding.{epoch_tag_bytes, note_bytes};
 ghost use Rattle.cw_types.specs.Reading.{note_behind, block_note_at, certified_at, cert_note_at, entered_at, formed_vote_at, note_at, ordered_at, verified_at};
+ghost use Rattle.cw_base.specs.Ends.{IsEnd};
 ghost use Rattle.cw_base.specs.Reading.{IsRead, Gives};
 
 use crate::block::{ChainBlock, read_height};
@@ -101,21 +103,9 @@ impl Note {
                 cert.write(out)?;
                 Ok(())
             }
-            Note::Ack(height) => {
-                put_u8(out, 5)?;
-                put_be64(out, *height)?;
-                Ok(())
-            }
-            Note::Floor(height) => {
-                put_u8(out, 6)?;
-                put_be64(out, *height)?;
-                Ok(())
-            }
-            Note::Prune(height) => {
-                put_u8(out, 7)?;
-                put_be64(out, *height)?;
-                Ok(())
-            }
+            Note::Ack(height) => put_height(out, 5, *height),
+            Note::Floor(height) => put_height(out, 6, *height),
+            Note::Prune(height) => put_height(out, 7, *height),
             Note::Epoch(epoch, commitment) => {
                 put_u8(out, 8)?;
                 put_be64(out, *epoch)?;
@@ -130,9 +120,10 @@ impl Note {
     /// config with a zero; `InvalidVarint`, `TooLong` and `EndOfBuffer` as for its block.
     ///
     /// Refused, the reader stands behind the parts that were taken, a refused tag or value among them.
-    #[tactic(auto, unfolding(crate::specs::Reading::note_at))]
+    #[tactic(auto, using(cw_base::specs::Ends::end_of_end), unfolding(crate::specs::Reading::note_at))]
     pub fn read(alloc: Global, reader: &mut Reader) -> Result<Note, CodecError>
-        ensures { Gives (λ note. note) result reader.new (note_at reader.old) }
+        ensures value { Gives (λ note. note) result reader.new (note_at reader.old) }
+        ensures place { IsEnd reader.old reader.new }
     {
         match reader.u8()? {
             0 => read_block_note(alloc, reader),
@@ -149,9 +140,11 @@ impl Note {
 }
 
 // A note of an epoch above 0, behind its tag.
+#[tactic(auto, using(cw_base::specs::Ends::end_of_end))]
 fn read_later_note(reader: &mut Reader, tag: u8) -> Result<Note, CodecError>
     requires { 7 < tag }
-    ensures { IsRead (λ note. note) result reader.new (note_behind tag reader.old) }
+    ensures value { IsRead (λ note. note) result reader.new (note_behind tag reader.old) }
+    ensures place { IsEnd reader.old reader.new }
 {
     match tag {
         8 => {
@@ -171,8 +164,10 @@ fn read_later_note(reader: &mut Reader, tag: u8) -> Result<Note, CodecError>
 }
 
 // A block behind its commitment.
+#[tactic(auto, using(cw_base::specs::Ends::end_of_end))]
 fn read_block_note(alloc: Global, reader: &mut Reader) -> Result<Note, CodecError>
-    ensures { Gives (λ note. note) result reader.new (block_note_at reader.old) }
+    ensures value { Gives (λ note. note) result reader.new (block_note_at reader.old) }
+    ensures place { IsEnd reader.old reader.new }
 {
     let commitment = Commitment::read(reader)?;
     let block = ChainBlock::read(alloc, reader)?;
@@ -180,8 +175,10 @@ fn read_block_note(alloc: Global, reader: &mut Reader) -> Result<Note, CodecErro
 }
 
 // The view and the commitment of a block that was proposed in an epoch.
+#[tactic(auto, using(cw_base::specs::Ends::end_of_end))]
 fn read_verified(reader: &mut Reader, epoch: u64) -> Result<Note, CodecError>
-    ensures { IsRead (λ note. note) result reader.new (verified_at epoch reader.old) }
+    ensures value { IsRead (λ note. note) result reader.new (verified_at epoch reader.old) }
+    ensures place { IsEnd reader.old reader.new }
 {
     let view = reader.be64()?;
     let commitment = Commitment::read(reader)?;
@@ -189,9 +186,10 @@ fn read_verified(reader: &mut Reader, epoch: u64) -> Result<Note, CodecError>
 }
 
 // A proposal of an epoch that is well formed.
-#[tactic(auto, unfolding(crate::specs::Reading::ordered_at))]
+#[tactic(auto, using(cw_base::specs::Ends::end_of_end), unfolding(crate::specs::Reading::ordered_at))]
 fn read_certified(reader: &mut Reader, epoch: u64) -> Result<Note, CodecError>
-    ensures { IsRead (λ note. note) result reader.new (certified_at epoch reader.old) }
+    ensures value { IsRead (λ note. note) result reader.new (certified_at epoch reader.old) }
+    ensures place { IsEnd reader.old reader.new }
 {
     let proposal = Proposal::read(reader, epoch)?;
     if !is_ordered(&proposal) {
@@ -201,16 +199,19 @@ fn read_certified(reader: &mut Reader, epoch: u64) -> Result<Note, CodecError>
 }
 
 // The commitment that an epoch is entered over.
+#[tactic(auto, using(cw_base::specs::Ends::end_of_end))]
 fn read_entered(reader: &mut Reader, epoch: u64) -> Result<Note, CodecError>
-    ensures { IsRead (λ note. note) result reader.new (entered_at epoch reader.old) }
+    ensures value { IsRead (λ note. note) result reader.new (entered_at epoch reader.old) }
+    ensures place { IsEnd reader.old reader.new }
 {
     Ok(Note::Epoch(epoch, Commitment::read(reader)?))
 }
 
 // A vote that is well formed.
-#[tactic(auto, unfolding(crate::specs::Reading::formed_vote_at))]
+#[tactic(auto, using(cw_base::specs::Ends::end_of_end), unfolding(crate::specs::Reading::formed_vote_at))]
 fn read_formed_vote(reader: &mut Reader) -> Result<Vote, CodecError>
-    ensures { IsRead (λ vote. vote) result reader.new (formed_vote_at reader.old) }
+    ensures value { IsRead (λ vote. vote) result reader.new (formed_vote_at reader.old) }
+    ensures place { IsEnd reader.old reader.new }
 {
     let vote = Vote::read(reader)?;
     if !well_formed(&vote) {
@@ -220,12 +221,24 @@ fn read_formed_vote(reader: &mut Reader) -> Result<Vote, CodecError>
 }
 
 // A certificate of a vote that is well formed.
+#[tactic(auto, using(cw_base::specs::Ends::end_of_end))]
 fn read_cert_note(alloc: Global, reader: &mut Reader) -> Result<Note, CodecError>
-    ensures { Gives (λ note. note) result reader.new (cert_note_at reader.old) }
+    ensures value { Gives (λ note. note) result reader.new (cert_note_at reader.old) }
+    ensures place { IsEnd reader.old reader.new }
 {
     let vote = read_formed_vote(reader)?;
     let cert = read_signed(alloc, reader, vote)?;
     Ok(Note::Cert(cert))
+}
+
+// A tag, and a height.
+fn put_height(out: &mut Vec<u8>, tag: u8, height: u64) -> Result<(), NoMemory>
+    ensures ok { OnOk result (out.new.items ≡ out.old.items ++ tag ∷ be64 height) }
+    ensures err { OnErr result (take (length out.old.items) out.new.items ≡ out.old.items) }
+{
+    put_u8(out, tag)?;
+    put_be64(out, height)?;
+    Ok(())
 }
 
 // The tag of a note of epoch 0, or another tag and the epoch.

@@ -6,6 +6,7 @@ ghost use Rattle.cw_types.specs.Encoding.{cert_bytes, proposal_bytes, tag_bytes,
 ghost use Rattle.cw_types.specs.Same.{same_cert, same_proposal, same_vote};
 ghost use Rattle.cw_types.specs.Reading.{proposal_at, later_epoch_at, later_at, notarize_at, nullify_at, finalize_at, vote_at, signers_at, signed_at, cert_at};
 ghost use Rattle.cw_types.specs.Votes as votes;
+ghost use Rattle.cw_base.specs.Ends.{IsEnd};
 ghost use Rattle.cw_base.specs.Reading.{IsRead, Gives};
 
 use crate::commitment::Commitment;
@@ -82,9 +83,10 @@ impl Proposal {
     /// `EndOfBuffer` where it is cut.
     ///
     /// Refused, the reader stands behind the parts that were taken, a zero among them.
-    #[tactic(auto, unfolding(crate::specs::Reading::proposal_at))]
+    #[tactic(auto, using(cw_base::specs::Ends::end_of_end), unfolding(crate::specs::Reading::proposal_at))]
     pub fn read(reader: &mut Reader, epoch: u64) -> Result<Proposal, CodecError>
-        ensures { IsRead (λ proposal. proposal) result reader.new (proposal_at epoch reader.old) }
+        ensures value { IsRead (λ proposal. proposal) result reader.new (proposal_at epoch reader.old) }
+        ensures place { IsEnd reader.old reader.new }
     {
         let view = reader.be64()?;
         let parent = reader.be64()?;
@@ -183,9 +185,10 @@ impl Vote {
     /// behind it, and for a config with a zero; `EndOfBuffer` where it is cut.
     ///
     /// Refused, the reader stands behind the parts that were taken, a refused tag or value among them.
-    #[tactic(auto, unfolding(crate::specs::Reading::vote_at))]
+    #[tactic(auto, using(cw_base::specs::Ends::end_of_end), unfolding(crate::specs::Reading::vote_at))]
     pub fn read(reader: &mut Reader) -> Result<Vote, CodecError>
-        ensures { IsRead (λ vote. vote) result reader.new (vote_at reader.old) }
+        ensures value { IsRead (λ vote. vote) result reader.new (vote_at reader.old) }
+        ensures place { IsEnd reader.old reader.new }
     {
         match reader.u8()? {
             0 => read_notarize(reader, 0),
@@ -209,31 +212,38 @@ impl Vote {
 }
 
 // A vote for a proposal of an epoch.
+#[tactic(auto, using(cw_base::specs::Ends::end_of_end))]
 fn read_notarize(reader: &mut Reader, epoch: u64) -> Result<Vote, CodecError>
-    ensures { IsRead (λ vote. vote) result reader.new (notarize_at epoch reader.old) }
+    ensures value { IsRead (λ vote. vote) result reader.new (notarize_at epoch reader.old) }
+    ensures place { IsEnd reader.old reader.new }
 {
     Ok(Vote::Notarize(Proposal::read(reader, epoch)?))
 }
 
 // A vote to end a view of an epoch.
+#[tactic(auto, using(cw_base::specs::Ends::end_of_end))]
 fn read_nullify(reader: &mut Reader, epoch: u64) -> Result<Vote, CodecError>
-    ensures { IsRead (λ vote. vote) result reader.new (nullify_at epoch reader.old) }
+    ensures value { IsRead (λ vote. vote) result reader.new (nullify_at epoch reader.old) }
+    ensures place { IsEnd reader.old reader.new }
 {
     let view = reader.be64()?;
     Ok(Vote::Nullify { epoch, view })
 }
 
 // A vote to keep a proposal of an epoch.
+#[tactic(auto, using(cw_base::specs::Ends::end_of_end))]
 fn read_finalize(reader: &mut Reader, epoch: u64) -> Result<Vote, CodecError>
-    ensures { IsRead (λ vote. vote) result reader.new (finalize_at epoch reader.old) }
+    ensures value { IsRead (λ vote. vote) result reader.new (finalize_at epoch reader.old) }
+    ensures place { IsEnd reader.old reader.new }
 {
     Ok(Vote::Finalize(Proposal::read(reader, epoch)?))
 }
 
 // An epoch above 0.
-#[tactic(auto, unfolding(crate::specs::Reading::later_epoch_at))]
+#[tactic(auto, using(cw_base::specs::Ends::end_of_end), unfolding(crate::specs::Reading::later_epoch_at))]
 pub(crate) fn read_later_epoch(reader: &mut Reader) -> Result<u64, CodecError>
-    ensures { IsRead (λ epoch. epoch) result reader.new (later_epoch_at reader.old) }
+    ensures value { IsRead (λ epoch. epoch) result reader.new (later_epoch_at reader.old) }
+    ensures place { IsEnd reader.old reader.new }
 {
     let epoch = reader.be64()?;
     if epoch == 0 {
@@ -291,9 +301,10 @@ impl Cert {
     /// The certificate at the front: `Invalid` as for its vote, `EndOfBuffer` where it is cut.
     ///
     /// Refused, the reader stands behind the parts that were taken, a refused tag or value among them.
-    #[tactic(auto, unfolding(crate::specs::Reading::cert_at))]
+    #[tactic(auto, using(cw_base::specs::Ends::end_of_end), unfolding(crate::specs::Reading::cert_at))]
     pub fn read(alloc: Global, reader: &mut Reader) -> Result<Cert, CodecError>
-        ensures { Gives (λ cert. cert) result reader.new (cert_at reader.old) }
+        ensures value { Gives (λ cert. cert) result reader.new (cert_at reader.old) }
+        ensures place { IsEnd reader.old reader.new }
     {
         let vote = Vote::read(reader)?;
         match read_signed(alloc, reader, vote) {
@@ -304,13 +315,14 @@ impl Cert {
 }
 
 // The signers of a vote, behind their number.
-#[tactic(auto, unfolding(crate::specs::Reading::signed_at))]
+#[tactic(auto, using(cw_base::specs::Ends::end_of_end), unfolding(crate::specs::Reading::signed_at))]
 pub(crate) fn read_signed(
     alloc: Global,
     reader: &mut Reader,
     vote: Vote,
 ) -> Result<Cert, CodecError>
-    ensures { Gives (λ cert. cert) result reader.new (signed_at vote reader.old) }
+    ensures value { Gives (λ cert. cert) result reader.new (signed_at vote reader.old) }
+    ensures place { IsEnd reader.old reader.new }
 {
     let count = reader.be16()?;
     match read_signers(alloc, reader, count) {
@@ -320,8 +332,10 @@ pub(crate) fn read_signed(
 }
 
 // So many members' numbers.
+#[tactic(auto, using(cw_base::specs::Ends::ends))]
 fn read_signers(alloc: Global, reader: &mut Reader, count: u16) -> Result<Items<u16>, CodecError>
-    ensures { Gives (λ signers. signers) result reader.new (signers_at count reader.old) }
+    ensures value { Gives (λ signers. signers) result reader.new (signers_at count reader.old) }
+    ensures place { IsEnd reader.old reader.new }
 {
     let mut signers = Items::new(alloc);
     for i in 0..count {

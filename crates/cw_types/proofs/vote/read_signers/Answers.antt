@@ -1,13 +1,17 @@
+use Rattle.std.proofs.Common.{◌≡◌, ◌+◌, ◌-◌, ◌++◌, ◌∷◌, []}
+use Rattle.cw_base.specs.Ends.{end_of_end}
 use Rattle.cw_types.specs.Reading.{signers_at}
-use Rattle.cw_types.proofs.SignersRead.{goes_on, ends}
+use Rattle.cw_types.proofs.SignersRead.{goes_on, ends, with_front}
 use Rattle.cw_types.proofs.vote.read_signers.Goals as goal
 
-pub returns-in-Err : goal.returns-in-Err
-returns-in-Err c =
+pub returns-in-Err-clause-value : goal.returns-in-Err-clause-value
+returns-in-Err-clause-value c =
     ends c.in-Err.error c.loop-i.signers c.args.count c.loop-i.i c.loop-i.reader c.be16.new.self
-    (signers_at c.args.count c.args.reader.now) c.loop-i-test.true c.in-Err.ensures c.loop-i.invariant
+    (signers_at c.args.count c.args.reader.now) c.loop-i-test.true c.in-Err.ensures.value c.loop-i.invariant.0
 
 pub loop-i-preserved : goal.loop-i-preserved
 loop-i-preserved c =
-    rw c.in_ok-push-in-Ok.ensures.ok (goes_on c.loop-i.signers c.args.count c.loop-i.i c.loop-i.reader c.in-Ok.signer c.be16.new.self
-    (signers_at c.args.count c.args.reader.now) c.loop-i-test.true c.in-Ok.ensures c.loop-i.invariant)
+    let goes : with_front (c.loop-i.signers ++ c.in-Ok.signer ∷ []) (signers_at (c.args.count - (c.loop-i.i + 1)) c.be16.new.self) ≡ signers_at c.args.count c.args.reader.now =
+    goes_on c.loop-i.signers c.args.count c.loop-i.i c.loop-i.reader c.in-Ok.signer c.be16.new.self
+    (signers_at c.args.count c.args.reader.now) c.loop-i-test.true c.in-Ok.ensures.value c.loop-i.invariant.0 in
+    (rw c.in_ok-push-in-Ok.ensures.ok goes, end_of_end c.loop-i.invariant.1 c.be16.ensures.place)
