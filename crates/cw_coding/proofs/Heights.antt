@@ -1,5 +1,5 @@
 -- The height of a tree, as it is counted up.
-use Rattle.std.proofs.Common.{◌≡◌, ℕ, suc, ◌+◌, ◌*◌, ◌^◌, ◌<◌, ◌≤◌, arith, ap, ◌∙◌, inl, inr, subst}
+use Rattle.std.proofs.Common.{◌≡◌, ℕ, zero, suc, ◌+◌, ◌*◌, ◌^◌, ◌<◌, ◌≤◌, arith, ap, ◌∙◌, inl, inr, subst}
 use Rattle.std.proofs.Math.Nat.{pow-suc}
 use Rattle.std.proofs.lemmas.Bool.{cases_lt}
 use Rattle.cw_tree.specs.TreeRoots.{IsHeight}
@@ -45,3 +45,15 @@ risen leaves room height enough r =
         | inr ge ↦ ge
       ];
     }
+
+-- a tree of so few leaves has at most 16 levels above them
+pub height_within : (leaves : ℕ) → leaves ≤ 65535 → (h : ℕ) × IsHeight leaves h × (h ≤ 16)
+height_within leaves few = up 17 1 0 (omega arith) (record { room_is = omega arith; low = omega arith; below = λ g l. absurd (omega arith) })
+  where
+    up : (left room height : ℕ) → height + left ≡ 17 → Rises leaves room height → (h : ℕ) × IsHeight leaves h × (h ≤ 16)
+    up zero room height sum r = absurd (let low = r.low in omega arith)
+    up (suc left) room height sum r =
+        elim (cases_lt room leaves) [
+          | inl lt ↦ up left (room * 2) (height + 1) (omega arith) (rises leaves room height few lt r)
+          | inr ge ↦ (height, risen leaves room height ge r, r.low)
+        ]

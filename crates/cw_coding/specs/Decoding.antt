@@ -11,6 +11,7 @@ use Rattle.cw_coding.specs.declared.error.RsError.TheVariants.{InvalidShardSize}
 use Rattle.cw_coding.specs.declared.error.ReedSolomonError.{ReedSolomonError}
 use Rattle.cw_coding.specs.declared.error.ReedSolomonError.TheVariants.{ReedSolomon, Inconsistent, NotEnoughChunks, DuplicateIndex, InvalidIndex, TooManyTotalShards, CommitmentMismatch, NoMemory}
 
+-- the indices of chunks, in the order in which they were given
 abbrev pub indices_of : {D : Type 0} → List (Checked D) → List ℕ
 indices_of chunks = map (λ c. c.index) chunks
 

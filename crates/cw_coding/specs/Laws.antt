@@ -1,9 +1,10 @@
 -- What holds of every encoding.
-use Rattle.std.specs.Prelude.{◌≡◌, ℕ, ◌+◌, ◌*◌, ◌<◌, ◌≤◌, List, length, slice_index, slice_get, Some, All}
+use Rattle.std.specs.Prelude.{◌≡◌, ℕ, ◌+◌, ◌*◌, ◌<◌, ◌≤◌, List, ◌++◌, length, slice_index, slice_get, Some, Ok, All}
 use Rattle.cw_base.specs.Shards.{Shards}
 use Rattle.rs_code.specs.Indices.{AreSound}
 use Rattle.cw_tree.specs.Chunks.{Piece}
-use Rattle.cw_tree.specs.Formats.{chunk_bytes}
+use Rattle.cw_tree.specs.Formats.{chunk_bytes, chunk_at, widest, piece_of_bytes}
+use Rattle.cw_tree.specs.FormatLaws.{FitsChunk}
 use Rattle.cw_tree.specs.TreeRoots.{IsHeight}
 use Rattle.cw_tree.specs.Widths.{shard_len}
 use Rattle.cw_coding.specs.declared.error.ReedSolomonError.{ReedSolomonError}
@@ -27,6 +28,17 @@ EncodingsFit {D} hash content size =
     (c : Shards) (text : List ℕ) (root : D) (pieces : List (Piece D)) (most levels : ℕ) → 1 ≤ c.minimum → IsEncoding hash content c text root pieces →
     length text ≤ most → IsHeight (total_of c) levels →
     (i : ℕ) (p : Piece D) → slice_get pieces i ≡ Some p → length (chunk_bytes content p) ≤ 12 + shard_len most c.minimum + size * levels
+
+-- a chunk that fits its format, with a shard of at most so many bytes, and is read as itself, whatever follows it
+pub record IsReadBack {D : Type 0} (content : D → List ℕ) (size bound : ℕ) (p : Piece D) : Type 0 where
+  pub fits : FitsChunk size bound (piece_of_bytes content p)
+  pub again : (rest : List ℕ) → chunk_at size bound (chunk_bytes content p ++ rest) ≡ Ok (piece_of_bytes content p, rest)
+
+-- each chunk of an encoding of at most `most` bytes reads back, read with the maximum `most`
+abbrev pub EncodingsReadBack : {D : Type 0} → (hash : List ℕ → D) (content : D → List ℕ) (size : ℕ) → Type 0
+EncodingsReadBack {D} hash content size =
+    (c : Shards) (text : List ℕ) (root : D) (pieces : List (Piece D)) (most : ℕ) → 1 ≤ c.minimum → IsEncoding hash content c text root pieces →
+    length text ≤ most → (i : ℕ) (p : Piece D) → slice_get pieces i ≡ Some p → IsReadBack content size (widest c.minimum most) p
 
 -- a checked chunk that carries a row of a text
 pub record IsChunkOf {D : Type 0} (c : Shards) (text : List ℕ) (root : D) (x : Checked D) : Type 0 where

@@ -2,6 +2,7 @@
 use Rattle.std.specs.Prelude.{ℕ, ◌+◌, ◌-◌, ◌*◌, ◌^◌, ◌≤◌}
 use Rattle.cw_base.specs.Shards.{Shards}
 
+-- how many shards an encoding has
 abbrev pub total_of : Shards → ℕ
 total_of c = c.minimum + c.extra
 
