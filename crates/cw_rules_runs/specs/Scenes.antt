@@ -128,3 +128,7 @@ in_brief e = (e.line, e.found, map (λ s. s.number) e.sent, map (λ h. h.height)
 -- the last entries of a script's report, from that one on
 abbrev pub steps_from : ℕ → Rules → List Line → List (ℕ × Option ℕ × List ℕ × List ℕ)
 steps_from skipped r script = map in_brief (drop skipped (report_of r script (world_of r script)).steps)
+
+-- the heights of the links of a script's chain
+abbrev pub chain_heights : Rules → List Line → List ℕ
+chain_heights r script = map (λ b. b.height) (report_of r script (world_of r script)).chain

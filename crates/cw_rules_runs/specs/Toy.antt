@@ -1,6 +1,6 @@
 -- Clusters with a hash that computes: a digest is the text itself. A codeword repeats its text, twice in each row.
-use Rattle.std.specs.Prelude.{ℕ, ◌+◌, ◌/◌, ◌==◌, ◌&&◌, true, List, [], ◌∷◌, ◌++◌, map, find, replicate, length, take, Option, Some, None, if◌then◌else◌, bytes_eq, drop}
-use Rattle.std.specs.List.{list_all}
+use Rattle.std.specs.Prelude.{ℕ, ◌+◌, ◌/◌, ◌==◌, ◌&&◌, true, List, [], ◌∷◌, ◌++◌, map, filter_map, find, replicate, length, take, Option, Some, None, option_and_then, if◌then◌else◌, bytes_eq, drop}
+use Rattle.std.specs.List.{last_or, list_all}
 use Rattle.std.specs.Option.{option_map_or}
 use Rattle.cw_base.specs.declared.hash.Digest32.{Digest32}
 use Rattle.cw_base.specs.Shards.{Shards}
@@ -8,10 +8,12 @@ use Rattle.cw_types.specs.declared.block.Context.{Context}
 use Rattle.cw_types.specs.declared.commitment.Commitment.{Commitment}
 use Rattle.cw_types.specs.declared.event.To.{To}
 use Rattle.cw_types.specs.declared.message.Message.{Message}
+use Rattle.cw_types.specs.declared.vote.Proposal.{Proposal}
 use Rattle.cw_types.specs.declared.vote.Vote.{Vote}
 use Rattle.cw_types.specs.declared.vote.Vote.TheVariants.{Notarize, Nullify, Finalize}
 use Rattle.cw_types.specs.Block.{Block}
 use Rattle.cw_types.specs.Epochs.{Epochs}
+use Rattle.cw_types.specs.Votes.{proposal_of}
 use Rattle.cw_rules.specs.Rules.{Chunk, Rules}
 use Rattle.cw_rules.specs.Step.{member_notes}
 use Rattle.cw_rules.specs.World.{World, Sent}
@@ -70,6 +72,25 @@ kind (Message.Junk bytes) = 6
 -- who sent what
 abbrev pub kinds : List Sent → List (ℕ × ℕ)
 kinds = map (λ s. (s.from, kind s.message))
+
+-- the signers of a certificate
+abbrev pub signers_of : Message → Option (List ℕ)
+signers_of (Message.Cert s) = Some s.signers
+signers_of _ = None
+
+-- who signed each certificate that was sent
+abbrev pub signers : List Sent → List (List ℕ)
+signers = filter_map (λ s. signers_of s.message)
+
+-- the proposal that a vote or a certificate names
+abbrev pub proposal_in : Message → Option Proposal
+proposal_in (Message.Vote i v) = proposal_of v
+proposal_in (Message.Cert s) = proposal_of s.vote
+proposal_in _ = None
+
+-- which block each vote and certificate for one names: the last byte of its payload
+abbrev pub payloads : List Sent → List ℕ
+payloads = filter_map (λ s. option_and_then (λ p. last_or None p.payload.block.0) (proposal_in s.message))
 
 -- how many notes each member has, and how many blocks it handed out since its start
 abbrev pub counts : World → List (ℕ × ℕ)

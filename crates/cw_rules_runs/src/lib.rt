@@ -1,14 +1,17 @@
 //! Runs of whole clusters, computed from the definitions of the cluster rules by the checker, under a
 //! hash that computes: contracts of functions with empty bodies.
-#![tactic(auto, unfolding(cw_types::specs::Same::same_commitment, cw_types::specs::Same::same_context, cw_types::specs::Same::same_proposal, cw_types::specs::Same::same_vote, cw_types::specs::Same::same_cert, cw_types::specs::Same::same_block))]
+#![tactic(auto)]
 
 mod random;
 mod worked;
 
 pub use random::{
-    random_script_13, random_script_15, random_script_18, random_script_19, random_script_21,
-    random_script_22, random_script_27, random_script_31, random_script_39, random_script_46,
-    random_script_54, random_script_57,
+    a_block_is_proposed_again_in_each_epoch, a_committee_of_four_is_followed_by_one_of_six,
+    a_faulty_member_in_each_of_two_committees, a_member_of_a_later_committee_follows,
+    a_restart_sends_the_last_vote_again, a_silent_leader_is_passed_over_in_each_epoch,
+    an_acknowledged_block_is_not_handed_out_again, members_outside_the_committee_follow,
+    the_last_block_is_finalized_in_two_views, three_blocks_fill_an_epoch, two_blocks_fill_an_epoch,
+    two_blocks_in_each_of_two_epochs,
 };
 pub use worked::{
     a_block_at_the_end_of_its_epoch_is_proposed_again, a_block_is_finalized, a_clash_ends_the_run,
