@@ -27,7 +27,7 @@ abbrev pub count : Commitment → List KeptChunk → ℕ
 count c kept = length (filter (λ (k : KeptChunk). same_commitment c k.commitment) kept)
 
 -- with one more of the same commitment
-chunks_with : (c : Commitment) (kept : List KeptChunk) (x : Chunk) → chunks_of c (with_chunk kept c x) ≡ chunks_of c kept ++ x ∷ []
+pub chunks_with : (c : Commitment) (kept : List KeptChunk) (x : Chunk) → chunks_of c (with_chunk kept c x) ≡ chunks_of c kept ++ x ∷ []
 chunks_with c kept x = chunks_more c kept c x ∙ ap (λ b. chunks_of c kept ++ (if b then x ∷ [] else [])) (same_commitment_self c)
 
 counted : (c : Commitment) (kept : List KeptChunk) → length (chunks_of c kept) ≡ count c kept

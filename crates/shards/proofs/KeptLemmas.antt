@@ -23,7 +23,7 @@ rows_kept c (k ∷ ks) = go (same_commitment c k.commitment) refl (rows_kept c k
     go true e more = rw e (ap (λ xs. k.chunk ∷ xs) more)
     go false e more = rw e more
 
-none_whole : (r : Rules) (c : Commitment) (kept : List KeptChunk) → first_some (whole_of r c) (map part_of kept) ≡ None
+pub none_whole : (r : Rules) (c : Commitment) (kept : List KeptChunk) → first_some (whole_of r c) (map part_of kept) ≡ None
 none_whole r c [] = refl
 none_whole r c (k ∷ ks) = none_whole r c ks
 

@@ -9,3 +9,5 @@ pub mod Standing
 pub mod Decoded
 pub mod Shown
 pub mod Short
+pub mod Stands
+pub mod Stays

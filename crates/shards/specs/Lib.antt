@@ -1,3 +1,4 @@
 pub mod Kept
 pub mod Verdicts
+pub mod Standing
 pub mod Enough

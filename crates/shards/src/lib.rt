@@ -16,6 +16,8 @@ mod verdict;
 
 pub use cut::cut_block;
 pub use kept::Shards;
+pub use laws::{shards_stand, shown_by_kept, shown_stays};
+pub use pieces::KeptChunk;
 pub use verdict::Verdict;
 
 #[cfg(test)]

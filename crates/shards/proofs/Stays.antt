@@ -1,0 +1,100 @@
+-- What is kept shows what a member is shown, and what enough chunks show stays.
+use Rattle.std.proofs.Common.{◌≡◌, ℕ, zero, suc, ◌+◌, ◌≤◌, Bool, true, false, ◌==◌, if◌then◌else◌, List, [], ◌∷◌, ◌++◌, length, map, take, Option, Some, None, option_and_then, filter_map, refl, sym, ◌∙◌, ap, arith, eqb-true, length-append}
+use Rattle.std.specs.Option.{option_or}
+use Rattle.cw_base.specs.declared.hash.Digest32.{Digest32}
+use Rattle.cw_types.specs.Block.{Block}
+use Rattle.cw_types.specs.Same.{same_commitment}
+use Rattle.cw_types.specs.declared.commitment.Commitment.{Commitment}
+use Rattle.cw_rules.specs.Accepted.{Came, Part, Row, Whole, first_some, is_chunk_of}
+use Rattle.cw_rules.specs.Held.{if_committed, row_of, shown, whole_of}
+use Rattle.cw_rules.specs.Rules.{Chunk, Rules, block_of}
+use Rattle.shards.specs.Kept.{Gathered, came_of, chunks_of, is_known, part_of, rules_of, with_chunk}
+use Rattle.shards.specs.Standing.{StandsFor, kept_of}
+use Rattle.shards.specs.Verdicts.{kept_after, kept_verdict, of_shown, verdict}
+use Rattle.shards.specs.declared.pieces.KeptChunk.{KeptChunk}
+use Rattle.shards.specs.declared.verdict.Verdict.{Verdict}
+use Rattle.shards.specs.declared.verdict.Verdict.TheVariants.{Foreign, Garbage, Held, Kept, Known}
+use Rattle.shards.proofs.Answered.{chunks_with}
+use Rattle.shards.proofs.KeptLemmas.{none_whole, rows_kept}
+
+-- what the first k chunks that are kept of a commitment show
+pub shown_first : (r : Rules) (kept : List KeptChunk) (c : Commitment) → shown r (came_of kept) c ≡ option_and_then (if_committed r c) (block_of r c.config (take c.config.minimum (chunks_of c kept)))
+shown_first r kept c =
+    ap (λ o. option_or o (option_and_then (if_committed r c) (block_of r c.config (take c.config.minimum (filter_map (row_of c) (map part_of kept)))))) (none_whole r c kept)
+    ∙ ap (λ xs. option_and_then (if_committed r c) (block_of r c.config (take c.config.minimum xs))) (rows_kept c kept)
+
+-- ---- of a member
+
+came_rows : (c : Commitment) (parts : List Part) → filter_map (row_of c) parts ≡ chunks_of c (filter_map kept_of parts)
+came_rows c [] = refl
+came_rows c (Whole b ∷ parts) = came_rows c parts
+came_rows c (Row d y ∷ parts) = go (same_commitment c d) refl (came_rows c parts)
+  where
+    go : (b : Bool) → same_commitment c d ≡ b → filter_map (row_of c) parts ≡ chunks_of c (filter_map kept_of parts) → filter_map (row_of c) (Row d y ∷ parts) ≡ chunks_of c (filter_map kept_of (Row d y ∷ parts))
+    go true e more = rw e (ap (λ xs. y ∷ xs) more)
+    go false e more = rw e more
+
+module _ (hash : List ℕ → Digest32) (t : Gathered) (r : Rules) (came : Came) (stands : StandsFor hash t r came) where
+  pub member_rows : (c : Commitment) → filter_map (row_of c) came.parts ≡ chunks_of c t.kept
+  member_rows c = came_rows c came.parts ∙ ap (chunks_of c) stands.rows
+
+  pub member_shown : (c : Commitment) → first_some (whole_of r c) came.parts ≡ None → shown r came c ≡ shown (rules_of hash t.epochs) (came_of t.kept) c
+  member_shown c none =
+      ap (λ o. option_or o (option_and_then (if_committed r c) (block_of r c.config (take c.config.minimum (filter_map (row_of c) came.parts))))) none
+      ∙ (ap (λ xs. option_and_then (if_committed r c) (block_of r c.config (take c.config.minimum xs))) (member_rows c)
+      ∙ (ap (λ (q : Rules). option_and_then (if_committed q c) (block_of q c.config (take c.config.minimum (chunks_of c t.kept)))) stands.rules
+      ∙ sym (shown_first (rules_of hash t.epochs) t.kept c)))
+
+-- ---- of enough chunks
+
+chunks_append : (c : Commitment) (kept more : List KeptChunk) → chunks_of c (kept ++ more) ≡ chunks_of c kept ++ chunks_of c more
+chunks_append c [] more = refl
+chunks_append c (k ∷ ks) more = go (same_commitment c k.commitment) refl (chunks_append c ks more)
+  where
+    go : (b : Bool) → same_commitment c k.commitment ≡ b → chunks_of c (ks ++ more) ≡ chunks_of c ks ++ chunks_of c more → chunks_of c ((k ∷ ks) ++ more) ≡ chunks_of c (k ∷ ks) ++ chunks_of c more
+    go true e later = rw e (ap (λ xs. k.chunk ∷ xs) later)
+    go false e later = rw e later
+
+take_first : {X : Type 0} (n : ℕ) (xs ys : List X) → n ≤ length xs → take n (xs ++ ys) ≡ take n xs
+take_first zero xs ys h = refl
+take_first (suc n) [] ys h = absurd (omega arith)
+take_first (suc n) (x ∷ xs) ys h = ap (λ zs. x ∷ zs) (take_first n xs ys (omega arith))
+
+pub enough_stay : (r : Rules) (kept more : List KeptChunk) (c : Commitment) → c.config.minimum ≤ length (chunks_of c kept) → shown r (came_of (kept ++ more)) c ≡ shown r (came_of kept) c
+enough_stay r kept more c enough =
+    shown_first r (kept ++ more) c
+    ∙ (ap (λ xs. option_and_then (if_committed r c) (block_of r c.config xs)) (ap (take c.config.minimum) (chunks_append c kept more) ∙ take_first c.config.minimum (chunks_of c kept) (chunks_of c more) enough)
+    ∙ sym (shown_first r kept c))
+
+-- ---- of a verdict
+
+shown_held : (o : Option Block) (b : Block) → of_shown o ≡ Held b → o ≡ Some b
+shown_held None b e = cc
+shown_held (Some a) b e = cc
+
+shown_garbage : (o : Option Block) → of_shown o ≡ Garbage → o ≡ None
+shown_garbage None e = refl
+shown_garbage (Some a) e = cc
+
+module _ (r : Rules) (kept more : List KeptChunk) (c : Commitment) (x : Chunk) where
+  -- the k-th chunk and what is kept behind it
+  kth_stays : (length (chunks_of c kept) + 1 == c.config.minimum) ≡ true → shown r (came_of (with_chunk kept c x ++ more)) c ≡ shown r (came_of (with_chunk kept c x)) c
+  kth_stays last =
+      let e = eqb-true (length (chunks_of c kept) + 1) c.config.minimum last in
+      enough_stay r (with_chunk kept c x) more c (omega (arith, e, ap length (chunks_with c kept x), length-append (chunks_of c kept) (x ∷ [])))
+
+  -- a verdict that is given at the k-th chunk alone says what is shown
+  shows : (v : Verdict) (o : Option Block) → (Known ≡ v → ⊥) → (Foreign ≡ v → ⊥) → (Kept ≡ v → ⊥) → ((p : Option Block) → of_shown p ≡ v → p ≡ o)
+      → (known taken last : Bool) → (length (chunks_of c kept) + 1 == c.config.minimum) ≡ last
+      → (if known then Known else if taken then (if last then of_shown (shown r (came_of (with_chunk kept c x)) c) else Kept) else Foreign) ≡ v
+      → shown r (came_of ((if known then kept else if taken then with_chunk kept c x else kept) ++ more)) c ≡ o
+  shows v o a b d by true taken last is e = absurd (a e)
+  shows v o a b d by false false last is e = absurd (b e)
+  shows v o a b d by false true false is e = absurd (d e)
+  shows v o a b d by false true true is e = kth_stays is ∙ by (shown r (came_of (with_chunk kept c x)) c) e
+
+  pub held_stays : (b : Block) → verdict r kept c x ≡ Held b → shown r (came_of (kept_after r kept c x ++ more)) c ≡ Some b
+  held_stays b = shows (Held b) (Some b) (λ e. cc) (λ e. cc) (λ e. cc) (λ p e. shown_held p b e) (is_known kept c x) (is_chunk_of r c x) (length (chunks_of c kept) + 1 == c.config.minimum) refl
+
+  pub garbage_stays : verdict r kept c x ≡ Garbage → shown r (came_of (kept_after r kept c x ++ more)) c ≡ None
+  garbage_stays = shows Garbage None (λ e. cc) (λ e. cc) (λ e. cc) shown_garbage (is_known kept c x) (is_chunk_of r c x) (length (chunks_of c kept) + 1 == c.config.minimum) refl
