@@ -88,12 +88,11 @@ pub record IsSame (old new : DiskState) : Type 0 where
   pub past : new.past ≡ old.past
   pub calls : new.calls ≡ old.calls
 
--- A crash at any moment from old to new, both included, leaves an image that has P.
+-- The disk went on from old to new, and a crash at any moment since, both included, leaves an image that has P.
 pub record LeavesOnly (old new : DiskState) (P : List ℕ → Type 0) : Type 0 where
   pub since : List Moment
   pub past : new.past ≡ old.past ++ since
-  pub during : (image : List ℕ) → HadImage since image → P image
-  pub after : (image : List ℕ) → IsImage new.now image → P image
+  pub left : (image : List ℕ) → LeftSince new (length old.past) image → P image
 
 -- what is told more of these device calls is those in front, done, and then one that failed
 pub record IsCutShort (calls : List DeviceCall) (old new : DiskState) : Type 0 where
