@@ -37,9 +37,13 @@ told_more (Some told) calls = Some (told ++ calls)
 abbrev pub HasTold : List DeviceCall → DiskState → DiskState → Type 0
 HasTold calls old new = new.calls ≡ told_more old.calls calls
 
+-- these bytes at this place
+abbrev pub put_at : List ℕ → ℕ → List ℕ → List ℕ
+put_at old place bytes = take place old ++ bytes ++ drop (place + length bytes) old
+
 -- new is old with these bytes at this place
 abbrev pub Holds : List ℕ → ℕ → List ℕ → List ℕ → Type 0
-Holds old place bytes new = new ≡ take place old ++ bytes ++ drop (place + length bytes) old
+Holds old place bytes new = new ≡ put_at old place bytes
 
 -- any bytes in this range and past the old end, the same elsewhere
 pub record Torn (place count : ℕ) (old new : List ℕ) : Type 0 where
