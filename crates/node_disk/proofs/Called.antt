@@ -4,8 +4,8 @@ use Rattle.std.proofs.lemmas.List.{map-append, length-map, take_at, drop_at}
 use Rattle.std.proofs.lemmas.Bool.Decides.{nat_tests}
 use Rattle.cw_base.specs.Causes.{Rose}
 use Rattle.node_disk.specs.Images.{Moment}
-use Rattle.node_disk.specs.Disk.{DeviceCall, told_more, Torn, HasWritten, HasFailedToWrite, HasSynced, HasFailedToSync}
-use Rattle.node_disk.specs.Record.{Held, Written, Entry, Request, Write, Sync, request_of, entry_of, range_of, moment_of, put_at, torn, done_writes, effect, opened, step, run, moments, empty_disk, held_after, past_of, told_calls, told_entry, told_request, is_done, is_reached, is_listed, by_number, outcome_at}
+use Rattle.node_disk.specs.Disk.{DeviceCall, told_more, put_at, Torn, HasWritten, HasFailedToWrite, HasSynced, HasFailedToSync}
+use Rattle.node_disk.specs.Record.{Held, Written, Entry, Request, Write, Sync, request_of, entry_of, range_of, moment_of, torn, done_writes, effect, opened, step, run, moments, empty_disk, held_after, past_of, told_calls, told_entry, told_request, is_done, is_reached, is_listed, by_number, outcome_at}
 use Rattle.node_disk.specs.Memory.{MemoryState, memory_state, next_outcome, next_fails, Keeps, HasCalled, Continues}
 use Rattle.node_disk.specs.MemoryLaws.{length-torn, length-put_torn}
 use Rattle.node_disk.specs.declared.record.Stop.{Stop}

@@ -3,10 +3,10 @@ use Rattle.std.proofs.Common.{◌≡◌, ◌≢◌, inl, inr, ℕ, zero, suc, �
 use Rattle.std.proofs.lemmas.List.{map-append, append_cancel_left, take_at, drop_at, take_all}
 use Rattle.std.proofs.lemmas.Bool.{cases_lt}
 use Rattle.std.proofs.lemmas.Bool.Decides.{nat_tests}
-use Rattle.node_disk.specs.Disk.{DeviceCall, Wrote, Synced, failing, told_more, HasTold, Holds, IsCutShort}
+use Rattle.node_disk.specs.Disk.{DeviceCall, Wrote, Synced, failing, told_more, HasTold, put_at, Holds, IsCutShort}
 use Rattle.node_disk.specs.Frames.{body, blocks, IsAtRest, Finds}
 use Rattle.node_disk.specs.Log.{IsSettled, with_frame, append_calls, calls_of_append}
-use Rattle.node_disk.specs.Record.{Held, Written, Entry, Request, Write, Sync, range_of, put_at, put_within, torn, put_torn, done_writes, effect, opened, step, run, empty_disk, held_after, told_calls, told_entry, told_request, is_done, outcome_at, decided, reopened_still}
+use Rattle.node_disk.specs.Record.{Held, Written, Entry, Request, Write, Sync, range_of, put_within, torn, put_torn, done_writes, effect, opened, step, run, empty_disk, held_after, told_calls, told_entry, told_request, is_done, outcome_at, decided, reopened_still}
 use Rattle.node_disk.specs.MemoryLaws.{length-torn}
 use Rattle.node_disk.specs.Memory.{MemoryState, memory_state, Continues}
 use Rattle.node_disk.specs.Cut.{kept_frames, IsArmed}

@@ -1,15 +1,15 @@
 -- A start on a file shorter than two bytes.
-use Rattle.std.proofs.Common.{◌≡◌, ◌⊎◌, inl, inr, ℕ, ◌<◌, List, [], ◌∷◌, length, Ok, true, refl, sym, ◌∙◌, ap, subst, arith}
+use Rattle.std.proofs.Common.{◌≡◌, ◌⊎◌, inl, inr, ℕ, ◌<◌, List, [], ◌∷◌, length, Ok, Option, true, refl, sym, ◌∙◌, ap, subst, arith}
 use Rattle.node_disk.specs.Images.{IsImage}
-use Rattle.node_disk.specs.Disk.{DiskState, DeviceCall, Synced, HasTold, IsCutShort, IsFront, Torn, LeavesOnly}
+use Rattle.node_disk.specs.Disk.{DiskState, DeviceCall, Synced, told_more, HasTold, IsCutShort, IsFront, Torn, LeavesOnly}
 use Rattle.node_disk.specs.Frames.{read_log}
 use Rattle.node_disk.specs.Log.{IsBeforeOrSame, write_then_sync, first_gate, start_calls}
 use Rattle.node_disk.specs.Errors.{store_error}
 use Rattle.node_disk.specs.declared.disk.DiskError.{DiskError}
 use Rattle.node_disk.specs.declared.disk.DiskError.TheVariants.{Failed, NoMemory}
 use Rattle.node_disk.specs.declared.log.StoreError.TheVariants as store
-use Rattle.node_disk.proofs.Moments.{goes_on, weakens}
-use Rattle.node_disk.proofs.AddFrame.{cut_earlier, cut_later, front_later}
+use Rattle.node_disk.proofs.Moments.{goes_on, weakens, told_twice}
+use Rattle.node_disk.proofs.AddFrame.{cut_earlier, cut_later, front_earlier, front_later}
 
 read_short : (bytes : List ℕ) → length bytes < 2 → read_log bytes ≡ Ok []
 read_short [] short = refl
@@ -30,6 +30,15 @@ gate_calls (a ∷ b ∷ seen) short = absurd (omega arith)
 pub cut_first : (seen : List ℕ) (old new : DiskState) → IsCutShort (Synced true ∷ []) old new ⊎ HasTold (Synced true ∷ []) old new → IsCutShort (start_calls seen) old new ⊎ HasTold (Synced true ∷ []) old new
 cut_first seen old new (inl cut) = inl (cut_earlier (Synced true ∷ []) (first_gate seen) old new cut)
 cut_first seen old new (inr read) = inr read
+
+pub front_first : (seen : List ℕ) (old new : DiskState) → IsFront (Synced true ∷ []) old new → IsFront (start_calls seen) old new
+front_first seen old new front = front_earlier (Synced true ∷ []) (first_gate seen) old new front
+
+-- the first gate was written and synced
+pub told_gate : (seen : List ℕ) (old mid new : DiskState) → length seen < 2 → HasTold (Synced true ∷ []) old mid → HasTold (write_then_sync 0 (0 ∷ [])) mid new → HasTold (start_calls seen) old new
+told_gate seen old mid new short synced written =
+    written ∙ ap (λ (o : Option (List DeviceCall)). told_more o (write_then_sync 0 (0 ∷ []))) synced ∙ told_twice old.calls (Synced true ∷ []) (write_then_sync 0 (0 ∷ []))
+    ∙ ap (λ (l : List DeviceCall). told_more old.calls (Synced true ∷ l)) (gate_calls seen short)
 
 -- the first gate was not written or not synced
 pub cut_gate : (seen : List ℕ) (old mid new : DiskState) → length seen < 2 → HasTold (Synced true ∷ []) old mid → IsCutShort (write_then_sync 0 (0 ∷ [])) mid new → IsCutShort (start_calls seen) old new

@@ -37,9 +37,13 @@ told_more (Some told) calls = Some (told ++ calls)
 abbrev pub HasTold : List DeviceCall → DiskState → DiskState → Type 0
 HasTold calls old new = new.calls ≡ told_more old.calls calls
 
+-- these bytes at this place
+abbrev pub put_at : List ℕ → ℕ → List ℕ → List ℕ
+put_at old place bytes = take place old ++ bytes ++ drop (place + length bytes) old
+
 -- new is old with these bytes at this place
 abbrev pub Holds : List ℕ → ℕ → List ℕ → List ℕ → Type 0
-Holds old place bytes new = new ≡ take place old ++ bytes ++ drop (place + length bytes) old
+Holds old place bytes new = new ≡ put_at old place bytes
 
 -- any bytes in this range and past the old end, the same elsewhere
 pub record Torn (place count : ℕ) (old new : List ℕ) : Type 0 where
@@ -88,12 +92,11 @@ pub record IsSame (old new : DiskState) : Type 0 where
   pub past : new.past ≡ old.past
   pub calls : new.calls ≡ old.calls
 
--- A crash at any moment from old to new, both included, leaves an image that has P.
+-- The disk went on from old to new, and a crash at any moment since, both included, leaves an image that has P.
 pub record LeavesOnly (old new : DiskState) (P : List ℕ → Type 0) : Type 0 where
   pub since : List Moment
   pub past : new.past ≡ old.past ++ since
-  pub during : (image : List ℕ) → HadImage since image → P image
-  pub after : (image : List ℕ) → IsImage new.now image → P image
+  pub left : (image : List ℕ) → LeftSince new (length old.past) image → P image
 
 -- what is told more of these device calls is those in front, done, and then one that failed
 pub record IsCutShort (calls : List DeviceCall) (old new : DiskState) : Type 0 where

@@ -3,7 +3,8 @@ use Rattle.std.proofs.Common.{◌≡◌, inl, inr, ℕ, suc, ◌+◌, ◌-◌, �
 use Rattle.std.proofs.lemmas.Bool.{cases_lt}
 use Rattle.std.proofs.lemmas.List.{get_or_append_left, get_or-append_right, get_or-take, get_or-drop, map-append, append-nil, length-replicate}
 use Rattle.node_disk.specs.Images.{IsImage, Untouched}
-use Rattle.node_disk.specs.Record.{Held, Written, Entry, Request, Write, Sync, range_of, moment_of, put_at, put_within, torn, put_torn, done_writes, effect, opened, step, run, empty_disk, held_after, outcome_at, decided, reopened_still}
+use Rattle.node_disk.specs.Disk.{put_at}
+use Rattle.node_disk.specs.Record.{Held, Written, Entry, Request, Write, Sync, range_of, moment_of, put_within, torn, put_torn, done_writes, effect, opened, step, run, empty_disk, held_after, outcome_at, decided, reopened_still}
 use Rattle.node_disk.specs.Memory.{MemoryState, memory_state, Continues}
 use Rattle.node_disk.specs.declared.record.Stop.{Stop}
 use Rattle.node_disk.specs.declared.record.Outcome.{Outcome}

@@ -2,7 +2,7 @@
 use Rattle.std.specs.Prelude.{ℕ, ◌+◌, ◌-◌, List, [], ◌∷◌, ◌++◌, length, take, drop, map, replicate, nat_le, Bool, true, false, if◌then◌else◌, ◌==◌, Option, Some, None}
 use Rattle.std.specs.List.{list_any}
 use Rattle.node_disk.specs.Images.{Moment}
-use Rattle.node_disk.specs.Disk.{DeviceCall, Wrote, Synced}
+use Rattle.node_disk.specs.Disk.{DeviceCall, Wrote, Synced, put_at}
 use Rattle.node_disk.specs.declared.record.Outcome.{Outcome}
 use Rattle.node_disk.specs.declared.record.Outcome.TheVariants.{Done, Failed, Stopped}
 use Rattle.node_disk.specs.declared.record.Action.{Action}
@@ -54,10 +54,6 @@ range_of write = (write.place, length write.bytes)
 -- what a disk tells of this moment
 abbrev pub moment_of : Held → Moment
 moment_of held = record { seen = held.seen; synced = held.synced; ranges = map range_of held.writes }
-
--- these bytes at this place
-abbrev pub put_at : List ℕ → ℕ → List ℕ → List ℕ
-put_at old place bytes = take place old ++ bytes ++ drop (place + length bytes) old
 
 -- the first of these bytes, as many as the cut says, and the fill for each of the rest
 abbrev pub torn : ℕ → ℕ → List ℕ → List ℕ
@@ -120,11 +116,12 @@ is_done Done = true
 is_done Failed = false
 is_done (Stopped cut fill) = false
 
--- a device call as the disk tells it
+-- a request as the disk tells it, and whether it was done
 abbrev pub told_request : Request → Bool → DeviceCall
 told_request (Write place bytes) done = Wrote place bytes done
 told_request Sync done = Synced done
 
+-- a recorded device call as the disk tells it
 abbrev pub told_entry : Entry → DeviceCall
 told_entry entry = told_request entry.request (is_done entry.outcome)
 
@@ -132,9 +129,11 @@ told_entry entry = told_request entry.request (is_done entry.outcome)
 unfoldable pub held_after : List Entry → Bool → Held
 held_after calls reopened = opened reopened (run empty_disk calls)
 
+-- the moments before each of these calls, from the first on
 unfoldable pub past_of : List Entry → List Moment
 past_of calls = moments empty_disk calls
 
+-- these recorded device calls as the disk tells them
 unfoldable pub told_calls : List Entry → List DeviceCall
 told_calls calls = map told_entry calls
 

@@ -2,7 +2,8 @@
 
 ghost use Rattle.std.specs.Prelude.{◌≡◌, ◌==◌, ◌+◌, ◌-◌, ◌≤◌, ◌<◌, ◌^◌, ◌++◌, [], ◌∷◌, ℕ, List, length, map, IfOk, OnOk, OnErr, vec_len, vec_capacity};
 ghost use Rattle.cw_base.specs.Causes.{Rose};
-ghost use Rattle.node_disk.specs.Record.{Write, Sync, Held, put_at, put_within, torn, put_torn, done_writes, write_of, effect, entry_of, is_listed, by_number, outcome_at, is_done};
+ghost use Rattle.node_disk.specs.Disk.{put_at};
+ghost use Rattle.node_disk.specs.Record.{Write, Sync, Held, put_within, torn, put_torn, done_writes, write_of, effect, entry_of, is_listed, by_number, outcome_at, is_done};
 
 use crate::DiskError;
 use crate::record::{Action, Call, Outcome, Pending, Stop};

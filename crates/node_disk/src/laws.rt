@@ -1,7 +1,8 @@
-//! What a stop leaves of an append over a disk in memory, and what a read gives of any disk.
+//! What a stop leaves of an append over a disk in memory, and what a read and crashes give of any disk.
 
-ghost use Rattle.std.specs.Prelude.{ℕ, ◌<◌, ◌≤◌, ◌++◌, [], ◌∷◌, List, length};
+ghost use Rattle.std.specs.Prelude.{◌≡◌, ℕ, ◌<◌, ◌≤◌, ◌++◌, [], ◌∷◌, List, length, Bool, true};
 ghost use Rattle.node_disk.specs.Images.{IsImage};
+ghost use Rattle.node_disk.specs.Disk.{DiskState, LeftSince, LeavesOnly};
 ghost use Rattle.node_disk.specs.Frames.{Finds};
 ghost use Rattle.node_disk.specs.Log.{LogState, HasAppended, WasCutShort};
 ghost use Rattle.node_disk.specs.Memory.{MemoryState, memory_state, Continues};
@@ -26,4 +27,16 @@ pub fn law_of_a_stop()
 /// what holds of each image holds of a disk that is started on again with no crash.
 pub fn law_of_reads<D: Disk>()
     ensures { (disk : D) → IsImage (D.state disk).now (D.state disk).now.seen }
+{}
+
+/// A law, of a test of images. Where a crash at any moment of a run of calls leaves only images that
+/// pass, and a crash at any moment of the next run too, the two are one such run: each image that a
+/// crash at some moment since the first began might have left passes.
+pub fn law_of_moments()
+    ensures composed { (old mid new : DiskState) (passes : List ℕ → Bool)
+        → LeavesOnly old mid (λ image. passes image ≡ true) → LeavesOnly mid new (λ image. passes image ≡ true)
+        → LeavesOnly old new (λ image. passes image ≡ true) }
+    ensures left_since { (old mid new : DiskState) (passes : List ℕ → Bool)
+        → LeavesOnly old mid (λ image. passes image ≡ true) → LeavesOnly mid new (λ image. passes image ≡ true)
+        → (image : List ℕ) → LeftSince new (length old.past) image → passes image ≡ true }
 {}

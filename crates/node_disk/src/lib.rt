@@ -14,7 +14,7 @@ mod reading;
 mod record;
 
 pub use disk::{Disk, DiskError};
-pub use laws::{law_of_a_stop, law_of_reads};
+pub use laws::{law_of_a_stop, law_of_moments, law_of_reads};
 pub use log::{Log, StoreError};
 pub use memory::MemoryDisk;
 pub use record::{Outcome, Stop};

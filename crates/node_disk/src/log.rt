@@ -130,6 +130,8 @@ impl<D: Disk> Log<D> {
             → IsFront (start_calls (D.state disk).now.seen) (D.state disk) (D.state e.0)) }
 
         ensures cause { IfErr result (λ e. e.1 ≡ StoreError.Disk → Rose (D.state disk).faults (D.state e.0).faults) }
+        ensures faults { IfOk result (λ log. (D.state disk).faults ≤ (D.state (log_disk log)).faults) }
+        ensures faults_err { IfErr result (λ e. (D.state disk).faults ≤ (D.state e.0).faults) }
         ensures not_failed { IfErr result (λ e. e.1 ≡ StoreError.Failed → ⊥) }
         ensures continues { IfOk result (λ log. D.continues disk (log_disk log)) }
         ensures continues_err { IfErr result (λ e. D.continues disk e.0) }
@@ -210,6 +212,7 @@ impl<D: Disk> Log<D> {
         ensures disk { IsErrOf result StoreError.Disk → has_failed self.new ≡ true }
         ensures disk_cause { IsErrOf result StoreError.Disk
             → Rose (D.state (log_disk self.old)).faults (D.state (log_disk self.new)).faults }
+        ensures faults { (D.state (log_disk self.old)).faults ≤ (D.state (log_disk self.new)).faults }
         ensures failed { has_failed self.old ≡ true → IsErrOf result StoreError.Failed }
         ensures failed_same { has_failed self.old ≡ true → IsUnchanged self.old self.new }
         ensures failed_only { IsErrOf result StoreError.Failed → has_failed self.old ≡ true }

@@ -87,7 +87,8 @@ impl MemoryDisk {
     /// Arms a stop at a device call from now, the first being 1, in place of one that is armed. If
     /// that call is a write, the first `cut` bytes of its range are as written and the rest of the
     /// range is `fill`. If it is a sync, the same is done to the ranges written since the last sync,
-    /// joined in order. A stop at 0 is reached at once. A disk that is stopped stays as it is.
+    /// joined in order; writes that failed are left out. A stop at 0 is reached at once. A disk that is
+    /// stopped stays as it is.
     pub fn stop_at(&mut self, call: u64, cut: u64, fill: u8)
         ensures armed { is_stopped self.old ≡ false
             → self.new ≡ record self.old { stop = stop_from_now self.old call cut fill } }

@@ -105,6 +105,33 @@ fn a_stopped_write_is_torn_and_the_disk_stays_stopped(rt: HostRuntime) -> Result
 }
 
 #[test]
+fn a_stopped_sync_tears_the_writes_joined_in_order(rt: HostRuntime) -> Result<(), Fail> {
+    let alloc = rt.alloc();
+    // The third device call fails, and is left out.
+    let mut disk = MemoryDisk::new(alloc, vec![in alloc; 3]?);
+    disk.write_at(0, &[1, 2])?;
+    disk.write_at(2, &[3, 4])?;
+    assert_eq!(rt; disk.write_at(0, &[7]), Err(DiskError::Failed));
+    disk.stop_at(1, 3, 9);
+    assert_eq!(rt; disk.sync(), Err(DiskError::Failed));
+    assert_eq!(rt; disk.bytes(), [1, 2, 3, 9].as_slice());
+    Ok(())
+}
+
+#[test]
+fn a_stopped_sync_tears_by_the_order_of_calls_not_of_places(rt: HostRuntime) -> Result<(), Fail> {
+    let alloc = rt.alloc();
+    let mut disk = MemoryDisk::new(alloc, Vec::new(alloc));
+    disk.write_at(0, &[0; 4])?;
+    disk.write_at(2, &[3, 4])?;
+    disk.write_at(0, &[1, 2])?;
+    disk.stop_at(1, 7, 9);
+    assert_eq!(rt; disk.sync(), Err(DiskError::Failed));
+    assert_eq!(rt; disk.bytes(), [1, 9, 3, 4].as_slice());
+    Ok(())
+}
+
+#[test]
 fn a_stop_leaves_the_frame_from_its_third_call_on(rt: HostRuntime) -> Result<(), Fail> {
     let alloc = rt.alloc();
     for call in 1..6u64 {

@@ -3,7 +3,7 @@ use Rattle.node_disk.specs.Frames.{Finds}
 use Rattle.node_disk.specs.Log.{all_items}
 use Rattle.node_disk.proofs.AtRest.{finds_at_rest}
 use Rattle.node_disk.specs.declared.disk.DiskError.TheVariants.{Failed, NoMemory}
-use Rattle.node_disk.proofs.Starting.{disk_only, memory_only, short_start, cut_first, cut_gate, front_gate}
+use Rattle.node_disk.proofs.Starting.{disk_only, memory_only, short_start, cut_first, front_first, told_gate, cut_gate, front_gate}
 use Rattle.node_disk.proofs.log.Log.start.Goals as goal
 
 pub returns-in-Err-write_and_sync-clause-any_moment_err : goal.returns-in-Err-write_and_sync-clause-any_moment_err
@@ -38,3 +38,13 @@ returns-in-Err-write_and_sync-clause-calls_no_memory g c is =
     let short : length (g.D.Disk.state c.args.disk).now.seen < 2 = search rules in
     let refused : c.in-Err-write_and_sync.error ≡ NoMemory = memory_only c.in-Err-write_and_sync.error (sym c.from-in-Err-write_and_sync.ensures ∙ is) in
     front_gate (g.D.Disk.state c.args.disk).now.seen (g.D.Disk.state c.args.disk) (g.D.Disk.state c.found_bytes.new.disk) (g.D.Disk.state c.write_and_sync.new.disk) short c.in-Ok.ensures.calls (c.write_and_sync.ensures.no_memory (c.in-Err-write_and_sync.is ∙ ap (λ e. Err e) refused))
+
+pub returns-in-Err-clause-calls_no_memory : goal.returns-in-Err-clause-calls_no_memory
+returns-in-Err-clause-calls_no_memory g c is =
+    let refused : c.in-Err.error ≡ NoMemory = memory_only c.in-Err.error (sym c.from.ensures ∙ is) in
+    front_first (g.D.Disk.state c.args.disk).now.seen (g.D.Disk.state c.args.disk) (g.D.Disk.state c.found_bytes.new.disk) (c.found_bytes.ensures.no_memory (c.in-Err.is ∙ ap (λ e. Err e) refused))
+
+pub returns-then-len-lt2-clause-calls : goal.returns-then-len-lt2-clause-calls
+returns-then-len-lt2-clause-calls g c =
+    let short : length (g.D.Disk.state c.args.disk).now.seen < 2 = search rules in
+    told_gate (g.D.Disk.state c.args.disk).now.seen (g.D.Disk.state c.args.disk) (g.D.Disk.state c.found_bytes.new.disk) (g.D.Disk.state c.write_and_sync.new.disk) short c.in-Ok.ensures.calls c.in_default.ensures.calls
