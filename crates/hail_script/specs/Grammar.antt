@@ -18,11 +18,13 @@ abbrev pub header_in : List (List ℕ) → Option (ℕ × ℕ)
 header_in (word ∷ members ∷ backlog ∷ []) = if bytes_eq word (codes "cluster") then header_of (number members) (number backlog) else None
 header_in _ = None
 
+-- a proposal of that member, where both fields are read
 abbrev pub proposing : Option ℕ → Option (List ℕ) → Option EventLine
 proposing None payload = None
 proposing (Some member) None = None
 proposing (Some member) (Some payload) = Some (record { member = member; ask = Propose payload })
 
+-- a delivery of that message, where both fields are read
 abbrev pub delivering : Option ℕ → Option ℕ → Option EventLine
 delivering None member = None
 delivering (Some number) None = None
@@ -55,6 +57,7 @@ abbrev pub first_unknown : ℕ → ℕ → List EventLine → Option ℕ
 first_unknown members at [] = None
 first_unknown members at (event ∷ more) = if nat_lt event.member members then first_unknown members (at + 1) more else Some at
 
+-- the scenario, unless a line names an unknown member
 abbrev pub unless_unknown : Option ℕ → Scenario → Result Scenario RunError
 unless_unknown None s = Ok s
 unless_unknown (Some at) s = Err (UnknownMember at)
@@ -63,6 +66,7 @@ unless_unknown (Some at) s = Err (UnknownMember at)
 abbrev pub admitted : Scenario → Result Scenario RunError
 admitted s = if nat_le 4 s.members && nat_lt s.members (2 ^ 16) then unless_unknown (first_unknown s.members 2 s.events) s else Err BadCommittee
 
+-- the header before the events, if they are events and the scenario is run
 abbrev pub with_header : ℕ × ℕ → Result (List EventLine) RunError → Result Scenario RunError
 with_header header (Ok events) = admitted (record { members = header.0; backlog = header.1; events = events })
 with_header header (Err e) = Err e

@@ -96,10 +96,12 @@ opening_text hash e = open_line e.member ++ gave_text hash e
 abbrev pub step_text : (List ℕ → Digest32) → Entry → List ℕ
 step_text hash e = step_line e.line ++ found_text e.found ++ gave_text hash e
 
+-- a member is live, or stopped
 abbrev pub state_word : Bool → List ℕ
 state_word true = codes "live"
 state_word false = codes "stopped"
 
+-- the last acknowledged height, or `none`
 abbrev pub height_text : Option ℕ → List ℕ
 height_text None = codes "none"
 height_text (Some h) = decimal h
@@ -132,8 +134,10 @@ error_line BadCommittee = line (codes "error 2 BadCommittee")
 error_line (UnknownMember l) = line (codes "error 3 UnknownMember " ++ decimal l)
 error_line NoMemory = []
 
+-- the answer where there were words
 abbrev pub usage_line : List ℕ
 usage_line = line (codes "usage: hail_run")
 
+-- the answer to an input above 16,777,216 bytes
 abbrev pub too_long_line : List ℕ
 too_long_line = line (codes "error TooLong")

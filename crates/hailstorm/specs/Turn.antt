@@ -40,6 +40,7 @@ is_sent_vote member v sent = (sent.from == member) && is_vote_by member v sent.m
 abbrev pub signs_in : List Sent → ℕ → Vote → Bool
 signs_in pool member v = list_any (is_sent_vote member v) pool
 
+-- the message is sent to the member: to all, or to it
 abbrev pub is_to : ℕ → To → Bool
 is_to member to.All = true
 is_to member (to.One i) = i == member
@@ -90,6 +91,7 @@ pub record Idles (at : ℕ) (old : List Member) (member : ℕ) (entry : Entry) (
   pub stays : new ≡ old
   pub enters : entry ≡ record { line = at; member = Some member; found = None; sent = []; handed = [] }
 
+-- a member takes an event, where there is one
 abbrev pub Takes : Setting → ℕ → List Sent → List Member → ℕ → Option Event → Entry → List Member → Type 0
 Takes s at pool old member None entry new = Idles at old member entry new
 Takes s at pool old member (Some e) entry new = Acts s at pool old member e entry new

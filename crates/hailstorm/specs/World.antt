@@ -45,6 +45,7 @@ Plays s at pool members (line ∷ lines) (entry ∷ entries) last = (next : List
 abbrev pub standing : ℕ → Member → Acked
 standing at m = record { member = at; live = true; height = None; notes = min (length (notes_of m)) (2 ^ 64 - 1) }
 
+-- where the members stand, numbered from the first on
 abbrev pub standings_from : ℕ → List Member → List Acked
 standings_from at [] = []
 standings_from at (m ∷ ms) = standing at m ∷ standings_from (at + 1) ms

@@ -73,23 +73,41 @@ fn put_digest(out: &mut Vec<u8>, byte: &[u8]) -> Result<(), Fail> {
 const OPENING: &str =
     "open 0\nhand 0 0 G\nopen 1\nhand 1 0 G\nopen 2\nhand 2 0 G\nopen 3\nhand 3 0 G\n";
 
-const FIRST_BLOCK: &str =
-    "step 2\nsent 0 1 all block 1 B\nsent 1 1 all vote 1 notarize 1 L\nstep 3\nstep 4\nsent 2 0 all vote 0 notarize 1 V\nmember 0 live acked none notes 2\nmember 1 live acked none notes 3\nmember 2 live acked none notes 0\nmember 3 live acked none notes 0\nchain 0 G\ndone 3\n";
+// Scripts, and what is written behind the members' openings: no event; a member proposes a block, and
+// another takes it; the other takes its vote too.
+const RUNS: [(&[u8], &str); 3] = [
+    (
+        b"cluster 4 3\n",
+        "member 0 live acked none notes 0\nmember 1 live acked none notes 0\nmember 2 live acked none notes 0\nmember 3 live acked none notes 0\nchain 0 G\ndone 0\n",
+    ),
+    (
+        b"cluster 4 3\npropose 1 6869\ndeliver 0 0\n",
+        "step 2\nsent 0 1 all block 1 B\nsent 1 1 all vote 1 notarize 1 L\nstep 3\nmember 0 live acked none notes 1\nmember 1 live acked none notes 3\nmember 2 live acked none notes 0\nmember 3 live acked none notes 0\nchain 0 G\ndone 2\n",
+    ),
+    (
+        b"cluster 4 3\npropose 1 6869\ndeliver 0 0\ndeliver 1 0\n",
+        "step 2\nsent 0 1 all block 1 B\nsent 1 1 all vote 1 notarize 1 L\nstep 3\nstep 4\nsent 2 0 all vote 0 notarize 1 V\nmember 0 live acked none notes 2\nmember 1 live acked none notes 3\nmember 2 live acked none notes 0\nmember 3 live acked none notes 0\nchain 0 G\ndone 3\n",
+    ),
+];
 
-// what is written where member 1 proposes a block and member 0 takes it and the vote
-fn first_report(alloc: Global) -> Result<Vec<u8>, Fail> {
+// whether a script's report is the openings and this text
+fn is_reported<R: Threads + Sync>(
+    rt: &R,
+    alloc: Global,
+    script: &[u8],
+    behind: &str,
+) -> Result<bool, Fail> {
     let mut want = spelled(alloc, OPENING)?;
-    want.extend_from_slice(&spelled(alloc, FIRST_BLOCK)?)?;
-    Ok(want)
+    want.extend_from_slice(&spelled(alloc, behind)?)?;
+    let run = played(rt, alloc, script)?;
+    Ok(run.status == 0 && run.text.as_slice() == want.as_slice())
 }
 
 #[test]
 fn a_proposed_block_is_noted_and_voted_for(rt: HostRuntime) -> Result<(), Fail> {
-    let script = b"cluster 4 3\npropose 1 6869\ndeliver 0 0\ndeliver 1 0\n";
-    let run = played(&rt, rt.alloc(), script)?;
-    let want = first_report(rt.alloc())?;
-    assert_eq!(rt; run.status, 0);
-    assert!(rt; run.text.as_slice() == want.as_slice());
+    for (script, behind) in RUNS {
+        assert!(rt; is_reported(&rt, rt.alloc(), script, behind)?);
+    }
     Ok(())
 }
 
@@ -104,7 +122,7 @@ fn is_refused<R: Threads + Sync>(
     Ok(run.status == 3 && run.text.as_slice() == want)
 }
 
-const REFUSALS: [(&[u8], &[u8]); 9] = [
+const REFUSALS: [(&[u8], &[u8]); 10] = [
     (b"", b"error 1 Syntax 1\n"),
     (b"cluster 4 0\n", b"error 1 Syntax 1\n"),
     (b"cluster 4 3\n\n", b"error 1 Syntax 2\n"),
@@ -112,6 +130,7 @@ const REFUSALS: [(&[u8], &[u8]); 9] = [
     (b"cluster 4 3\npropose 1 686\n", b"error 1 Syntax 2\n"),
     (b"cluster 3 1\npropose 9 -\n", b"error 2 BadCommittee\n"),
     (b"cluster 65536 1", b"error 2 BadCommittee\n"),
+    (b"cluster 4 3\npropose 4 61\n", b"error 3 UnknownMember 2\n"),
     (
         b"cluster 4 3\npropose 1 -\npropose 4 61\n",
         b"error 3 UnknownMember 3\n",
