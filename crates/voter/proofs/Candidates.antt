@@ -6,9 +6,8 @@ use Rattle.std.proofs.lemmas.List.Folds.{list_any-append}
 use Rattle.std.proofs.Math.Seq.{take-append_seam}
 use Rattle.cw_types.specs.Same.{same_proposal}
 use Rattle.cw_types.specs.declared.note.Note.{Note}
-use Rattle.cw_types.specs.declared.vote.Proposal.{Proposal}
 use Rattle.cw_types.specs.declared.vote.Vote.TheVariants.{Notarize}
-use Rattle.cw_rules.specs.Accepted.{State, first_some}
+use Rattle.cw_rules.specs.Accepted.{first_some}
 use Rattle.cw_rules.specs.Fits.{block_fits}
 use Rattle.cw_rules.specs.Notes.{has_cert, has_certified}
 use Rattle.cw_rules.specs.Owed.{certified_owed, named_proposals, when}
