@@ -1,23 +1,29 @@
 -- A tally answers for every member of the rules that it stands for.
-use Rattle.std.proofs.Common.{◌≡◌, ◌&&◌, ◌||◌, ◌==◌, ℕ, Bool, false, not, List, [], ◌∷◌, Option, Some, None, refl, sym, ◌∙◌, ap}
-use Rattle.std.specs.List.{list_any}
+use Rattle.std.proofs.Common.{◌≡◌, ◌&&◌, ◌||◌, ◌==◌, ℕ, Bool, false, not, List, [], ◌∷◌, Option, Some, None, option_map, refl, sym, subst, ◌∙◌, ap}
+use Rattle.std.specs.List.{find, list_any}
 use Rattle.std.specs.Option.{option_map_or, option_or}
 use Rattle.cw_base.specs.declared.hash.Digest32.{Digest32}
 use Rattle.cw_types.specs.Block.{Block}
+use Rattle.cw_types.specs.Commit as types
 use Rattle.cw_types.specs.Encoding.{block_bytes, context_bytes}
 use Rattle.cw_types.specs.Epochs.{Epochs, is_member, leader, place}
 use Rattle.cw_types.specs.declared.block.Context.{Context}
+use Rattle.cw_types.specs.declared.commitment.Commitment.{Commitment}
 use Rattle.cw_types.specs.declared.note.Note.{Note}
 use Rattle.cw_types.specs.declared.vote.Proposal.{Proposal}
-use Rattle.cw_types.specs.declared.vote.Vote.{Vote}
 use Rattle.cw_types.specs.declared.vote.Vote.TheVariants.{Notarize}
 use Rattle.cw_rules.specs.Accepted.{Ballot, State, first_some}
+use Rattle.cw_rules.specs.Direct.{best_parent}
+use Rattle.cw_rules.specs.Fits.{block_fits}
+use Rattle.cw_rules.specs.Held.{held}
 use Rattle.cw_rules.specs.Notes.{epoch_of, settled, view_of}
-use Rattle.cw_rules.specs.Owed.{all_nullified, cert_owed, finalize_owed, has_own_row, has_voted, is_again, is_payload_for, is_row_at, is_single, named_proposals, named_votes, notarize_owed, when}
+use Rattle.cw_rules.specs.Owed.{all_nullified, cert_owed, certified_owed, finalize_owed, has_own_row, has_voted, is_again, is_payload_for, is_row_at, is_single, named_proposals, named_votes, notarize_owed, when}
 use Rattle.cw_rules.specs.Rules.{Rules, genesis_commitment}
-use Rattle.voter.specs.Known.{Known, is_own_at, rules_of, state_of}
+use Rattle.voter.specs.Known.{Known, is_own_at, vote_rules, state_of}
 use Rattle.voter.specs.Owing as owing
-use Rattle.voter.specs.Standing.{StandsFor}
+use Rattle.voter.specs.Standing.{StandsFor, best_from}
+use Rattle.voter.proofs.Candidates.{certified_found}
+use Rattle.voter.proofs.BestParent.{best_held, best_next, best_none, best_start}
 use Rattle.voter.proofs.Voted.{own_at}
 
 first_same : {X Y : Type 0} (f g : X → Option Y) → ((x : X) → f x ≡ g x) → (xs : List X) → first_some f xs ≡ first_some g xs
@@ -63,15 +69,38 @@ module _ (hash : List ℕ → Digest32) (t : Known) (r : Rules) (s : State) (sta
   pub finalize_agrees : first_some (finalize_owed r t.id s) (named_proposals s) ≡ owing.finalize_owed hash t
   finalize_agrees = λ i. first_some (finalize_owed (rules_with (stands.epochs i) hash block_bytes context_bytes) t.id (state_with (stands.notes i) (stands.ballots i))) (named_proposals (state_with (stands.notes i) (stands.ballots i)))
 
-  own_row : (p : Proposal) → has_own_row r t.id s p ≡ has_own_row (rules_of hash t.epochs) t.id (state_of t) p
+  own_row : (p : Proposal) → has_own_row r t.id s p ≡ has_own_row (vote_rules hash t.epochs) t.id (state_of t) p
   own_row p = ap (λ (x : Epochs). option_map_or (λ at. list_any (is_row_at at p.payload) s.came.parts) (place x p.epoch t.id) false) stands.epochs ∙ (at (place t.epochs p.epoch t.id) refl ∙ sym (own_at p.payload t.own (place t.epochs p.epoch t.id)))
     where
       at : (o : Option ℕ) → place t.epochs p.epoch t.id ≡ o → option_map_or (λ at. list_any (is_row_at at p.payload) s.came.parts) (place t.epochs p.epoch t.id) false ≡ option_map_or (λ at. list_any (is_own_at at p.payload) t.own) (place t.epochs p.epoch t.id) false
       at None e = rw e refl
       at (Some n) e = rw e (stands.own p.epoch n p.payload e)
 
-  notarize_same : (p : Proposal) → notarize_owed r t.id s p ≡ notarize_owed (rules_of hash t.epochs) t.id (state_of t) p
+  notarize_same : (p : Proposal) → notarize_owed r t.id s p ≡ notarize_owed (vote_rules hash t.epochs) t.id (state_of t) p
   notarize_same p = λ i. notarize_with (rules_with (stands.epochs i) (stands.hash_same i) (stands.blocks i) (stands.contexts i)) t.id (stands.notes i) (stands.ballots i) (own_row p i) p
 
   pub notarize_agrees : first_some (notarize_owed r t.id s) (named_proposals s) ≡ owing.notarize_owed hash t
-  notarize_agrees = first_same (notarize_owed r t.id s) (notarize_owed (rules_of hash t.epochs) t.id (state_of t)) notarize_same (named_proposals s) ∙ (λ i. first_some (notarize_owed (rules_of hash t.epochs) t.id (state_of t)) (named_proposals (state_with (stands.notes i) (stands.ballots i))))
+  notarize_agrees = first_same (notarize_owed r t.id s) (notarize_owed (vote_rules hash t.epochs) t.id (state_of t)) notarize_same (named_proposals s) ∙ (λ i. first_some (notarize_owed (vote_rules hash t.epochs) t.id (state_of t)) (named_proposals (state_with (stands.notes i) (stands.ballots i))))
+
+  pub certified_agrees : first_some (certified_owed r s) (named_proposals s) ≡ option_map Note.Certified (find (block_fits r t.notes) (owing.uncertified t))
+  certified_agrees =
+      (λ i. first_some (certified_owed r (state_with (stands.notes i) (stands.ballots i))) (named_proposals (state_with (stands.notes i) (stands.ballots i))))
+      ∙ certified_found r t
+
+  genesis_same : types.genesis_commitment hash ≡ genesis_commitment r
+  genesis_same = sym (λ i. genesis_commitment (rules_with (stands.epochs i) (stands.hash_same i) (stands.blocks i) (stands.contexts i)))
+
+  over_same : (epoch below : ℕ) (o : Option (ℕ × Commitment)) → owing.parent_over (types.genesis_commitment hash) t.notes epoch below ≡ o → owing.parent_over (genesis_commitment r) t.notes epoch below ≡ o
+  over_same epoch below o e = subst (λ c. owing.parent_over c t.notes epoch below ≡ o) genesis_same e
+
+  pub parent_starts : (epoch : ℕ) → best_parent r s.notes epoch (view_of s.notes epoch) ≡ best_from r t.notes epoch (view_of t.notes epoch)
+  parent_starts epoch = ap (λ notes. best_parent r notes epoch (view_of notes epoch)) stands.notes ∙ best_start r t.notes epoch
+
+  pub parent_missing : (epoch below : ℕ) → owing.parent_over (types.genesis_commitment hash) t.notes epoch below ≡ None → best_from r t.notes epoch below ≡ None
+  parent_missing epoch below e = best_none r t.notes epoch below (over_same epoch below None e)
+
+  pub parent_held : (epoch below view : ℕ) (c : Commitment) (b : Block) → owing.parent_over (types.genesis_commitment hash) t.notes epoch below ≡ Some (view, c) → held r t.notes c ≡ Some b → best_from r t.notes epoch below ≡ Some (view, c, b)
+  parent_held epoch below view c b e h = best_held r t.notes epoch below view c b (over_same epoch below (Some (view, c)) e) h
+
+  pub parent_next : (epoch below view : ℕ) (c : Commitment) → owing.parent_over (types.genesis_commitment hash) t.notes epoch below ≡ Some (view, c) → held r t.notes c ≡ None → best_from r t.notes epoch below ≡ best_from r t.notes epoch view
+  parent_next epoch below view c e h = best_next r t.notes epoch below view c (over_same epoch below (Some (view, c)) e) h

@@ -1,8 +1,9 @@
 -- What is owed may be counted.
-use Rattle.std.proofs.Common.{◌≡◌, ◌++◌, ℕ, Bool, true, false, List, [], ◌∷◌, map, Option, Some, None, refl, ◌∙◌, subst, if◌then◌else◌, option_map}
-use Rattle.std.specs.List.{filter_map, list_all}
+use Rattle.std.proofs.Common.{◌≡◌, ◌++◌, ℕ, Bool, true, false, List, [], ◌∷◌, map, Option, Some, None, IfSome, IsTrue, refl, sym, ◌∙◌, subst, if◌then◌else◌, option_map}
+use Rattle.std.specs.List.{filter_map, find, list_all}
 use Rattle.std.specs.Option.{option_or}
 use Rattle.std.proofs.lemmas.Bool.{and_from, and_parts}
+use Rattle.std.proofs.lemmas.Option.{same_Some}
 use Rattle.cw_base.specs.declared.hash.Digest32.{Digest32}
 use Rattle.cw_types.specs.Votes.{is_ordered, proposal_of, well_formed}
 use Rattle.cw_types.specs.declared.note.Note.{Note}
@@ -12,7 +13,7 @@ use Rattle.cw_types.specs.declared.vote.Vote.TheVariants.{Finalize, Notarize, Nu
 use Rattle.cw_rules.specs.Accepted.{Ballot, first_some}
 use Rattle.cw_rules.specs.Notes.{has_cert}
 use Rattle.cw_rules.specs.Owed.{ballot_vote, cert_owed, finalize_owed, named_proposals, named_votes, note_proposal, note_vote, notarize_owed, signers_of, when}
-use Rattle.voter.specs.Known.{Known, is_countable, rules_of, state_of}
+use Rattle.voter.specs.Known.{Known, is_countable, vote_rules, state_of}
 use Rattle.voter.specs.Owing as owing
 use Rattle.voter.specs.Standing.{is_formed}
 
@@ -72,7 +73,7 @@ formed_ballots [] a = refl
 formed_ballots (x ∷ xs) a = let p = and_parts (is_formed x) (list_all is_formed xs) a in and_from (well_formed (ballot_vote x)) (list_all well_formed (map ballot_vote xs)) p.0 (formed_ballots xs p.1)
 
 module _ (hash : List ℕ → Digest32) (t : Known) (notes : list_all is_countable t.notes ≡ true) (ballots : list_all is_formed t.ballots ≡ true) where
-  votes_formed : list_all well_formed (named_votes (state_of t)) ≡ true
+  pub votes_formed : list_all well_formed (named_votes (state_of t)) ≡ true
   votes_formed = all_more well_formed (map ballot_vote t.ballots) (filter_map note_vote t.notes) (formed_ballots t.ballots ballots) (all_found well_formed note_vote is_countable note_formed t.notes notes)
 
   proposals_ordered : list_all is_ordered (named_proposals (state_of t)) ≡ true
@@ -80,8 +81,8 @@ module _ (hash : List ℕ → Digest32) (t : Known) (notes : list_all is_countab
       (all_found is_ordered (λ x. proposal_of (ballot_vote x)) is_formed (λ x p h e. proposal_ordered (ballot_vote x) p h e) t.ballots ballots)
       (all_found is_ordered note_proposal is_countable note_ordered t.notes notes)
 
-  cert_counts : (v : Vote) (n : Note) → well_formed v ≡ true → cert_owed (rules_of hash t.epochs) t.id (state_of t) v ≡ Some n → is_countable n ≡ true
-  cert_counts v n h e = go (has_cert t.notes v) (signers_of (rules_of hash t.epochs) t.id (state_of t) v) e
+  cert_counts : (v : Vote) (n : Note) → well_formed v ≡ true → cert_owed (vote_rules hash t.epochs) t.id (state_of t) v ≡ Some n → is_countable n ≡ true
+  cert_counts v n h e = go (has_cert t.notes v) (signers_of (vote_rules hash t.epochs) t.id (state_of t) v) e
     where
       go : (b : Bool) (o : Option (List ℕ)) → (if b then None else option_map (λ signers. Note.Cert (record { vote = v; signers = signers })) o) ≡ Some n → is_countable n ≡ true
       go true o k = cc
@@ -89,21 +90,43 @@ module _ (hash : List ℕ → Digest32) (t : Known) (notes : list_all is_countab
       go false (Some signers) k = let same : Note.Cert (record { vote = v; signers = signers }) ≡ n = cc in subst (λ m. is_countable m ≡ true) same h
 
   pub cert_countable : (n : Note) → owing.cert_owed hash t ≡ Some n → is_countable n ≡ true
-  cert_countable n e = first_passes well_formed (cert_owed (rules_of hash t.epochs) t.id (state_of t)) n (is_countable n ≡ true) (λ v h k. cert_counts v n h k) (named_votes (state_of t)) votes_formed e
+  cert_countable n e = first_passes well_formed (cert_owed (vote_rules hash t.epochs) t.id (state_of t)) n (is_countable n ≡ true) (λ v h k. cert_counts v n h k) (named_votes (state_of t)) votes_formed e
 
   when_counts : (b : Bool) (m n : Note) → is_countable m ≡ true → when b m ≡ Some n → is_countable n ≡ true
   when_counts true m n h k = let same : m ≡ n = cc in subst (λ x. is_countable x ≡ true) same h
   when_counts false m n h k = cc
 
+  -- a vote that is found among those that are named may be counted
+  pub found_formed : (p : Vote → Bool) (v : Vote) → find p (named_votes (state_of t)) ≡ Some v → well_formed v ≡ true
+  found_formed p v e = found_of (named_votes (state_of t)) votes_formed e
+    where
+      found_of : (vs : List Vote) → list_all well_formed vs ≡ true → find p vs ≡ Some v → well_formed v ≡ true
+      found_of [] a k = cc
+      found_of (w ∷ vs) a k = let q = and_parts (well_formed w) (list_all well_formed vs) a in go (p w) refl q.0 (found_of vs q.1)
+        where
+          go : (b : Bool) → p w ≡ b → well_formed w ≡ true → (find p vs ≡ Some v → well_formed v ≡ true) → well_formed v ≡ true
+          go true f here more = let same : w ≡ v = same_Some w v (rw f at k) in subst (λ x. well_formed x ≡ true) same here
+          go false f here more = more (rw f at k)
+
   pub vote_countable : (n : Note) → owing.vote_owed hash t ≡ Some n → is_countable n ≡ true
   vote_countable n e = go (owing.notarize_owed hash t) refl e
     where
       finalize : owing.finalize_owed hash t ≡ Some n → is_countable n ≡ true
-      finalize k = first_passes is_ordered (finalize_owed (rules_of hash t.epochs) t.id (state_of t)) n (is_countable n ≡ true) (λ p h m. when_counts _ (Note.Vote (Finalize p)) n h m) (named_proposals (state_of t)) proposals_ordered k
+      finalize k = first_passes is_ordered (finalize_owed (vote_rules hash t.epochs) t.id (state_of t)) n (is_countable n ≡ true) (λ p h m. when_counts _ (Note.Vote (Finalize p)) n h m) (named_proposals (state_of t)) proposals_ordered k
 
       notarize : owing.notarize_owed hash t ≡ Some n → is_countable n ≡ true
-      notarize k = first_passes is_ordered (notarize_owed (rules_of hash t.epochs) t.id (state_of t)) n (is_countable n ≡ true) (λ p h m. when_counts _ (Note.Vote (Notarize p)) n h m) (named_proposals (state_of t)) proposals_ordered k
+      notarize k = first_passes is_ordered (notarize_owed (vote_rules hash t.epochs) t.id (state_of t)) n (is_countable n ≡ true) (λ p h m. when_counts _ (Note.Vote (Notarize p)) n h m) (named_proposals (state_of t)) proposals_ordered k
 
       go : (o : Option Note) → owing.notarize_owed hash t ≡ o → option_or (owing.notarize_owed hash t) (owing.finalize_owed hash t) ≡ Some n → is_countable n ≡ true
       go (Some m) f k = notarize (f ∙ (rw f at k))
       go None f k = finalize (rw f at k)
+
+  -- so the vote that is given may be noted
+  pub given_countable : (o : Option Vote) → option_map Note.Vote o ≡ owing.vote_owed hash t → IfSome o (λ v. IsTrue (is_countable (Note.Vote v)))
+  given_countable None e = tt
+  given_countable (Some v) e = vote_countable (Note.Vote v) (sym e)
+
+  -- so may the vote that is found
+  pub found_counts : (p : Vote → Bool) (o : Option Vote) → o ≡ find p (named_votes (state_of t)) → IfSome o (λ v. IsTrue (well_formed v))
+  found_counts p None e = tt
+  found_counts p (Some v) e = found_formed p v (sym e)

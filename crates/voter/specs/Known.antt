@@ -41,9 +41,9 @@ is_countable _ = true
 
 -- ---- as the rules see it
 
--- the rules of these committees and of this hash, over blocks and contexts in their bytes. No vote and no certificate asks for the rest
-abbrev pub rules_of : (List ℕ → Digest32) → Epochs → Rules
-rules_of hash x = record {
+-- the rules of these committees and of this hash, over blocks and contexts in their bytes. Voting never asks for backlog, code, root, path, leads_to, text_of, read_block and accepts: tally_stands shows that any others do as well
+abbrev pub vote_rules : (List ℕ → Digest32) → Epochs → Rules
+vote_rules hash x = record {
   epochs = x;
   backlog = 0;
   hash = hash;

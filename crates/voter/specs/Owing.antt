@@ -14,23 +14,23 @@ use Rattle.cw_types.specs.declared.vote.Vote.TheVariants.{Notarize}
 use Rattle.cw_rules.specs.Accepted.{first_some}
 use Rattle.cw_rules.specs.Notes.{epoch_of, has_cert, has_certified, nullified, settled, view_of}
 use Rattle.cw_rules.specs.Owed as rule
-use Rattle.voter.specs.Known.{Known, rules_of, state_of}
+use Rattle.voter.specs.Known.{Known, vote_rules, state_of}
 
 -- the certificate that is owed
 abbrev pub cert_owed : (List ℕ → Digest32) → Known → Option Note
-cert_owed hash t = first_some (rule.cert_owed (rules_of hash t.epochs) t.id (state_of t)) (rule.named_votes (state_of t))
+cert_owed hash t = first_some (rule.cert_owed (vote_rules hash t.epochs) t.id (state_of t)) (rule.named_votes (state_of t))
 
 -- whether one of this vote is owed
 unfoldable pub owes_cert : (List ℕ → Digest32) → Known → Vote → Bool
-owes_cert hash t v = is_some (rule.cert_owed (rules_of hash t.epochs) t.id (state_of t) v)
+owes_cert hash t v = is_some (rule.cert_owed (vote_rules hash t.epochs) t.id (state_of t) v)
 
 -- the vote to notarize that is owed
 abbrev pub notarize_owed : (List ℕ → Digest32) → Known → Option Note
-notarize_owed hash t = first_some (rule.notarize_owed (rules_of hash t.epochs) t.id (state_of t)) (rule.named_proposals (state_of t))
+notarize_owed hash t = first_some (rule.notarize_owed (vote_rules hash t.epochs) t.id (state_of t)) (rule.named_proposals (state_of t))
 
 -- whether one of this proposal is owed
 unfoldable pub owes_notarize : (List ℕ → Digest32) → Known → Proposal → Bool
-owes_notarize hash t p = is_some (rule.notarize_owed (rules_of hash t.epochs) t.id (state_of t) p)
+owes_notarize hash t p = is_some (rule.notarize_owed (vote_rules hash t.epochs) t.id (state_of t) p)
 
 -- it is the proposal of the leader of the member's view, in which the member hasn't voted
 unfoldable pub is_turn : Known → Proposal → Bool
@@ -42,15 +42,15 @@ is_turn t p =
 
 -- the member can vote for it over the payload that is settled for its parent view
 unfoldable pub is_ready : (List ℕ → Digest32) → Known → Proposal → Bool
-is_ready hash t p = option_map_or (rule.is_ready (rules_of hash t.epochs) t.id (state_of t) p) (settled (genesis_commitment hash) t.notes p.epoch p.parent) false
+is_ready hash t p = option_map_or (rule.is_ready (vote_rules hash t.epochs) t.id (state_of t) p) (settled (genesis_commitment hash) t.notes p.epoch p.parent) false
 
 -- the vote to finalize that is owed
 abbrev pub finalize_owed : (List ℕ → Digest32) → Known → Option Note
-finalize_owed hash t = first_some (rule.finalize_owed (rules_of hash t.epochs) t.id (state_of t)) (rule.named_proposals (state_of t))
+finalize_owed hash t = first_some (rule.finalize_owed (vote_rules hash t.epochs) t.id (state_of t)) (rule.named_proposals (state_of t))
 
 -- whether one of this proposal is owed
 unfoldable pub owes_finalize : (List ℕ → Digest32) → Known → Proposal → Bool
-owes_finalize hash t p = is_some (rule.finalize_owed (rules_of hash t.epochs) t.id (state_of t) p)
+owes_finalize hash t p = is_some (rule.finalize_owed (vote_rules hash t.epochs) t.id (state_of t) p)
 
 -- the vote that is owed: one to notarize goes first
 abbrev pub vote_owed : (List ℕ → Digest32) → Known → Option Note

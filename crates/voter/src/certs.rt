@@ -1,16 +1,17 @@
 //! The certificate that a member owes.
 
-ghost use Rattle.std.specs.Prelude.{◌≡◌, ◌≤◌, ◌&&◌, ◌||◌, IfOk, filter, find, length, nat_le, not, option_map, unwrap_or};
+ghost use Rattle.std.specs.Prelude.{◌≡◌, ◌≤◌, ◌&&◌, ◌||◌, IfOk, IfSome, IsTrue, filter, find, length, nat_le, not, option_map, unwrap_or};
 ghost use Rattle.std.specs.List.{list_any};
 ghost use Rattle.std.specs.Option.{is_some};
 ghost use Rattle.cw_rules.specs.Notes.{has_cert};
 ghost use Rattle.cw_rules.specs.Owed as rule;
 ghost use Rattle.cw_types.specs.Epochs.{members_in, size};
 ghost use Rattle.cw_types.specs.Numbers.{quorum};
-ghost use Rattle.cw_types.specs.Votes.{vote_epoch};
+ghost use Rattle.cw_types.specs.Votes.{vote_epoch, well_formed};
 ghost use Rattle.cw_types.specs.declared.note.Note.{Note};
-ghost use Rattle.voter.specs.Known.{ballot_signers, certifies, rules_of, state_of};
+ghost use Rattle.voter.specs.Known.{ballot_signers, certifies, is_countable, state_of, vote_rules};
 ghost use Rattle.voter.specs.Owing as owing;
+ghost use Rattle.voter.specs.Standing.{are_signers};
 
 use crate::ballot::Ballot;
 use crate::notes;
@@ -116,7 +117,7 @@ impl<H: Hasher<Digest = Digest32>> Tally<H> {
     }
 
     // The first vote of which a certificate is owed.
-    fn first_owing(&self) -> Option<Vote>
+    fn first_certifiable(&self) -> Option<Vote>
         ensures { result ≡ find (owing.owes_cert H.digest_of self.now) (rule.named_votes (state_of self.now)) }
     {
         self.ballots
@@ -132,9 +133,18 @@ impl<H: Hasher<Digest = Digest32>> Tally<H> {
             .find(|vote| self.owes_cert(vote))
     }
 
+    // The same: it may be counted.
+    fn first_owing(&self) -> Option<Vote>
+        ensures value { result ≡ find (owing.owes_cert H.digest_of self.now) (rule.named_votes (state_of self.now)) }
+        ensures formed { IfSome result (λ vote. IsTrue (well_formed vote)) }
+    {
+        let _ = &self.notes;
+        self.first_certifiable()
+    }
+
     // The signers of the first certificate of the vote that came, else those that are known.
-    fn signers(&self, alloc: Global, vote: &Vote) -> Result<Items<u16>, NoMemory>
-        ensures { IfOk result (λ signers. signers ≡ unwrap_or (option_map ballot_signers (find (certifies vote.now) self.now.ballots)) (rule.known (rules_of H.digest_of self.now.epochs) self.now.id (state_of self.now) vote.now)) }
+    fn chosen(&self, alloc: Global, vote: &Vote) -> Result<Items<u16>, NoMemory>
+        ensures { IfOk result (λ signers. signers ≡ unwrap_or (option_map ballot_signers (find (certifies vote.now) self.now.ballots)) (rule.known (vote_rules H.digest_of self.now.epochs) self.now.id (state_of self.now) vote.now)) }
     {
         let signers = match self.first_cert(vote) {
             Some(ballot) => Vec::from_slice(alloc, ballot.signers())?,
@@ -143,12 +153,28 @@ impl<H: Hasher<Digest = Digest32>> Tally<H> {
         Ok(Items::from_vec(signers))
     }
 
+    // The same: they may sign the vote.
+    fn signers(&self, alloc: Global, vote: &Vote) -> Result<Items<u16>, NoMemory>
+        ensures value { IfOk result (λ signers. signers ≡ unwrap_or (option_map ballot_signers (find (certifies vote.now) self.now.ballots)) (rule.known (vote_rules H.digest_of self.now.epochs) self.now.id (state_of self.now) vote.now)) }
+        ensures signed { IfOk result (λ signers. IsTrue (are_signers self.now.epochs vote.now signers)) }
+        ensures few { IfOk result (λ signers. length signers ≤ 65535) }
+    {
+        // No committee has more members than there are, so their number fits.
+        let _total = self.committees.total();
+        let _members = self.committees.members(vote.epoch());
+        let signers = self.chosen(alloc, vote)?;
+        Ok(signers)
+    }
+
     /// The certificate that the member owes: of the first vote without a noted one, in the order of
     /// what came and then of the notes, of which a certificate came or a quorum is known to have
     /// signed. Its signers are those of the first certificate of the vote that came, else all that
-    /// are known, rising.
+    /// are known, rising. It can be noted, and at most 65,535 members sign it.
     pub fn owed_cert(&self, alloc: Global) -> Result<Option<Cert>, NoMemory>
-        ensures { IfOk result (λ owed. option_map Note.Cert owed ≡ owing.cert_owed H.digest_of self.now) }
+        ensures value { IfOk result (λ owed. option_map Note.Cert owed ≡ owing.cert_owed H.digest_of self.now) }
+        ensures countable { IfOk result (λ owed. IfSome owed (λ cert. IsTrue (is_countable (Note.Cert cert)))) }
+        ensures signed { IfOk result (λ owed. IfSome owed (λ cert. IsTrue (are_signers self.now.epochs cert.vote cert.signers))) }
+        ensures few { IfOk result (λ owed. IfSome owed (λ cert. length cert.signers ≤ 65535)) }
     {
         match self.first_owing() {
             Some(vote) => {

@@ -1,7 +1,7 @@
 //! What a member knows of votes and certificates, and what it owes by it: the tally.
 //!
-//! Each call is the cluster rules' own function of what the tally was told. The bodies scan plain
-//! lists.
+//! Each call is a function of what the tally was told. `tally_stands` and `parent_stands` say how its
+//! answers are those of the cluster rules. The bodies scan plain lists.
 #![tactic(auto)]
 
 mod ballot;
@@ -15,7 +15,10 @@ mod proposals;
 mod tally;
 mod votes;
 
-pub use laws::{chain_laws, owed_is_countable, tally_stands};
+pub use laws::{
+    chain_laws, owed_is_countable, parent_stands, standing_is_kept, tally_is_countable,
+    tally_stands,
+};
 pub use own::OwnChunk;
 pub use tally::Tally;
 

@@ -7,6 +7,7 @@ ghost use Rattle.cw_rules.specs.Notes as rule;
 ghost use Rattle.cw_types.specs.Commit.{genesis_commitment};
 ghost use Rattle.cw_types.specs.Votes as votes;
 ghost use Rattle.voter.specs.Known.{is_countable, unknowing, with_ballot, with_note, with_own};
+ghost use Rattle.voter.specs.Standing.{are_signers};
 
 use crate::ballot::Ballot;
 use crate::notes;
@@ -32,15 +33,14 @@ pub struct Tally<H> {
 }
 
 impl<H> Model for Tally<H> {
-    ghost use Rattle.std.specs.Prelude.{IsTrue};
-    ghost use Rattle.std.specs.List.{list_all};
-    ghost use Rattle.voter.specs.Known.{Known, is_countable};
+    ghost use Rattle.voter.specs.Known.{Known};
+    ghost use Rattle.voter.specs.Standing.{AreCountable};
 
     ghost Value = { Known };
 
     ghost view = { λ t. record { epochs = t.committees; id = t.id; notes = t.notes; ballots = t.ballots; own = t.own } };
 
-    ghost invariant = { λ t. IsTrue (list_all is_countable t.notes) };
+    ghost invariant = { λ t. AreCountable t.committees t.notes t.ballots };
 }
 
 impl<H: Hasher<Digest = Digest32>> Tally<H> {
@@ -87,7 +87,7 @@ impl<H> Tally<H> {
         Ok(())
     }
 
-    /// Takes a vote that this member signed; true exactly where it wasn't there. Where memory is
+    /// Takes a vote that member `signer` signed; true exactly where it wasn't there. Where memory is
     /// short nothing changes.
     pub fn take_vote(&mut self, signer: u16, vote: &Vote) -> Result<bool, NoMemory>
         requires { IsTrue (votes.well_formed vote.now) }
@@ -102,10 +102,11 @@ impl<H> Tally<H> {
         Ok(true)
     }
 
-    /// Takes a valid certificate; true exactly where it wasn't there. Where memory is short nothing
-    /// changes.
+    /// Takes a valid certificate, whose signers rise and are members of its epoch; true exactly where it
+    /// wasn't there. Where memory is short nothing changes.
     pub fn take_cert(&mut self, cert: &Cert) -> Result<bool, NoMemory>
-        requires { IsTrue (votes.well_formed cert.now.vote) }
+        requires formed { IsTrue (votes.well_formed cert.now.vote) }
+        requires signed { IsTrue (are_signers self.old.epochs cert.now.vote cert.now.signers) }
         ensures ok { OnOk result (self.new ≡ with_ballot self.old (Many cert.now)) }
         ensures fresh { IfOk result (λ fresh. fresh ≡ not (list_any (same_ballot (Many cert.now)) self.old.ballots)) }
         ensures err { OnErr result (self.new ≡ self.old) }

@@ -1,10 +1,13 @@
-ghost use Rattle.std.specs.Prelude.{◌≡◌, ◌<◌};
+ghost use Rattle.std.specs.Prelude.{[], ◌≡◌, ◌<◌, ◌∷◌, ◌-◌, ◌^◌, IfOk};
+ghost use Rattle.cw_types.specs.Epochs.{single};
+ghost use Rattle.cw_types.specs.declared.vote.Vote.TheVariants.{Nullify};
 ghost use Rattle.voter.specs.Known.{is_countable};
 
 use crate::*;
 use cw_base::{Config, Digest32, Items, SumHasher};
 use cw_types::{
-    Cert, Commitment, Committees, Note, Proposal, Vote, genesis_commitment, well_formed,
+    Cert, ChainBlock, Commitment, Committees, Context, Note, Payload, Proposal, Vote,
+    genesis_commitment, well_formed,
 };
 use std::alloc::Global;
 use std::num::NonZeroU16;
@@ -15,6 +18,7 @@ const NULLIFY: Vote = Vote::Nullify { epoch: 0, view: 1 };
 // a member of a cluster of four
 fn tally(alloc: Global, id: u16) -> Result<Tally<SumHasher>, Fail>
     requires { id < 4 }
+    ensures { IfOk result (λ tally. tally.epochs ≡ single 4) }
 {
     Ok(Tally::new(alloc, Committees::single(alloc, 4)?, id))
 }
@@ -26,10 +30,11 @@ fn take_vote(tally: &mut Tally<SumHasher>, signer: u16, vote: &Vote) -> Result<b
     Ok(tally.take_vote(signer, vote)?)
 }
 
-fn take_cert(tally: &mut Tally<SumHasher>, cert: &Cert) -> Result<bool, Fail> {
-    if !well_formed(&cert.vote) {
-        return Err("a vote that may be counted".into());
-    }
+// members 1, 2 and 3 of a cluster of four nullified view 1
+fn take_cert(tally: &mut Tally<SumHasher>, cert: &Cert) -> Result<bool, Fail>
+    requires four { tally.old.epochs ≡ single 4 }
+    requires signed { cert.now ≡ record { vote = Nullify 0 1; signers = 1 ∷ 2 ∷ 3 ∷ [] } }
+{
     Ok(tally.take_cert(cert)?)
 }
 
@@ -53,7 +58,9 @@ fn take_note(tally: &mut Tally<SumHasher>, note: Note) -> Result<(), Fail> {
     Ok(())
 }
 
-fn cert(alloc: Global, vote: Vote, signers: &[u16]) -> Result<Cert, Fail> {
+fn cert(alloc: Global, vote: Vote, signers: &[u16]) -> Result<Cert, Fail>
+    ensures { IfOk result (λ cert. cert ≡ record { vote = vote; signers = signers.now }) }
+{
     let signers = Items::from_vec(Vec::from_slice(alloc, signers)?);
     Ok(Cert { vote, signers })
 }
@@ -84,9 +91,10 @@ fn has_signers(alloc: Global, tally: &Tally<SumHasher>, want: &[u16]) -> Result<
 
 #[test]
 fn two_signers_and_no_third_owe_no_certificate(rt: HostRuntime) -> Result<(), Fail> {
-    assert!(rt; owes(rt.alloc(), &[0, 1], false, &[])?);
-    assert!(rt; owes(rt.alloc(), &[0, 1, 9], false, &[])?);
-    assert!(rt; owes(rt.alloc(), &[0, 0], true, &[])?);
+    let cases: [(&[u16], bool); 3] = [(&[0, 1], false), (&[0, 1, 9], false), (&[0, 0], true)];
+    for (signers, own) in cases {
+        assert!(rt; owes(rt.alloc(), signers, own, &[])?);
+    }
     Ok(())
 }
 
@@ -217,5 +225,105 @@ fn a_parent_is_settled_and_followed_by_nullified_views(rt: HostRuntime) -> Resul
     assert!(rt; tally.view(0) == 3);
     assert!(rt; tally.propose_parent(0, 3) == Some((1, first().payload)));
     assert!(rt; tally.propose_parent(0, 1).is_none());
+    Ok(())
+}
+
+#[test]
+fn a_view_is_settled_or_nullified(rt: HostRuntime) -> Result<(), Fail> {
+    let tally = in_third_view(rt.alloc())?;
+    assert!(rt; tally.settled(0, 1) == Some(first().payload));
+    assert!(rt; tally.settled(0, 2).is_none());
+    assert!(rt; tally.nullified(0, 2));
+    assert!(rt; !tally.nullified(0, 1));
+    Ok(())
+}
+
+// a member of two committees, 0 to 3 and then 1 to 4, for epochs of one height each
+fn in_two_committees(alloc: Global, id: u16) -> Result<Tally<SumHasher>, Fail>
+    requires { id < 5 }
+{
+    let mut lists = Vec::new(alloc);
+    lists.push([0u16, 1, 2, 3].to_vec(alloc)?)?;
+    lists.push([1u16, 2, 3, 4].to_vec(alloc)?)?;
+    Ok(Tally::new(alloc, Committees::new(alloc, 5, 1, &lists)?, id))
+}
+
+// a block of that height
+fn block(alloc: Global, height: u64) -> ChainBlock
+    requires { height < 2 ^ 64 - 1 }
+{
+    let context = Context {
+        epoch: 0,
+        view: 1,
+        leader: 1,
+        parent_view: 0,
+        parent: genesis_commitment::<SumHasher>(),
+    };
+    ChainBlock::new(context, Digest32([0; 32]), height, Payload::empty(alloc))
+}
+
+// the payload of view 1 again, in view 2
+fn again() -> Proposal {
+    Proposal {
+        parent: 1,
+        ..second()
+    }
+}
+
+// the vote that member 0 owes when a block of that height was certified in view 1, and the leader of
+// view 2 proposed it again
+fn vote_again(alloc: Global, height: u64) -> Result<Option<Vote>, Fail>
+    requires { height < 2 ^ 64 - 1 }
+{
+    let mut tally = in_two_committees(alloc, 0)?;
+    take_note(
+        &mut tally,
+        Note::Block(second().payload, block(alloc, height)),
+    )?;
+    take_note(&mut tally, Note::Certified(proposal(1, second().payload)))?;
+    take_vote(&mut tally, 2, &Vote::Notarize(again()))?;
+    Ok(tally.owed_vote())
+}
+
+#[test]
+fn the_last_block_of_an_epoch_is_voted_for_again(rt: HostRuntime) -> Result<(), Fail> {
+    let last = vote_again(rt.alloc(), 1)?;
+    assert!(rt; last == Some(Vote::Notarize(again())));
+    let past = vote_again(rt.alloc(), 2)?;
+    assert!(rt; past == Some(Vote::Finalize(proposal(1, second().payload))));
+    Ok(())
+}
+
+// a member of two committees is in epoch 1, where a proposal is certified
+fn in_second_epoch(alloc: Global, id: u16) -> Result<Tally<SumHasher>, Fail>
+    requires { id < 5 }
+{
+    let mut tally = in_two_committees(alloc, id)?;
+    take_note(&mut tally, Note::Epoch(1, second().payload))?;
+    take_note(
+        &mut tally,
+        Note::Certified(Proposal {
+            epoch: 1,
+            ..first()
+        }),
+    )?;
+    Ok(tally)
+}
+
+// whether it is there, and owes a vote
+fn votes_in_second_epoch(alloc: Global, id: u16) -> Result<bool, Fail>
+    requires { id < 5 }
+{
+    let tally = in_second_epoch(alloc, id)?;
+    if tally.epoch() != 1 {
+        return Err("an epoch that is entered".into());
+    }
+    Ok(tally.owed_vote().is_some())
+}
+
+#[test]
+fn only_members_of_an_epoch_vote_in_it(rt: HostRuntime) -> Result<(), Fail> {
+    assert!(rt; !votes_in_second_epoch(rt.alloc(), 0)?);
+    assert!(rt; votes_in_second_epoch(rt.alloc(), 4)?);
     Ok(())
 }

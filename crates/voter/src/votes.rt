@@ -1,6 +1,6 @@
 //! The vote that a member owes.
 
-ghost use Rattle.std.specs.Prelude.{◌≡◌, ◌==◌, ◌&&◌, ◌<◌, ◌-◌, ◌^◌, IfSome, None, Some, false, find, if◌then◌else◌, nat_lt, not, option_and_then, option_map};
+ghost use Rattle.std.specs.Prelude.{◌≡◌, ◌==◌, ◌&&◌, ◌<◌, ◌-◌, ◌^◌, IfSome, IsTrue, None, Some, false, find, if◌then◌else◌, nat_lt, not, option_and_then, option_map};
 ghost use Rattle.std.specs.List.{list_any};
 ghost use Rattle.std.specs.Option.{option_map_or};
 ghost use Rattle.cw_base.specs.Config.{same_shards};
@@ -12,7 +12,7 @@ ghost use Rattle.cw_types.specs.Commit.{genesis_commitment};
 ghost use Rattle.cw_types.specs.Epochs.{is_last, is_member, leader, place, size};
 ghost use Rattle.cw_types.specs.declared.note.Note.{Note};
 ghost use Rattle.cw_types.specs.declared.vote.Vote.{Vote};
-ghost use Rattle.voter.specs.Known.{is_own_at, noted_height, rules_of, state_of};
+ghost use Rattle.voter.specs.Known.{is_countable, is_own_at, noted_height, state_of, vote_rules};
 ghost use Rattle.voter.specs.Owing as owing;
 
 use crate::context::context_digest;
@@ -99,7 +99,7 @@ impl<H> Tally<H> {
 impl<H: Hasher<Digest = Digest32>> Tally<H> {
     // The height of the held block under a commitment.
     fn held_height(&self, commitment: &Commitment) -> Option<u64>
-        ensures value { result ≡ option_map (λ b. b.height) (held (rules_of H.digest_of self.now.epochs) self.now.notes commitment.now) }
+        ensures value { result ≡ option_map (λ b. b.height) (held (vote_rules H.digest_of self.now.epochs) self.now.notes commitment.now) }
         ensures bound { IfSome result (λ height. height < 2 ^ 64 - 1) }
     {
         if commitment.is_same(&genesis_commitment::<H>()) {
@@ -110,7 +110,7 @@ impl<H: Hasher<Digest = Digest32>> Tally<H> {
 
     // Whether the payload is one for the proposal over that parent.
     fn is_payload_for(&self, proposal: &Proposal, parent: &Commitment) -> bool
-        ensures { result ≡ rule.is_payload_for (rules_of H.digest_of self.now.epochs) proposal.now parent.now }
+        ensures { result ≡ rule.is_payload_for (vote_rules H.digest_of self.now.epochs) proposal.now parent.now }
     {
         let context = Context {
             epoch: proposal.epoch,
@@ -125,7 +125,7 @@ impl<H: Hasher<Digest = Digest32>> Tally<H> {
 
     // Whether the proposal is of the settled payload again, the last block of its epoch.
     fn is_again(&self, proposal: &Proposal, parent: &Commitment) -> bool
-        ensures { result ≡ rule.is_again (rules_of H.digest_of self.now.epochs) self.now.notes proposal.now parent.now }
+        ensures { result ≡ rule.is_again (vote_rules H.digest_of self.now.epochs) self.now.notes proposal.now parent.now }
     {
         proposal.payload.is_same(parent)
             && 0 < proposal.parent
@@ -134,7 +134,7 @@ impl<H: Hasher<Digest = Digest32>> Tally<H> {
 
     // Whether the held block under the commitment is the last of the epoch.
     fn is_last_held(&self, epoch: u64, commitment: &Commitment) -> bool
-        ensures { result ≡ option_map_or (λ a. is_last self.now.epochs epoch a.height) (held (rules_of H.digest_of self.now.epochs) self.now.notes commitment.now) false }
+        ensures { result ≡ option_map_or (λ a. is_last self.now.epochs epoch a.height) (held (vote_rules H.digest_of self.now.epochs) self.now.notes commitment.now) false }
     {
         match self.held_height(commitment) {
             Some(height) => self.is_last(epoch, height),
@@ -144,14 +144,14 @@ impl<H: Hasher<Digest = Digest32>> Tally<H> {
 
     // Whether the chunk of the proposal's payload at the member's own place came.
     fn has_own_row(&self, proposal: &Proposal) -> bool
-        ensures { result ≡ rule.has_own_row (rules_of H.digest_of self.now.epochs) self.now.id (state_of self.now) proposal.now }
+        ensures { result ≡ rule.has_own_row (vote_rules H.digest_of self.now.epochs) self.now.id (state_of self.now) proposal.now }
     {
         self.has_own_chunk(proposal)
     }
 
     // Whether the member can vote for the proposal over that parent.
     fn is_ready(&self, proposal: &Proposal, parent: &Commitment) -> bool
-        ensures { result ≡ rule.is_ready (rules_of H.digest_of self.now.epochs) self.now.id (state_of self.now) proposal.now parent.now }
+        ensures { result ≡ rule.is_ready (vote_rules H.digest_of self.now.epochs) self.now.id (state_of self.now) proposal.now parent.now }
     {
         (self.has_own_row(proposal) && self.is_payload_for(proposal, parent))
             || self.is_again(proposal, parent)
@@ -260,15 +260,24 @@ impl<H: Hasher<Digest = Digest32>> Tally<H> {
         }
     }
 
-    /// The vote that the member owes: to notarize the proposal of its view's leader for which all is
-    /// there, else to finalize what is certified in a view that it hasn't closed. Of several proposals
-    /// it is the first, in the order of what came and then of the notes. Takes no memory.
-    pub fn owed_vote(&self) -> Option<Vote>
+    // The vote that the member owes: one to notarize goes first.
+    fn first_owed(&self) -> Option<Vote>
         ensures { option_map Note.Vote result ≡ owing.vote_owed H.digest_of self.now }
     {
         match self.owed_notarize() {
             Some(vote) => Some(vote),
             None => self.owed_finalize(),
         }
+    }
+
+    /// The vote that the member owes: to notarize the proposal of its view's leader for which all is
+    /// there, else to finalize what is certified in a view that it hasn't closed. Of several proposals
+    /// it is the first, in the order of what came and then of the notes. It can be noted. Takes no memory.
+    pub fn owed_vote(&self) -> Option<Vote>
+        ensures value { option_map Note.Vote result ≡ owing.vote_owed H.digest_of self.now }
+        ensures countable { IfSome result (λ vote. IsTrue (is_countable (Note.Vote vote))) }
+    {
+        let _ = &self.notes;
+        self.first_owed()
     }
 }

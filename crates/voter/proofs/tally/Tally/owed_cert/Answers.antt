@@ -1,17 +1,17 @@
 use Rattle.std.proofs.Common.{Some, ap, ◌∙◌, sym}
 use Rattle.cw_types.specs.declared.note.Note.{Note}
-use Rattle.voter.specs.Known.{rules_of, state_of}
+use Rattle.voter.specs.Known.{vote_rules, state_of}
 use Rattle.voter.specs.Owing.{owes_cert}
 use Rattle.voter.proofs.Certified.{cert_found, cert_missing}
 use Rattle.voter.proofs.tally.Tally.owed_cert.Goals as goal
 
-pub returns-in_ok-signers-in-Some : goal.returns-in_ok-signers-in-Some
+pub returns-in_ok-signers-in-Some-clause-value : goal.returns-in_ok-signers-in-Some-clause-value
 unfolding owes_cert
-returns-in_ok-signers-in-Some g c =
-    ap (λ xs. Some (Note.Cert (record { vote = c.in-Some.vote; signers = xs }))) c.in_ok-signers-in-Some.ensures
-    ∙ sym (cert_found (rules_of g.H.Hasher.digest_of c.args.self.now.epochs) c.args.self.now.id (state_of c.args.self.now) c.first_owing.result c.in-Some.vote c.first_owing.ensures c.in-Some.is)
+returns-in_ok-signers-in-Some-clause-value g c =
+    ap (λ xs. Some (Note.Cert (record { vote = c.in-Some.vote; signers = xs }))) c.in_ok-signers-in-Some.ensures.value
+    ∙ sym (cert_found (vote_rules g.H.Hasher.digest_of c.args.self.now.epochs) c.args.self.now.id (state_of c.args.self.now) c.first_owing.result c.in-Some.vote c.first_owing.ensures.value c.in-Some.is)
 
-pub returns-in-None : goal.returns-in-None
+pub returns-in-None-clause-value : goal.returns-in-None-clause-value
 unfolding owes_cert
-returns-in-None g c =
-    sym (cert_missing (rules_of g.H.Hasher.digest_of c.args.self.now.epochs) c.args.self.now.id (state_of c.args.self.now) c.first_owing.result c.first_owing.ensures c.in-None.is)
+returns-in-None-clause-value g c =
+    sym (cert_missing (vote_rules g.H.Hasher.digest_of c.args.self.now.epochs) c.args.self.now.id (state_of c.args.self.now) c.first_owing.result c.first_owing.ensures.value c.in-None.is)

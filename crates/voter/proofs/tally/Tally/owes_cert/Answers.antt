@@ -1,9 +1,9 @@
 use Rattle.std.proofs.Common.{◌∙◌, sym}
-use Rattle.voter.specs.Known.{rules_of, state_of}
+use Rattle.voter.specs.Known.{vote_rules, state_of}
 use Rattle.voter.specs.Owing.{owes_cert}
 use Rattle.voter.proofs.Certified.{cert_where}
 use Rattle.voter.proofs.tally.Tally.owes_cert.Goals as goal
 
 pub returns : goal.returns
 unfolding owes_cert
-returns g c = c.is_certifiable.ensures ∙ sym (cert_where (rules_of g.H.Hasher.digest_of c.args.self.now.epochs) c.args.self.now.id (state_of c.args.self.now) c.args.vote.now)
+returns g c = c.is_certifiable.ensures ∙ sym (cert_where (vote_rules g.H.Hasher.digest_of c.args.self.now.epochs) c.args.self.now.id (state_of c.args.self.now) c.args.vote.now)
