@@ -33,14 +33,14 @@ chunks_with c kept x = chunks_more c kept c x ∙ ap (λ b. chunks_of c kept ++ 
 counted : (c : Commitment) (kept : List KeptChunk) → length (chunks_of c kept) ≡ count c kept
 counted c kept = length-map (filter (λ (k : KeptChunk). same_commitment c k.commitment) kept) (λ (k : KeptChunk). k.chunk)
 
-all_under : (hash : List ℕ → Digest32) (epochs : Epochs) (c : Commitment) (xs : List Chunk) → AllByRecursion (λ x. IsTrue (is_chunk_of (rules_of hash epochs) c x)) xs → AreUnder hash epochs c xs
+all_under : (hash : List ℕ → Digest32) (epochs : Epochs) (c : Commitment) (xs : List Chunk) → AllByRecursion (λ x. IsTrue (is_chunk_of (rules_of hash epochs) c x)) xs → AreUnder hash c xs
 all_under hash epochs c [] a = tt
 all_under hash epochs c (x ∷ xs) a =
     ((and_parts (list_any (λ (list : List ℕ). same_shards c.config (config_for (length list))) epochs.lists) (is_under (rules_of hash epochs) c x) a.0).1, all_under hash epochs c xs a.1)
 
 -- k chunks that are kept are enough
 pub enough_kept : (hash : List ℕ → Digest32) (epochs : Epochs) (kept : List KeptChunk) (c : Commitment) (x : Chunk) → AreKept (rules_of hash epochs) kept → is_known kept c x ≡ false
-    → is_chunk_of (rules_of hash epochs) c x ≡ true → 2 ≤ c.config.minimum → total_of c.config ≤ 65535 → count c kept ≡ c.config.minimum - 1 → AreEnough hash epochs c (chunks_of c kept ++ x ∷ [])
+    → is_chunk_of (rules_of hash epochs) c x ≡ true → 2 ≤ c.config.minimum → total_of c.config ≤ 65535 → count c kept ≡ c.config.minimum - 1 → AreEnough hash c (chunks_of c kept ++ x ∷ [])
 enough_kept hash epochs kept c x are new taken some few n =
     let more = keep_more (rules_of hash epochs) kept c x are new taken in
     record {

@@ -113,7 +113,7 @@ all_in_order P k cs e h =
 module _ (hash : List ℕ → Digest32) (epochs : Epochs) (c : Commitment) where
   -- ---- from what is decoded
 
-  rows_of_text : (text : List ℕ) (chunks : List Chunk) → total_of c.config ≤ 65535 → AreUnder hash epochs c chunks
+  rows_of_text : (text : List ℕ) (chunks : List Chunk) → total_of c.config ≤ 65535 → AreUnder hash c chunks
       → AllByRecursion (λ (y : Checked Digest32). y.shard ≡ row_at c.config.minimum text y.index) (map (checked_of hash c) chunks)
       → AllByRecursion (λ (x : Chunk). slice_get (code_rows text c.config.minimum c.config.extra) x.index ≡ Some x.shard) chunks
   rows_of_text text [] few u a = tt
@@ -122,7 +122,7 @@ module _ (hash : List ℕ → Digest32) (epochs : Epochs) (c : Commitment) where
       (listed_at (c.config.minimum + c.config.extra) (row_at c.config.minimum text) x.index stands.within ∙ ap Some (sym a.0), rows_of_text text xs few u.1 a.1)
 
   -- chunks that are decoded to a text are rows of its codeword
-  pub of_text : (chunks : List Chunk) (text : List ℕ) → IsCoder (rules_of hash epochs) → AreEnough hash epochs c chunks → AreByteChunks chunks
+  pub of_text : (chunks : List Chunk) (text : List ℕ) → IsCoder (rules_of hash epochs) → AreEnough hash c chunks → AreByteChunks chunks
       → IsDecoding hash digest_bytes c.config c.root (map (checked_of hash c) chunks) text → AreOfText hash c chunks text
   of_text chunks text coder are bytes d =
       let two = are.some in
@@ -136,7 +136,7 @@ module _ (hash : List ℕ → Digest32) (epochs : Epochs) (c : Commitment) where
 
   -- ---- from what is refused
 
-  chunks_of_text : (text : List ℕ) (chunks : List Chunk) → total_of c.config ≤ 65535 → AreUnder hash epochs c chunks
+  chunks_of_text : (text : List ℕ) (chunks : List Chunk) → total_of c.config ≤ 65535 → AreUnder hash c chunks
       → AllByRecursion (λ (x : Chunk). slice_get (code_rows text c.config.minimum c.config.extra) x.index ≡ Some x.shard) chunks
       → AllByRecursion (IsChunkOf c.config text c.root) (map (checked_of hash c) chunks)
   chunks_of_text text [] few u a = tt
@@ -149,14 +149,14 @@ module _ (hash : List ℕ → Digest32) (epochs : Epochs) (c : Commitment) where
   elsewhere i (x ∷ xs) a zero l e = a.0 (sym e)
   elsewhere i (x ∷ xs) a (suc k) l e = elsewhere i xs a.1 k (omega arith) e
 
-  sound_indices : (chunks : List Chunk) → total_of c.config ≤ 65535 → AreUnder hash epochs c chunks → AreApart chunks → AreSound (total_of c.config) (indices_of (map (checked_of hash c) chunks))
+  sound_indices : (chunks : List Chunk) → total_of c.config ≤ 65535 → AreUnder hash c chunks → AreApart chunks → AreSound (total_of c.config) (indices_of (map (checked_of hash c) chunks))
   sound_indices [] few u a = tt
   sound_indices (x ∷ xs) few u a =
       let stands = stands_under hash epochs c x few u.0 in
       (stands.within, λ h. elsewhere x.index xs a.0 h.0 h.1 h.2, sound_indices xs few u.1 a.1)
 
   -- chunks that are refused, and not for want of memory, are of no text
-  pub of_no_text : (chunks : List Chunk) (e : ReedSolomonError) → IsCoder (rules_of hash epochs) → AnyEnoughDecode hash digest_bytes → AreEnough hash epochs c chunks
+  pub of_no_text : (chunks : List Chunk) (e : ReedSolomonError) → IsCoder (rules_of hash epochs) → AnyEnoughDecode hash digest_bytes → AreEnough hash c chunks
       → IsRefusal hash digest_bytes c.config c.root (map (checked_of hash c) chunks) e → e ≢ NoMemory → (text : List ℕ) → AreOfText hash c chunks text → ⊥
   of_no_text chunks e coder any are refusal other text of =
       let two = are.some in

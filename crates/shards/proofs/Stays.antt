@@ -1,11 +1,15 @@
 -- What is kept shows what a member is shown, and what enough chunks show stays.
-use Rattle.std.proofs.Common.{◌≡◌, ℕ, zero, suc, ◌+◌, ◌≤◌, Bool, true, false, ◌==◌, if◌then◌else◌, List, [], ◌∷◌, ◌++◌, length, map, take, Option, Some, None, option_and_then, filter_map, refl, sym, ◌∙◌, ap, arith, eqb-true, length-append}
+use Rattle.std.proofs.Common.{◌≡◌, ℕ, zero, suc, ◌+◌, ◌≤◌, Bool, true, false, ◌==◌, if◌then◌else◌, List, [], ◌∷◌, ◌++◌, length, map, take, Option, Some, None, option_and_then, filter_map, refl, sym, ◌∙◌, ap, subst, arith, ◌<◌, ◌⊎◌, inl, inr, append-nil, eq-eqb, eqb-true, length-append}
 use Rattle.std.specs.Option.{option_or}
+use Rattle.std.proofs.lemmas.Bool.{cases_Bool, cases_lt}
+use Rattle.std.proofs.lemmas.List.{take_all}
+use Rattle.cw_base.specs.Shards.{Shards}
 use Rattle.cw_base.specs.declared.hash.Digest32.{Digest32}
 use Rattle.cw_types.specs.Block.{Block}
 use Rattle.cw_types.specs.Same.{same_commitment}
 use Rattle.cw_types.specs.declared.commitment.Commitment.{Commitment}
 use Rattle.cw_rules.specs.Accepted.{Came, Part, Row, Whole, first_some, is_chunk_of}
+use Rattle.cw_rules.specs.Coding.{IsCoder}
 use Rattle.cw_rules.specs.Held.{if_committed, row_of, shown, whole_of}
 use Rattle.cw_rules.specs.Rules.{Chunk, Rules, block_of}
 use Rattle.shards.specs.Kept.{Gathered, came_of, chunks_of, is_known, part_of, rules_of, with_chunk}
@@ -15,7 +19,8 @@ use Rattle.shards.specs.declared.pieces.KeptChunk.{KeptChunk}
 use Rattle.shards.specs.declared.verdict.Verdict.{Verdict}
 use Rattle.shards.specs.declared.verdict.Verdict.TheVariants.{Foreign, Garbage, Held, Kept, Known}
 use Rattle.shards.proofs.Answered.{chunks_with}
-use Rattle.shards.proofs.KeptLemmas.{none_whole, rows_kept}
+use Rattle.shards.proofs.KeptLemmas.{chunks_more, none_whole, rows_kept}
+use Rattle.shards.proofs.SameLemmas.{same_commitment-true}
 
 -- what the first k chunks that are kept of a commitment show
 pub shown_first : (r : Rules) (kept : List KeptChunk) (c : Commitment) → shown r (came_of kept) c ≡ option_and_then (if_committed r c) (block_of r c.config (take c.config.minimum (chunks_of c kept)))
@@ -98,3 +103,74 @@ module _ (r : Rules) (kept more : List KeptChunk) (c : Commitment) (x : Chunk) w
 
   pub garbage_stays : verdict r kept c x ≡ Garbage → shown r (came_of (kept_after r kept c x ++ more)) c ≡ None
   garbage_stays = shows Garbage None (λ e. cc) (λ e. cc) (λ e. cc) shown_garbage (is_known kept c x) (is_chunk_of r c x) (length (chunks_of c kept) + 1 == c.config.minimum) refl
+
+-- ---- of a chunk that shows no block
+
+-- fewer than k chunks show nothing
+few_are_none : (r : Rules) → IsCoder r → (x : Shards) (chunks : List Chunk) → length chunks < x.minimum → block_of r x chunks ≡ None
+few_are_none r coder x chunks few = go (r.text_of x chunks) refl
+  where
+    go : (o : Option (List ℕ)) → r.text_of x chunks ≡ o → option_and_then r.read_block (r.text_of x chunks) ≡ None
+    go None e = rw e refl
+    go (Some text) e = absurd (let long = (coder.sound x chunks text e).0 in omega arith)
+
+few_show_none : (r : Rules) → IsCoder r → (kept : List KeptChunk) (c : Commitment) → length (chunks_of c kept) < c.config.minimum → shown r (came_of kept) c ≡ None
+few_show_none r coder kept c few =
+    shown_first r kept c
+    ∙ (ap (λ xs. option_and_then (if_committed r c) (block_of r c.config xs)) (take_all c.config.minimum (chunks_of c kept) (omega (arith, few)))
+    ∙ ap (option_and_then (if_committed r c)) (few_are_none r coder c.config (chunks_of c kept) few))
+
+none_held : (o : Option Block) → ((b : Block) → of_shown o ≡ Held b → ⊥) → o ≡ None
+none_held None unheld = refl
+none_held (Some b) unheld = absurd (unheld b refl)
+
+-- a chunk leaves what is shown of another commitment
+pub others_stay : (r : Rules) (kept : List KeptChunk) (c d : Commitment) (x : Chunk) → same_commitment d c ≡ false → shown r (came_of (kept_after r kept c x)) d ≡ shown r (came_of kept) d
+others_stay r kept c d x other = go (is_known kept c x) (is_chunk_of r c x)
+  where
+    go : (known taken : Bool) → shown r (came_of (if known then kept else if taken then with_chunk kept c x else kept)) d ≡ shown r (came_of kept) d
+    go true taken = refl
+    go false false = refl
+    go false true =
+        shown_first r (with_chunk kept c x) d
+        ∙ (ap (λ xs. option_and_then (if_committed r d) (block_of r d.config (take d.config.minimum xs))) (chunks_more d kept c x ∙ (ap (λ b. chunks_of d kept ++ (if b then x ∷ [] else [])) other ∙ append-nil (chunks_of d kept)))
+        ∙ sym (shown_first r kept d))
+
+module _ (r : Rules) (coder : IsCoder r) (kept : List KeptChunk) (c : Commitment) (x : Chunk) where
+  -- what is kept before the last of k chunks, and after more, shows the same
+  not_last : (length (chunks_of c kept) + 1 == c.config.minimum) ≡ false → shown r (came_of (with_chunk kept c x)) c ≡ shown r (came_of kept) c
+  not_last is = go (cases_lt (length (chunks_of c kept)) c.config.minimum)
+    where
+      other : length (chunks_of c kept) + 1 ≡ c.config.minimum → ⊥
+      other e = let t = eq-eqb (length (chunks_of c kept) + 1) c.config.minimum e in cc
+
+      long : length (chunks_of c (with_chunk kept c x)) ≡ length (chunks_of c kept) + 1
+      long = ap length (chunks_with c kept x) ∙ length-append (chunks_of c kept) (x ∷ [])
+
+      go : (length (chunks_of c kept) < c.config.minimum) ⊎ (c.config.minimum ≤ length (chunks_of c kept)) → shown r (came_of (with_chunk kept c x)) c ≡ shown r (came_of kept) c
+      go (inr more) = enough_stay r kept (record { commitment = c; chunk = x } ∷ []) c more
+      go (inl less) = by_next (cases_lt (length (chunks_of c kept) + 1) c.config.minimum)
+        where
+          by_next : (length (chunks_of c kept) + 1 < c.config.minimum) ⊎ (c.config.minimum ≤ length (chunks_of c kept) + 1) → shown r (came_of (with_chunk kept c x)) c ≡ shown r (came_of kept) c
+          by_next (inl few) = few_show_none r coder (with_chunk kept c x) c (omega (arith, few, long)) ∙ sym (few_show_none r coder kept c less)
+          by_next (inr last) = absurd (other (omega (arith, less, last)))
+
+  own_stays : (known taken last : Bool) → (length (chunks_of c kept) + 1 == c.config.minimum) ≡ last
+      → ((b : Block) → (if known then Known else if taken then (if last then of_shown (shown r (came_of (with_chunk kept c x)) c) else Kept) else Foreign) ≡ Held b → ⊥)
+      → shown r (came_of (if known then kept else if taken then with_chunk kept c x else kept)) c ≡ shown r (came_of kept) c
+  own_stays true taken last is unheld = refl
+  own_stays false false last is unheld = refl
+  own_stays false true false is unheld = not_last is
+  own_stays false true true is unheld =
+      let e = eqb-true (length (chunks_of c kept) + 1) c.config.minimum is in
+      none_held (shown r (came_of (with_chunk kept c x)) c) unheld ∙ sym (few_show_none r coder kept c (omega (arith, e)))
+
+  -- a chunk that shows no block leaves what is shown
+  pub unheld_stays : (d : Commitment) → ((b : Block) → verdict r kept c x ≡ Held b → ⊥) → shown r (came_of (kept_after r kept c x)) d ≡ shown r (came_of kept) d
+  unheld_stays d unheld = go (cases_Bool (same_commitment d c))
+    where
+      go : (same_commitment d c ≡ true) ⊎ (same_commitment d c ≡ false) → shown r (came_of (kept_after r kept c x)) d ≡ shown r (came_of kept) d
+      go (inl t) =
+          subst (λ e. shown r (came_of (kept_after r kept c x)) e ≡ shown r (came_of kept) e) (sym (same_commitment-true d c t))
+          (own_stays (is_known kept c x) (is_chunk_of r c x) (length (chunks_of c kept) + 1 == c.config.minimum) refl unheld)
+      go (inr f) = others_stay r kept c d x f

@@ -1,5 +1,5 @@
 -- Chunks that are enough to show a block.
-use Rattle.std.specs.Prelude.{◌≡◌, ℕ, ◌≤◌, IsTrue, List, Some, length}
+use Rattle.std.specs.Prelude.{◌≡◌, [], ℕ, ◌≤◌, Bool, IsTrue, List, None, Some, length}
 use Rattle.std.specs.List.{AllByRecursion}
 use Rattle.cw_base.specs.declared.hash.Digest32.{Digest32}
 use Rattle.cw_coding.specs.Checked.{Checked}
@@ -16,16 +16,24 @@ use Rattle.shards.specs.Kept.{rules_of}
 abbrev pub checked_of : (List ℕ → Digest32) → Commitment → Chunk → Checked Digest32
 checked_of hash c x = record { root = c.root; shard = x.shard; index = x.index; digest = hash x.shard }
 
+-- no committees at all
+abbrev pub no_committees : Epochs
+no_committees = record { total = 0; span = None; lists = [] }
+
+-- the chunk stands under the commitment, whatever the committees
+abbrev pub is_under_root : (List ℕ → Digest32) → Commitment → Chunk → Bool
+is_under_root hash c x = is_under (rules_of hash no_committees) c x
+
 -- each chunk stands under the commitment
-abbrev pub AreUnder : (List ℕ → Digest32) → Epochs → Commitment → List Chunk → Type 0
-AreUnder hash epochs c chunks = AllByRecursion (λ x. IsTrue (is_under (rules_of hash epochs) c x)) chunks
+abbrev pub AreUnder : (List ℕ → Digest32) → Commitment → List Chunk → Type 0
+AreUnder hash c chunks = AllByRecursion (λ x. IsTrue (is_under_root hash c x)) chunks
 
 -- as many chunks as show a block, which stand under the commitment at different places
-pub record AreEnough (hash : List ℕ → Digest32) (epochs : Epochs) (c : Commitment) (chunks : List Chunk) : Type 0 where
+pub record AreEnough (hash : List ℕ → Digest32) (c : Commitment) (chunks : List Chunk) : Type 0 where
   pub some : 2 ≤ c.config.minimum
   pub few : total_of c.config ≤ 65535
   pub enough : length chunks ≡ c.config.minimum
-  pub under : AreUnder hash epochs c chunks
+  pub under : AreUnder hash c chunks
   pub apart : AreApart chunks
 
 -- the root of the text's codeword is that of the commitment

@@ -3,8 +3,8 @@
 ghost use Rattle.std.specs.Prelude.{◌≡◌, ◌≤◌, IfOk, IsTrue, map};
 ghost use Rattle.cw_rules.specs.Accepted.{is_chunk_of};
 ghost use Rattle.cw_rules.specs.Coding.{AreBytes, AreByteChunks};
-ghost use Rattle.cw_rules.specs.Rules.{is_under, total_of};
-ghost use Rattle.shards.specs.Enough.{AreUnder, checked_of};
+ghost use Rattle.cw_rules.specs.Rules.{total_of};
+ghost use Rattle.shards.specs.Enough.{AreUnder, checked_of, is_under_root};
 ghost use Rattle.shards.specs.Kept.{rules_of};
 
 use crate::configs::has_config;
@@ -29,19 +29,18 @@ pub(crate) fn is_chunk_of<H: Hasher<Digest = Digest32>, S: Strategy>(
     if !has_config(committees, &commitment.config) {
         return Ok(false);
     }
-    is_under::<H, S>(alloc, committees, commitment, chunk, strategy)
+    is_under::<H, S>(alloc, commitment, chunk, strategy)
 }
 
 // Whether the chunk stands under the commitment's root at its index.
 fn is_under<H: Hasher<Digest = Digest32>, S: Strategy>(
     alloc: Global,
-    _committees: &Committees,
     commitment: &Commitment,
     chunk: &Chunk<Digest32>,
     strategy: &S,
 ) -> Result<bool, NoMemory>
     requires { total_of commitment.now.config ≤ 65535 }
-    ensures { IfOk result (λ under. under ≡ is_under (rules_of H.digest_of _committees.now) commitment.now chunk.now) }
+    ensures { IfOk result (λ under. under ≡ is_under_root H.digest_of commitment.now chunk.now) }
 {
     let checked = ReedSolomon::<H>::check(
         alloc,
@@ -61,13 +60,12 @@ fn is_under<H: Hasher<Digest = Digest32>, S: Strategy>(
 // The chunk, which stands under the commitment, with its digest.
 fn checked<H: Hasher<Digest = Digest32>, S: Strategy>(
     alloc: Global,
-    _committees: &Committees,
     commitment: &Commitment,
     chunk: &Chunk<Digest32>,
     strategy: &S,
 ) -> Result<CheckedChunk<H>, NoMemory>
     requires few { total_of commitment.now.config ≤ 65535 }
-    requires under { IsTrue (is_under (rules_of H.digest_of _committees.now) commitment.now chunk.now) }
+    requires under { IsTrue (is_under_root H.digest_of commitment.now chunk.now) }
     ensures { IfOk result (λ checked. checked ≡ checked_of H.digest_of commitment.now chunk.now) }
 {
     let checked = ReedSolomon::<H>::check(
@@ -95,20 +93,19 @@ fn are_bytes(shard: &[u8])
 /// The chunks, each of which stands under the commitment, with their digests.
 pub(crate) fn checked_all<H: Hasher<Digest = Digest32>, S: Strategy>(
     alloc: Global,
-    committees: &Committees,
     commitment: &Commitment,
     chunks: &[&Chunk<Digest32>],
     strategy: &S,
 ) -> Result<Vec<CheckedChunk<H>>, NoMemory>
     requires few { total_of commitment.now.config ≤ 65535 }
-    requires under { AreUnder H.digest_of committees.now commitment.now (map (λ chunk. chunk.now) chunks.now) }
+    requires under { AreUnder H.digest_of commitment.now (map (λ chunk. chunk.now) chunks.now) }
     ensures checked { IfOk result (λ checked. checked.items ≡ map (checked_of H.digest_of commitment.now) (map (λ chunk. chunk.now) chunks.now)) }
     ensures bytes { IfOk result (λ _. AreByteChunks (map (λ chunk. chunk.now) chunks.now)) }
 {
     let mut all = Vec::new(alloc);
     for chunk in chunks {
         are_bytes(chunk.shard());
-        all.push(checked::<H, S>(alloc, committees, commitment, chunk, strategy)?)?;
+        all.push(checked::<H, S>(alloc, commitment, chunk, strategy)?)?;
     }
     Ok(all)
 }

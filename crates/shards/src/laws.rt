@@ -5,6 +5,7 @@ ghost use Rattle.std.specs.List.{list_any};
 ghost use Rattle.cw_base.specs.declared.hash.Digest32.{Digest32};
 ghost use Rattle.cw_types.specs.Block.{Block};
 ghost use Rattle.cw_types.specs.Epochs.{Epochs};
+ghost use Rattle.cw_types.specs.Same.{same_commitment};
 ghost use Rattle.cw_types.specs.declared.commitment.Commitment.{Commitment};
 ghost use Rattle.cw_types.specs.declared.event.Event.{Event};
 ghost use Rattle.cw_types.specs.declared.vote.Vote.{Vote};
@@ -69,7 +70,7 @@ pub fn shown_by_kept()
         ≡ option_and_then (if_committed r c) (block_of r c.config (take c.config.minimum (chunks_of c kept))) }
 {}
 
-/// What as many chunks show as show a block stays so, whatever is kept after them.
+/// What is shown stays so, but where a block comes to be held.
 pub fn shown_stays()
     // what is kept after enough chunks of a commitment leaves what they show
     ensures enough { (r : Rules) (kept more : List KeptChunk) (c : Commitment) → c.config.minimum ≤ length (chunks_of c kept)
@@ -80,4 +81,11 @@ pub fn shown_stays()
     // garbage shows no block, whatever is kept since
     ensures garbage { (r : Rules) (kept more : List KeptChunk) (c : Commitment) (x : Chunk)
         → verdict r kept c x ≡ Verdict.Garbage → shown r (came_of (kept_after r kept c x ++ more)) c ≡ None }
+    // a chunk by which no block is held leaves what is shown
+    ensures unheld { (r : Rules) → IsCoder r → (kept : List KeptChunk) (c : Commitment) (x : Chunk) (d : Commitment)
+        → ((b : Block) → verdict r kept c x ≡ Verdict.Held b → ⊥)
+        → shown r (came_of (kept_after r kept c x)) d ≡ shown r (came_of kept) d }
+    // and each leaves what is shown of another commitment
+    ensures others { (r : Rules) (kept : List KeptChunk) (c d : Commitment) (x : Chunk) → IsFalse (same_commitment d c)
+        → shown r (came_of (kept_after r kept c x)) d ≡ shown r (came_of kept) d }
 {}

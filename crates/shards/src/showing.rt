@@ -28,18 +28,17 @@ use std::thread::Threads;
 fn decoded<H: Hasher<Digest = Digest32>, R: Threads + Sync, S: Strategy>(
     rt: &R,
     alloc: Global,
-    committees: &Committees,
     commitment: &Commitment,
     chunks: &[&Chunk<Digest32>],
     strategy: &S,
 ) -> Result<Option<Vec<u8>>, NoMemory>
-    requires { AreEnough H.digest_of committees.now commitment.now (map (λ chunk. chunk.now) chunks.now) }
+    requires { AreEnough H.digest_of commitment.now (map (λ chunk. chunk.now) chunks.now) }
     ensures some { IfOk result (λ text. IfSome text (λ text. AreOfText H.digest_of commitment.now (map (λ chunk. chunk.now) chunks.now) text.items)) }
     ensures none { IfOk result (λ text. IfNone text ((other : List ℕ) → AreOfText H.digest_of commitment.now (map (λ chunk. chunk.now) chunks.now) other → ⊥)) }
 {
     coder_laws();
     encodings_decode::<H>();
-    let checked = checked_all::<H, S>(alloc, committees, commitment, chunks, strategy)?;
+    let checked = checked_all::<H, S>(alloc, commitment, chunks, strategy)?;
     let decoded = ReedSolomon::<H>::decode(
         rt,
         alloc,
@@ -128,11 +127,11 @@ pub(crate) fn shown<H: Hasher<Digest = Digest32>, R: Threads + Sync, S: Strategy
     chunks: &[&Chunk<Digest32>],
     strategy: &S,
 ) -> Result<Option<ChainBlock>, NoMemory>
-    requires { AreEnough H.digest_of committees.now commitment.now (map (λ chunk. chunk.now) chunks.now) }
+    requires { AreEnough H.digest_of commitment.now (map (λ chunk. chunk.now) chunks.now) }
     ensures { IfOk result (λ block. block ≡ option_and_then (if_committed (rules_of H.digest_of committees.now) commitment.now) (block_of (rules_of H.digest_of committees.now) commitment.now.config (map (λ chunk. chunk.now) chunks.now))) }
 {
     coder_laws();
-    match decoded::<H, R, S>(rt, alloc, committees, commitment, chunks, strategy)? {
+    match decoded::<H, R, S>(rt, alloc, commitment, chunks, strategy)? {
         Some(text) => block_of::<H>(alloc, committees, commitment, &text),
         None => Ok(None),
     }

@@ -7,5 +7,5 @@ use Rattle.shards.proofs.checks.checked_all.Given as goal
 abbrev pub invariant-loop-chunk : goal.invariant-loop-chunk
 invariant-loop-chunk g l =
     (l.all.items ++ map (checked_of g.H.Hasher.digest_of l.commitment) (map (λ x. x.now) (drop l.chunk-index l.chunks)) ≡ map (checked_of g.H.Hasher.digest_of l.commitment) (map (λ x. x.now) l.chunks))
-    × AreUnder g.H.Hasher.digest_of l.committees l.commitment (map (λ x. x.now) (drop l.chunk-index l.chunks))
+    × AreUnder g.H.Hasher.digest_of l.commitment (map (λ x. x.now) (drop l.chunk-index l.chunks))
     × (AreByteChunks (map (λ x. x.now) (drop l.chunk-index l.chunks)) → AreByteChunks (map (λ x. x.now) l.chunks))

@@ -3,7 +3,7 @@ use Rattle.std.proofs.lemmas.Iterator.{YieldsList-from_slice, items_from_drains}
 use Rattle.cw_coding.specs.Decoding.{IsDecoding, IsRefusal}
 use Rattle.cw_coding.specs.declared.error.ReedSolomonError.TheVariants.{NoMemory}
 use Rattle.cw_rules_coded.specs.Coded.{digest_bytes}
-use Rattle.shards.specs.Enough.{AreOfText, checked_of}
+use Rattle.shards.specs.Enough.{AreOfText, checked_of, no_committees}
 use Rattle.shards.proofs.Decoded.{of_no_text, of_text}
 use Rattle.shards.proofs.showing.decoded.Goals as goal
 
@@ -14,8 +14,8 @@ returns-in-Ok-clause-some g c =
     let chunks = map (λ x. x.now) c.args.chunks.now in
     let given : map (λ x. x.now) d.0 ≡ map (checked_of hash c.args.commitment.now) chunks =
     items_from_drains d.0 (d.1.1.0, d.1.1.1, λ _. (d.1.0, d.1.1.2)) (YieldsList-from_slice _ (c.iter.ensures.rest ∙ (c.deref.ensures.value ∙ c.in_ok-checked.ensures.checked))) in
-    of_text hash c.args.committees.now c.args.commitment.now chunks c.in-Ok.text.items
-    (c.coder_laws.ensures hash c.args.committees.now) c.requires c.in_ok-checked.ensures.bytes
+    of_text hash no_committees c.args.commitment.now chunks c.in-Ok.text.items
+    (c.coder_laws.ensures hash no_committees) c.requires c.in_ok-checked.ensures.bytes
     (subst (λ xs. IsDecoding hash digest_bytes c.args.commitment.now.config c.args.commitment.now.root xs c.in-Ok.text.items) given d.3)
 
 none_if : {V E : Type 0} (r : Result (Option V) E) (Q P : Type 0) → IfOk r (λ _. Q) → (Q → P) → IfOk r (λ t. IfNone t P)
@@ -33,7 +33,7 @@ returns-clause-none g c =
       | inr d ↦
           (let given : map (λ x. x.now) d.0 ≡ map (checked_of hash c.args.commitment.now) chunks =
           items_from_drains d.0 (d.1.1.0, d.1.1.1, λ _. (d.1.0, d.1.1.2)) (YieldsList-from_slice _ (c.iter.ensures.rest ∙ (c.deref.ensures.value ∙ c.in_ok-checked.ensures.checked))) in
-          of_no_text hash c.args.committees.now c.args.commitment.now chunks c.in-Err.error
-          (c.coder_laws.ensures hash c.args.committees.now) c.encodings_decode.ensures.any_enough c.requires
+          of_no_text hash no_committees c.args.commitment.now chunks c.in-Err.error
+          (c.coder_laws.ensures hash no_committees) c.encodings_decode.ensures.any_enough c.requires
           (subst (λ xs. IsRefusal hash digest_bytes c.args.commitment.now.config c.args.commitment.now.root xs c.in-Err.error) given d.2) ne)
     ])

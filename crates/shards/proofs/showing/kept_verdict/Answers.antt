@@ -11,7 +11,7 @@ pub shown-requires-after_bounds : goal.shown-requires-after_bounds
 shown-requires-after_bounds g c κs _ =
     let hash = g.H.Hasher.digest_of in
     let n : count c.args.commitment.now c.args.kept.now ≡ c.args.commitment.now.config.minimum - 1 = eqb-true _ _ (sym c.lack_one.ensures ∙ c.if-not-lack_one.false) in
-    subst (AreEnough hash c.args.committees.now c.args.commitment.now) (sym (ap (map (λ x. x.now)) c.deref.ensures.value ∙ c.in_ok-chunks.ensures))
+    subst (AreEnough hash c.args.commitment.now) (sym (ap (map (λ x. x.now)) c.deref.ensures.value ∙ c.in_ok-chunks.ensures))
     (enough_kept hash c.args.committees.now c.args.kept.now c.args.commitment.now c.args.chunk.now c.requires.kept c.requires.new c.requires.taken c.requires.some c.requires.few n)
 
 pub returns-in-Some : goal.returns-in-Some
