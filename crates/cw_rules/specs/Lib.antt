@@ -1,9 +1,3 @@
-pub mod FirstSetting
-pub mod FirstNotes
-pub mod FirstAccepting
-pub mod FirstOwing
-pub mod FirstSending
-pub mod FirstStep
 pub mod Rules
 pub mod Notes
 pub mod Accepted

@@ -3,7 +3,7 @@
 #![tactic(auto)]
 
 use cw_base::{Sequential, Sha256, StdSink, StdSource};
-use hailstorm::run_program;
+use first_storm::run_program;
 use std::process::ExitCode;
 use std::{env, io};
 
