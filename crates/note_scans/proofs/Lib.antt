@@ -1,0 +1,3 @@
+pub mod Countable
+pub mod Folds
+pub mod Least
