@@ -1,1 +1,2 @@
 pub mod RealCoder
+pub mod Committed

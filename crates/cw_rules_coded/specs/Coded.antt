@@ -11,6 +11,7 @@ use Rattle.cw_tree.specs.Tree.{path_of, root_by, root_of}
 use Rattle.cw_coding.specs.Layout.{row_at}
 use Rattle.cw_types.specs.Block.{Block}
 use Rattle.cw_types.specs.Commit.{empty_digest}
+pub use Rattle.cw_types.specs.Commit.{digest_bytes}
 use Rattle.cw_types.specs.Encoding.{block_bytes, context_bytes}
 use Rattle.cw_types.specs.Epochs.{Epochs}
 use Rattle.cw_types.specs.Reading.{block_in}
@@ -20,10 +21,6 @@ use Rattle.cw_rules.specs.Rules.{Chunk, Rules, total_of}
 -- the k + m rows of a text's codeword
 abbrev pub code_rows : List ℕ → ℕ → ℕ → List (List ℕ)
 code_rows text k m = listed (k + m) (row_at k text)
-
--- the bytes of a digest
-abbrev pub digest_bytes : Digest32 → List ℕ
-digest_bytes d = d.0
 
 -- the root of the tree over digests, of which there is at least one
 abbrev pub root_over : (List ℕ → Digest32) → List Digest32 → Digest32

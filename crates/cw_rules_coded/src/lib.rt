@@ -5,10 +5,11 @@ ghost use Rattle.std.specs.Prelude.{◌≡◌, ℕ, Bool, List, Option, Some, le
 ghost use Rattle.cw_base.specs.declared.hash.Digest32.{Digest32};
 ghost use Rattle.cw_types.specs.Block.{Block};
 ghost use Rattle.cw_types.specs.Encoding.{block_bytes};
-ghost use Rattle.cw_types.specs.Epochs.{Epochs};
+ghost use Rattle.cw_types.specs.Commit as types;
+ghost use Rattle.cw_types.specs.Epochs.{Epochs, size};
 ghost use Rattle.cw_types.specs.FormatLaws.{IsBlock};
 ghost use Rattle.cw_rules.specs.Coding.{IsCoder};
-ghost use Rattle.cw_rules.specs.Rules.{config, digest, genesis};
+ghost use Rattle.cw_rules.specs.Rules.{chunks, commit, config, digest, genesis};
 ghost use Rattle.cw_rules_coded.specs.Coded.{coded};
 ghost use Rattle.cw_rules_coded.specs.Sums.{hi_block, summed};
 ghost use Rattle.cw_tree.specs.Widths.{shard_len};
@@ -27,6 +28,16 @@ pub fn coded_laws()
 {
     prove_rows();
 }
+
+/// The commitment and the chunks of a block among the members of its epoch are those of these rules,
+/// whatever the backlog and the application: what `cw_types::commit` and `commit_with_chunks` give
+/// for the size of the committee of the block's epoch is what the rules ask for.
+pub fn commits_by_rules()
+    ensures commit { (hash : List ℕ → Digest32) (epochs : Epochs) (backlog : ℕ) (accepts : Block → Block → Bool) (b : Block)
+        → types.commit hash (size epochs b.context.epoch) b ≡ commit (coded hash epochs backlog accepts) b }
+    ensures chunks { (hash : List ℕ → Digest32) (epochs : Epochs) (backlog : ℕ) (accepts : Block → Block → Bool) (b : Block)
+        → types.block_chunks hash (size epochs b.context.epoch) b ≡ chunks (coded hash epochs backlog accepts) b }
+{}
 
 /// Under the hash that adds up: the digests of genesis and of the block of view 1 with the payload
 /// "hi", how many bytes that block has, how wide its shards are, and in how many it is cut.

@@ -3,3 +3,7 @@ pub mod EpochLemmas
 pub mod SignersRead
 pub mod Taken
 pub mod ShardRead
+pub mod Joined
+pub mod Same
+pub mod Cutting
+pub mod Committed

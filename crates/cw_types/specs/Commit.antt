@@ -1,30 +1,47 @@
--- The commitment of a block, and the first block of the chain.
-use Rattle.std.specs.Prelude.{ℕ, List, [], ◌++◌, replicate}
+-- The commitment of a block and its chunks, and the first block of the chain.
+use Rattle.std.specs.Prelude.{ℕ, List, [], ◌++◌, replicate, unwrap_or}
 use Rattle.cw_base.specs.declared.hash.Digest32.{Digest32}
 use Rattle.cw_base.specs.Shards.{Shards}
 use Rattle.cw_types.specs.declared.commitment.Commitment.{Commitment}
 use Rattle.cw_types.specs.declared.block.Context.{Context}
 use Rattle.cw_types.specs.Block.{Block}
-use Rattle.cw_base.specs.Bytes.{be64, varint}
 use Rattle.cw_types.specs.Encoding.{block_bytes, context_bytes}
+use Rattle.cw_types.specs.Numbers.{config_for}
+use Rattle.cw_base.specs.Bytes.{be64, varint}
+use Rattle.cw_base.specs.Rows.{listed}
+use Rattle.cw_tree.specs.Chunks.{Piece}
+use Rattle.cw_coding.specs.Encoding.{piece_of, root_of_text}
+use Rattle.cw_coding.specs.Totals.{total_of}
 
--- one shard holds the text, and one is added
-abbrev pub uncut : Shards
-uncut = record { minimum = 1; extra = 1 }
-
--- a block's digest, the root of its shards, its context's digest, and how it is cut: it travels whole, so its root is its digest
-abbrev pub commit : (List ℕ → Digest32) → Block → Commitment
-commit hash b =
-    record {
-      block = hash (block_bytes b);
-      root = hash (block_bytes b);
-      context = hash (context_bytes b.context);
-      config = uncut;
-    }
+-- the bytes of a digest
+abbrev pub digest_bytes : Digest32 → List ℕ
+digest_bytes d = d.0
 
 -- thirty-two zero bytes
 abbrev pub empty_digest : Digest32
 empty_digest = record { 0 = replicate 32 0 }
+
+-- the root of a text: that of the tree over the digests of the k + m rows of its codeword
+abbrev pub text_root : (List ℕ → Digest32) → Shards → List ℕ → Digest32
+text_root hash config text = unwrap_or (root_of_text hash digest_bytes config text) empty_digest
+
+-- what names a block among n members: its digest, the root of its bytes, its context's digest, and their config
+abbrev pub commit : (List ℕ → Digest32) → (n : ℕ) → Block → Commitment
+commit hash n b =
+    record {
+      block = hash (block_bytes b);
+      root = text_root hash (config_for n) (block_bytes b);
+      context = hash (context_bytes b.context);
+      config = config_for n;
+    }
+
+-- the k + m chunks of a block among n members: the rows of its bytes, each with its way up to the root
+abbrev pub block_chunks : (List ℕ → Digest32) → (n : ℕ) → Block → List (Piece Digest32)
+block_chunks hash n b = listed (total_of (config_for n)) (piece_of hash digest_bytes (config_for n) (block_bytes b))
+
+-- one shard holds the text, and one is added
+abbrev pub uncut : Shards
+uncut = record { minimum = 1; extra = 1 }
 
 -- the commitment that the first block names as its parent's
 abbrev pub no_commitment : Commitment

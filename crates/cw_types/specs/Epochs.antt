@@ -2,6 +2,8 @@
 use Rattle.std.specs.Prelude.{ℕ, ◌+◌, ◌-◌, ◌*◌, ◌%◌, ◌==◌, ◌&&◌, Bool, true, false, List, [], ◌∷◌, length, Option, Some, None, option_map, option_and_then, unwrap_or, slice_get, position, nat_le, nat_lt, ◌^◌, if◌then◌else◌}
 use Rattle.std.specs.List.{list_any, list_all, range_with_len}
 use Rattle.std.specs.Option.{option_or, option_map_or}
+use Rattle.cw_base.specs.Shards.{Shards}
+use Rattle.cw_types.specs.Numbers.{config_for}
 
 -- how many members there are, how many heights an epoch covers (none: the first epoch has no end), and the members of each epoch, rising
 pub record Epochs : Type 0 where
@@ -37,6 +39,10 @@ members_in x epoch = list_of x.lists epoch
 -- n of an epoch
 abbrev pub size : Epochs → ℕ → ℕ
 size x epoch = length (members_in x epoch)
+
+-- in how many chunks the blocks of an epoch are cut
+abbrev pub config_in : Epochs → ℕ → Shards
+config_in x epoch = config_for (size x epoch)
 
 -- the member stands in the list of an epoch
 abbrev pub is_member : Epochs → ℕ → ℕ → Bool

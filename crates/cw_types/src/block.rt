@@ -7,7 +7,7 @@ ghost use Rattle.cw_types.specs.Reading.{context_at, height_at, payload_at, bloc
 ghost use Rattle.cw_base.specs.Ends.{IsEnd};
 ghost use Rattle.cw_base.specs.Reading.{IsRead, Gives};
 
-use crate::commitment::{Commitment, read_digest};
+use crate::commitment::{Commitment, put_at, read_digest};
 use cw_base::{CodecError, Digest32, NoMemory, Reader, put_be16, put_be64, put_bytes, put_varint};
 use std::alloc::Global;
 use std::marker::Model;
@@ -34,6 +34,22 @@ impl Context {
             && self.leader == other.leader
             && self.parent_view == other.parent_view
             && self.parent.is_same(&other.parent)
+    }
+
+    /// How many bytes a context is written in.
+    pub const SIZE: usize = 126;
+
+    /// Its bytes, as [`Context::write`] appends them. Takes no memory.
+    pub fn to_bytes(&self) -> [u8; 126]
+        ensures { result ≡ context_bytes self.now }
+    {
+        let mut bytes = [0; 126];
+        put_at(&mut bytes, 0, &self.epoch.to_be_bytes());
+        put_at(&mut bytes, 8, &self.view.to_be_bytes());
+        put_at(&mut bytes, 16, &self.leader.to_be_bytes());
+        put_at(&mut bytes, 18, &self.parent_view.to_be_bytes());
+        put_at(&mut bytes, 26, &self.parent.to_bytes());
+        bytes
     }
 
     /// Appends its bytes. Where memory is short nothing changes.

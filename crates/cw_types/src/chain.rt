@@ -1,39 +1,13 @@
-//! The commitment of a block, and the first block of the chain.
+//! The first block of the chain, and what names it.
 
-ghost use Rattle.std.specs.Prelude.{◌≡◌, ◌≤◌, ◌++◌, IfOk};
+ghost use Rattle.std.specs.Prelude.{◌≡◌};
 ghost use Rattle.cw_types.specs.Commit as spec;
-ghost use Rattle.cw_types.specs.Encoding.{block_bytes, context_bytes};
 
 use crate::block::{ChainBlock, Context, Payload};
 use crate::commitment::Commitment;
-use cw_base::{Config, Digest, Digest32, Hasher, NoMemory, Strategy};
+use cw_base::{Config, Digest, Digest32, Hasher};
 use std::alloc::Global;
 use std::num::NonZeroU16;
-use std::thread::Threads;
-
-/// What names a block in a cluster of `n` members. A block travels whole, so its root is its digest.
-pub fn commit<H: Hasher<Digest = Digest32>, R: Threads + Sync, S: Strategy>(
-    _rt: &R,
-    alloc: Global,
-    n: u16,
-    block: &ChainBlock,
-    _strategy: &S,
-) -> Result<Commitment, NoMemory>
-    requires { 4 ≤ n }
-    ensures { IfOk result (λ c. c ≡ spec.commit H.digest_of block.now) }
-{
-    let mut bytes = Vec::new(alloc);
-    block.write(&mut bytes)?;
-    let digest = H::hash(&bytes);
-    let mut context = Vec::new(alloc);
-    block.context().write(&mut context)?;
-    Ok(Commitment {
-        block: digest,
-        root: digest,
-        context: H::hash(&context),
-        config: uncut(),
-    })
-}
 
 // One shard holds the text, and one is added.
 fn uncut() -> Config
@@ -57,26 +31,32 @@ fn no_commitment() -> Commitment
     }
 }
 
-/// The first block: no view, no payload, and the hash of the empty text as its parent's digest. It
-/// keeps `alloc` for its empty payload, and takes no memory.
-pub fn genesis<H: Hasher<Digest = Digest32>>(alloc: Global) -> ChainBlock
-    ensures { result ≡ spec.genesis H.digest_of }
+// Where the first block stands: in no view.
+fn first_context() -> Context
+    ensures { result ≡ spec.first_context }
 {
-    let context = Context {
+    Context {
         epoch: 0,
         view: 0,
         leader: 0,
         parent_view: 0,
         parent: no_commitment(),
-    };
-    ChainBlock::new(context, H::hash(&[]), 0, Payload::empty(alloc))
+    }
+}
+
+/// The first block: no view, no payload, and the hash of the empty text as its parent's digest. It
+/// keeps `alloc` for its empty payload, and takes no memory.
+pub fn genesis<H: Hasher<Digest = Digest32>>(alloc: Global) -> ChainBlock
+    ensures { result ≡ spec.genesis H.digest_of }
+{
+    ChainBlock::new(first_context(), H::hash(&[]), 0, Payload::empty(alloc))
 }
 
 /// What names the first block: its digest, in place of a root too, and its context's. Takes no memory.
 pub fn genesis_commitment<H: Hasher<Digest = Digest32>>() -> Commitment
     ensures { result ≡ spec.genesis_commitment H.digest_of }
 {
-    let context = genesis_context_bytes();
+    let context = first_context().to_bytes();
     let digest = H::hash_pair(&context, &genesis_rest_bytes(&H::hash(&[])));
     Commitment {
         block: digest,
@@ -84,17 +64,6 @@ pub fn genesis_commitment<H: Hasher<Digest = Digest32>>() -> Commitment
         context: H::hash(&context),
         config: uncut(),
     }
-}
-
-// The bytes of the first block's context: zeros, but for its parent's config of one and one.
-#[tactic(auto, unfolding(crate::specs::Encoding::context_bytes, crate::specs::Encoding::commitment_bytes, cw_base::specs::Config::config_bytes, cw_base::specs::Bytes::be64, cw_base::specs::Bytes::be16))]
-fn genesis_context_bytes() -> [u8; 126]
-    ensures { result ≡ context_bytes spec.first_context }
-{
-    let mut bytes = [0; 126];
-    bytes[123] = 1;
-    bytes[125] = 1;
-    bytes
 }
 
 // The bytes of the first block behind its context: its parent's digest, and zeros.

@@ -1,6 +1,6 @@
 //! What stands for a block.
 
-ghost use Rattle.std.specs.Prelude.{◌≡◌, ◌++◌, OnOk, OnErr, take, length};
+ghost use Rattle.std.specs.Prelude.{◌≡◌, ◌+◌, ◌≤◌, ◌++◌, OnOk, OnErr, take, length};
 ghost use Rattle.cw_types.specs.Encoding.{commitment_bytes};
 ghost use Rattle.cw_types.specs.Same.{same_commitment};
 ghost use Rattle.cw_types.specs.Reading.{commitment_at, digest_at};
@@ -29,6 +29,21 @@ impl Commitment {
             && self.root == other.root
             && self.context == other.context
             && self.config.is_same(&other.config)
+    }
+
+    /// How many bytes a commitment is written in.
+    pub const SIZE: usize = 100;
+
+    /// Its bytes, as [`Commitment::write`] appends them. Takes no memory.
+    pub fn to_bytes(&self) -> [u8; 100]
+        ensures { result ≡ commitment_bytes self.now }
+    {
+        let mut bytes = [0; 100];
+        put_at(&mut bytes, 0, &self.block.0);
+        put_at(&mut bytes, 32, &self.root.0);
+        put_at(&mut bytes, 64, &self.context.0);
+        put_at(&mut bytes, 96, &self.config.write());
+        bytes
     }
 
     /// Appends its bytes. Where memory is short nothing changes.
@@ -75,6 +90,15 @@ impl Commitment {
             config,
         })
     }
+}
+
+// Writes these bytes behind the first `at`, whatever stood there.
+pub(crate) fn put_at<const L: usize, const N: usize>(out: &mut [u8; L], at: usize, bytes: &[u8; N])
+    requires { at + N ≤ L }
+    ensures { take (at + N) out.new ≡ take at out.old ++ bytes.now }
+{
+    let all = &mut out[..];
+    all[at..at + N].copy_from_slice(bytes);
 }
 
 // The digest at the front.

@@ -2,9 +2,11 @@
 
 ghost use Rattle.std.specs.Prelude.{◌≡◌, ◌+◌, ◌*◌, ◌≤◌, ◌==◌, Some, map, length, position, IfOk, IsTrue};
 ghost use Rattle.std.specs.List.{list_all};
+ghost use Rattle.cw_coding.specs.Totals.{total_of};
 ghost use Rattle.cw_types.specs.Epochs as epochs;
 
-use cw_base::{Items, NoMemory};
+use crate::numbers::config_for;
+use cw_base::{Config, Items, NoMemory};
 use std::alloc::Global;
 use std::marker::Model;
 
@@ -92,6 +94,13 @@ impl Committees {
         self.total
     }
 
+    /// How many heights an epoch covers; none where the first one has no end. Takes no memory.
+    pub fn span(&self) -> Option<u64>
+        ensures { result ≡ self.now.span }
+    {
+        self.span
+    }
+
     /// The members of each committee, by epoch; the last one serves for later epochs too. Takes no
     /// memory.
     pub fn lists(&self) -> &[Items<u16>]
@@ -107,6 +116,33 @@ impl Committees {
         ensures committee { IsTrue (epochs.is_committee self.now.total result.now) }
     {
         members_of(self.lists.as_slice(), epoch as usize)
+    }
+
+    /// How many members an epoch has. Takes no memory.
+    pub fn size(&self, epoch: u64) -> u16
+        ensures value { result ≡ epochs.size self.now epoch }
+        ensures enough { 4 ≤ result }
+    {
+        // No committee has more members than there are, so their number fits.
+        let _total = self.total();
+        let members = self.members(epoch);
+        members.len() as u16
+    }
+
+    /// In how many chunks the blocks of an epoch are cut, as [`config_for`] says. Takes no memory.
+    pub fn config(&self, epoch: u64) -> Config
+        ensures value { result ≡ epochs.config_in self.now epoch }
+        ensures some { 2 ≤ result.minimum }
+        ensures few { total_of result ≤ 65535 }
+    {
+        config_for(self.size(epoch))
+    }
+
+    /// Whether a member is one of an epoch's. Takes no memory.
+    pub fn is_member(&self, epoch: u64, member: u16) -> bool
+        ensures { result ≡ epochs.is_member self.now epoch member }
+    {
+        self.members(epoch).iter().any(|other| *other == member)
     }
 
     /// The place of a member in the list of an epoch; none for one that isn't in it. Takes no memory.

@@ -8,6 +8,7 @@ mod block;
 mod chain;
 mod commitment;
 pub mod committees;
+mod committing;
 mod digested;
 mod event;
 pub mod laws;
@@ -19,14 +20,15 @@ mod vote;
 
 pub use application::{AcceptAll, Application, Verifier};
 pub use block::{ChainBlock, Context, Payload};
-pub use chain::{commit, genesis, genesis_commitment};
+pub use chain::{genesis, genesis_commitment};
 pub use commitment::Commitment;
-pub use committees::Committees;
+pub use committees::{Committees, leader};
+pub use committing::{commit, commit_with_chunks};
 pub use digested::{Block, BoundedBlock, CertifiableBlock, Digested};
 pub use event::{Event, Handed, Out, StepOut, TicketOut, To};
 pub use message::Message;
 pub use note::Note;
-pub use numbers::{leader, max_faults, quorum};
+pub use numbers::{config_for, max_faults, quorum};
 pub use round::{Epoch, Epochable, Height, Heightable, Round, Roundable, View, Viewable};
 pub use vote::{Cert, Proposal, Vote, well_formed};
 

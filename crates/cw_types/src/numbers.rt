@@ -1,7 +1,11 @@
 //! The numbers of a cluster of `n` members.
 
 ghost use Rattle.std.specs.Prelude.{◌≡◌, ◌≤◌};
+ghost use Rattle.cw_coding.specs.Totals.{total_of};
 ghost use Rattle.cw_types.specs.Numbers as numbers;
+
+use cw_base::Config;
+use std::num::NonZeroU16;
 
 /// The most faulty members that `n` members bear: a third of the others, rounded down.
 pub fn max_faults(n: u16) -> u16
@@ -19,10 +23,27 @@ pub fn quorum(n: u16) -> u16
     n - max_faults(n)
 }
 
-/// The member that leads a view: each in turn.
-pub fn leader(view: u64, n: u16) -> u16
+/// In how many chunks `n` members cut a block: one for each of them, of which any `f + 1` show it, so
+/// that as many members as may be faulty don't have enough.
+pub fn config_for(n: u16) -> Config
     requires { 4 ≤ n }
-    ensures { result ≡ numbers.leader view n }
+    ensures value { result ≡ numbers.config_for n }
+    ensures some { 2 ≤ result.minimum }
+    ensures total { total_of result ≡ n }
 {
-    (view % u64::from(n)) as u16
+    let minimum = max_faults(n) + 1;
+    Config {
+        minimum_shards: positive(minimum),
+        extra_shards: positive(n - minimum),
+    }
+}
+
+fn positive(n: u16) -> NonZeroU16
+    requires { 1 ≤ n }
+    ensures { result.value ≡ n }
+{
+    match NonZeroU16::new(n) {
+        Some(n) => n,
+        None => unreachable!(),
+    }
 }

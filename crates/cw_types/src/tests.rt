@@ -37,12 +37,29 @@ fn sum_of(bytes: &[u8]) -> u8 {
 }
 
 #[test]
-fn genesis_is_committed_to_by_its_digest(rt: HostRuntime) -> Result<(), Fail> {
-    let first = genesis::<SumHasher>(rt.alloc());
+fn genesis_is_named_by_its_digest(rt: HostRuntime) {
     let named = genesis_commitment::<SumHasher>();
-    let committed = commit::<SumHasher, _, _>(&rt, rt.alloc(), 4, &first, &Sequential)?;
-    assert!(rt; named.is_same(&committed));
     assert_eq!(rt; named.block, Digest32([2; 32]));
+    assert_eq!(rt; named.root, Digest32([2; 32]));
+    assert_eq!(rt; named.config.total_shards(), 2);
+}
+
+#[test]
+fn a_block_is_cut_for_its_committee(rt: HostRuntime) -> Result<(), Fail> {
+    let block = first_block(rt.alloc())?;
+    let (named, chunks) = commit_with_chunks::<SumHasher, _, _>(
+        &rt,
+        rt.alloc(),
+        4,
+        &block,
+        &Sequential,
+    )?;
+    assert_eq!(rt; named.block, Digest32([216; 32]));
+    assert_eq!(rt; named.context, Digest32([196; 32]));
+    assert!(rt; named.config.is_same(&config_for(4)));
+    assert_eq!(rt; chunks.len(), 4);
+    let alone = commit::<SumHasher, _, _>(&rt, rt.alloc(), 4, &block, &Sequential)?;
+    assert!(rt; named.is_same(&alone));
     Ok(())
 }
 
@@ -123,7 +140,7 @@ fn a_committee_has_its_numbers(rt: HostRuntime) {
         assert!(rt; n >= 4);
         assert_eq!(rt; max_faults(n), faults);
         assert_eq!(rt; quorum(n), members);
-        assert_eq!(rt; leader(9, n), (9 % u64::from(n)) as u16);
+        assert_eq!(rt; config_for(n).minimum_shards.get(), faults + 1);
     }
 }
 
@@ -141,6 +158,10 @@ fn a_later_epoch_has_the_last_committee(rt: HostRuntime) -> Result<(), Fail> {
     assert_eq!(rt; committees.total(), 5);
     assert!(rt; committees.members(0) == [0u16, 1, 2, 3].as_slice());
     assert!(rt; committees.members(7) == [1u16, 2, 3, 4].as_slice());
+    assert_eq!(rt; committees.span(), Some(1));
+    assert_eq!(rt; committees.size(7), 4);
+    assert!(rt; committees.config(7).is_same(&config_for(4)));
+    assert!(rt; committees.is_member(0, 0) && !committees.is_member(1, 0));
     let places = [(0, 0, Some(0)), (1, 0, None), (1, 4, Some(3))];
     for (epoch, member, want) in places {
         assert_eq!(rt; committees.place(epoch, member), want);

@@ -1,0 +1,82 @@
+//! What names a block, and the chunks that it is cut into.
+
+ghost use Rattle.std.specs.Prelude.{◌≡◌, ◌≤◌, IfOk, length};
+ghost use Rattle.cw_coding.specs.Encoding.{IsEncodable, IsEncoding};
+ghost use Rattle.cw_types.specs.Commit as spec;
+
+use crate::block::ChainBlock;
+use crate::commitment::Commitment;
+use crate::laws::block_fits;
+use crate::numbers::config_for;
+use cw_base::{Config, Digest32, Hasher, NoMemory, Strategy};
+use cw_coding::{Chunk, ReedSolomon, ReedSolomonError, Scheme};
+use std::alloc::Global;
+use std::thread::Threads;
+
+/// What names a block whose epoch has `n` members: the digest of its bytes, the root of the codeword
+/// of its bytes, the digest of its context, and how it is cut, which is [`config_for`] of `n`.
+///
+/// The first block of the chain is named by [`genesis_commitment`](crate::genesis_commitment), and
+/// not by this.
+pub fn commit<H: Hasher<Digest = Digest32>, R: Threads + Sync, S: Strategy>(
+    rt: &R,
+    alloc: Global,
+    n: u16,
+    block: &ChainBlock,
+    strategy: &S,
+) -> Result<Commitment, NoMemory>
+    requires { 4 ≤ n }
+    ensures { IfOk result (λ commitment. commitment ≡ spec.commit H.digest_of n block.now) }
+{
+    let (commitment, _) = commit_with_chunks::<H, R, S>(rt, alloc, n, block, strategy)?;
+    Ok(commitment)
+}
+
+/// What [`commit`] gives, and the `n` chunks of the block, in the order of their indices. They share
+/// one buffer.
+pub fn commit_with_chunks<H: Hasher<Digest = Digest32>, R: Threads + Sync, S: Strategy>(
+    rt: &R,
+    alloc: Global,
+    n: u16,
+    block: &ChainBlock,
+    strategy: &S,
+) -> Result<(Commitment, Vec<Chunk<Digest32>>), NoMemory>
+    requires { 4 ≤ n }
+    ensures commitment { IfOk result (λ made. made.0 ≡ spec.commit H.digest_of n block.now) }
+    ensures chunks { IfOk result (λ made. made.1.items ≡ spec.block_chunks H.digest_of n block.now) }
+{
+    block_fits(block);
+    let config = config_for(n);
+    let mut bytes = Vec::new(alloc);
+    block.write(&mut bytes)?;
+    match encoded::<H, R, S>(rt, alloc, &config, &bytes, strategy) {
+        Ok((root, chunks)) => {
+            let commitment = Commitment {
+                block: H::hash(&bytes),
+                root,
+                context: H::hash(&block.context().to_bytes()),
+                config,
+            };
+            Ok((commitment, chunks))
+        }
+        Err(NoMemory) => Err(NoMemory),
+    }
+}
+
+// The root of a text that is short enough, and its chunks.
+fn encoded<H: Hasher<Digest = Digest32>, R: Threads + Sync, S: Strategy>(
+    rt: &R,
+    alloc: Global,
+    config: &Config,
+    text: &[u8],
+    strategy: &S,
+) -> Result<(Digest32, Vec<Chunk<Digest32>>), NoMemory>
+    requires { IsEncodable config.now (length text.now) }
+    ensures { IfOk result (λ made. IsEncoding H.digest_of spec.digest_bytes config.now text.now made.0 made.1.items) }
+{
+    match ReedSolomon::<H>::encode(rt, alloc, config, text, strategy) {
+        Ok(made) => Ok(made),
+        Err(ReedSolomonError::NoMemory) => Err(NoMemory),
+        Err(_) => unreachable!(),
+    }
+}
