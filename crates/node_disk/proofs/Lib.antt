@@ -1,11 +1,12 @@
-mod AddFrame
+pub mod AddFrame
 pub mod AtRest
-mod Moments
-mod Walks
-mod WriteSync
+pub mod Calm
+pub mod Moments
+pub mod Walks
+pub mod WriteSync
 pub mod Writes
-mod Called
-mod Cuts
+pub mod Called
+pub mod Cuts
 pub mod Reopens
-mod Starting
+pub mod Starting
 pub mod ReadBack

@@ -11,7 +11,7 @@ use Rattle.node_disk.specs.declared.log.StoreError.TheVariants as store
 use Rattle.node_disk.proofs.Moments.{goes_on, weakens, told_twice}
 use Rattle.node_disk.proofs.AddFrame.{cut_earlier, cut_later, front_earlier, front_later}
 
-read_short : (bytes : List ℕ) → length bytes < 2 → read_log bytes ≡ Ok []
+pub read_short : (bytes : List ℕ) → length bytes < 2 → read_log bytes ≡ Ok []
 read_short [] short = refl
 read_short (a ∷ []) short = refl
 read_short (a ∷ b ∷ bytes) short = absurd (omega arith)

@@ -1,5 +1,6 @@
 -- A disk in memory, as every contract sees it.
-use Rattle.std.specs.Prelude.{◌≡◌, ℕ, ◌+◌, List, [], ◌∷◌, ◌++◌, length, Bool, true, false, ◌||◌, Option, Some, None}
+use Rattle.std.specs.Prelude.{◌≡◌, ℕ, ◌+◌, List, [], ◌∷◌, ◌++◌, length, Bool, true, false, ◌||◌, ◌&&◌, Option, Some, None}
+use Rattle.std.specs.Option.{is_none}
 use Rattle.node_disk.specs.Disk.{DiskState}
 use Rattle.node_disk.specs.Record.{Request, Entry, Held, held_after, past_of, told_calls, moment_of, done_writes, decided, reopened_still, outcome_at, is_reached, is_listed}
 use Rattle.node_disk.specs.declared.record.Outcome.{Outcome}
@@ -39,6 +40,15 @@ is_stopped disk = is_reached disk.stop (length disk.calls)
 -- the next device call fails: a stop stands at it or was reached before it, or its number is one of those that fail
 abbrev pub next_fails : MemoryState → Bool
 next_fails disk = is_reached disk.stop (length disk.calls + 1) || is_listed disk.failing (length disk.calls + 1)
+
+-- these are no numbers
+abbrev pub is_none_listed : List ℕ → Bool
+is_none_listed [] = true
+is_none_listed (number ∷ failing) = false
+
+-- no call to come fails: no stop is armed or was reached, and no number of a device call is one that fails
+abbrev pub is_calm : MemoryState → Bool
+is_calm disk = is_none disk.stop && is_none_listed disk.failing
 
 -- how the next device call goes
 abbrev pub next_outcome : MemoryState → Outcome

@@ -1,11 +1,12 @@
 -- What a disk in memory gives is one of its images, and its calls go on one after another.
-use Rattle.std.proofs.Common.{◌≡◌, inl, inr, ℕ, suc, ◌+◌, ◌-◌, ◌<◌, ◌≤◌, List, [], ◌∷◌, ◌++◌, length, take, drop, get_or, map, Bool, true, false, refl, sym, ◌∙◌, ap, subst, arith, replicate, if◌then◌else◌, Option, append_assoc, length-append, length-take, length-drop}
+use Rattle.std.proofs.Common.{◌≡◌, inl, inr, ℕ, suc, ◌+◌, ◌-◌, ◌<◌, ◌≤◌, List, [], ◌∷◌, ◌++◌, length, take, drop, get_or, map, Bool, true, false, refl, sym, ◌∙◌, ap, subst, arith, replicate, if◌then◌else◌, ◌&&◌, Option, Some, None, append_assoc, length-append, length-take, length-drop}
 use Rattle.std.proofs.lemmas.Bool.{cases_lt}
 use Rattle.std.proofs.lemmas.List.{get_or_append_left, get_or-append_right, get_or-take, get_or-drop, map-append, append-nil, length-replicate}
 use Rattle.node_disk.specs.Images.{IsImage, Untouched}
 use Rattle.node_disk.specs.Disk.{put_at}
 use Rattle.node_disk.specs.Record.{Held, Written, Entry, Request, Write, Sync, range_of, moment_of, put_within, torn, put_torn, done_writes, effect, opened, step, run, empty_disk, held_after, outcome_at, decided, reopened_still}
-use Rattle.node_disk.specs.Memory.{MemoryState, memory_state, Continues}
+use Rattle.std.specs.Option.{is_none}
+use Rattle.node_disk.specs.Memory.{MemoryState, memory_state, is_none_listed, is_calm, Continues}
 use Rattle.node_disk.specs.declared.record.Stop.{Stop}
 use Rattle.node_disk.specs.declared.record.Outcome.{Outcome}
 use Rattle.node_disk.specs.declared.record.Outcome.TheVariants.{Done, Failed, Stopped}
@@ -156,3 +157,27 @@ continues_on a b c x y =
       stop = y.stop ∙ x.stop;
       failing = y.failing ∙ x.failing;
     }
+
+no_stop : (stop : Option Stop) (failing : List ℕ) → is_none stop && is_none_listed failing ≡ true → stop ≡ None
+no_stop None failing calm = refl
+no_stop (Some s) failing calm = absurd (let no : false ≡ true = calm in cc)
+
+no_number : (stop : Option Stop) (failing : List ℕ) → is_none stop && is_none_listed failing ≡ true → failing ≡ []
+no_number stop [] calm = refl
+no_number None (n ∷ failing) calm = absurd (let no : false ≡ true = calm in cc)
+no_number (Some s) (n ∷ failing) calm = absurd (let no : false ≡ true = calm in cc)
+
+-- the stop and the numbers of a calm disk
+pub calm_stop : (disk : MemoryState) → is_calm disk ≡ true → disk.stop ≡ None
+calm_stop disk calm = no_stop disk.stop disk.failing calm
+
+pub calm_failing : (disk : MemoryState) → is_calm disk ≡ true → disk.failing ≡ []
+calm_failing disk calm = no_number disk.stop disk.failing calm
+
+-- with neither a disk is calm
+pub calm_of : (disk : MemoryState) → disk.stop ≡ None → disk.failing ≡ [] → is_calm disk ≡ true
+calm_of disk stop failing = rw (stop, failing) refl
+
+-- and stays so
+pub calm_stays : (old new : MemoryState) → Continues old new → is_calm old ≡ true → is_calm new ≡ true
+calm_stays old new on calm = calm_of new (on.stop ∙ calm_stop old calm) (on.failing ∙ calm_failing old calm)

@@ -1,5 +1,5 @@
 -- What a disk in memory holds after each of its device calls.
-use Rattle.std.specs.Prelude.{ℕ, ◌+◌, ◌-◌, List, [], ◌∷◌, ◌++◌, length, take, drop, map, replicate, nat_le, Bool, true, false, if◌then◌else◌, ◌==◌, Option, Some, None}
+use Rattle.std.specs.Prelude.{ℕ, ◌+◌, ◌-◌, List, [], ◌∷◌, ◌++◌, length, take, map, replicate, nat_le, Bool, true, false, if◌then◌else◌, ◌==◌, Option, Some, None}
 use Rattle.std.specs.List.{list_any}
 use Rattle.node_disk.specs.Images.{Moment}
 use Rattle.node_disk.specs.Disk.{DeviceCall, Wrote, Synced, put_at}

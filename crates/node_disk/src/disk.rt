@@ -1,6 +1,6 @@
 //! A disk as the log sees it.
 
-ghost use Rattle.std.specs.Prelude.{◌≡◌, ◌≤◌, length, IfOk, OnOk, IsErrOf};
+ghost use Rattle.std.specs.Prelude.{◌≡◌, ◌≤◌, length, Bool, true, false, IfOk, OnOk, IsErrOf};
 ghost use Rattle.cw_base.specs.Causes.{Rose};
 ghost use Rattle.node_disk.specs.Images.{IsImage};
 ghost use Rattle.node_disk.specs.Disk.{DiskState, HasWritten, HasFailedToWrite, HasSynced, HasFailedToSync, IsSame};
@@ -41,6 +41,9 @@ pub trait Disk: Send + Sync {
     /// The second is the first after calls of this trait alone.
     ghost continues: { Self → Self → Type 0 };
 
+    /// No call to come fails. A disk that doesn't tell isn't calm.
+    ghost calm: { Self → Bool } = { λ _. false };
+
     /// All the bytes. This is no device call, and changes nothing.
     fn read_all(&mut self, alloc: Global) -> Result<Vec<u8>, DiskError>
         ensures bytes { IfOk result (λ bytes. bytes.items ≡ (state self.old).now.seen) }
@@ -48,6 +51,7 @@ pub trait Disk: Send + Sync {
         ensures tries { (state self.new).tries ≡ (state self.old).tries }
         ensures faults { (state self.old).faults ≤ (state self.new).faults }
         ensures cause { IsErrOf result DiskError.Failed → Rose (state self.old).faults (state self.new).faults }
+        ensures never_fails { calm self.old ≡ true → IsErrOf result DiskError.Failed → ⊥ }
         ensures continues { continues self.old self.new };
 
     /// Writes over what is there from `place` on, and past the end.
@@ -58,6 +62,7 @@ pub trait Disk: Send + Sync {
         ensures no_memory { IsErrOf result DiskError.NoMemory → IsSame (state self.old) (state self.new) }
         ensures tried { Rose (state self.old).tries (state self.new).tries }
         ensures faults { (state self.old).faults ≤ (state self.new).faults }
+        ensures never_fails { calm self.old ≡ true → IsErrOf result DiskError.Failed → ⊥ }
         ensures continues { continues self.old self.new };
 
     /// Brings all that was written onto the disk: a crash then leaves what a read gives.
@@ -67,6 +72,7 @@ pub trait Disk: Send + Sync {
         ensures no_memory { IsErrOf result DiskError.NoMemory → IsSame (state self.old) (state self.new) }
         ensures tried { Rose (state self.old).tries (state self.new).tries }
         ensures faults { (state self.old).faults ≤ (state self.new).faults }
+        ensures never_fails { calm self.old ≡ true → IsErrOf result DiskError.Failed → ⊥ }
         ensures continues { continues self.old self.new };
 
     /// What a read gives is itself one of the images that a crash now may leave.
@@ -77,4 +83,7 @@ pub trait Disk: Send + Sync {
 
     /// What goes on twice goes on.
     ghost continues_on: { (a b c : Self) → continues a b → continues b c → continues a c };
+
+    /// A calm disk stays calm.
+    ghost stays_calm: { (old new : Self) → continues old new → calm old ≡ true → calm new ≡ true };
 }

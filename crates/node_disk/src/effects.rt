@@ -2,6 +2,7 @@
 
 ghost use Rattle.std.specs.Prelude.{◌≡◌, ◌==◌, ◌+◌, ◌-◌, ◌≤◌, ◌<◌, ◌^◌, ◌++◌, [], ◌∷◌, ℕ, List, length, map, IfOk, OnOk, OnErr, vec_len, vec_capacity};
 ghost use Rattle.cw_base.specs.Causes.{Rose};
+ghost use Rattle.cw_base.specs.Memory.{counted};
 ghost use Rattle.node_disk.specs.Disk.{put_at};
 ghost use Rattle.node_disk.specs.Record.{Write, Sync, Held, put_within, torn, put_torn, done_writes, write_of, effect, entry_of, is_listed, by_number, outcome_at, is_done};
 
@@ -185,6 +186,7 @@ pub(crate) fn is_done(outcome: Outcome) -> bool
 // A count that stays at its greatest value once it is there, and the answer of a call that failed.
 pub(crate) fn count_fault(faults: &mut u64) -> DiskError
     ensures failed { result ≡ DiskError.Failed }
+    ensures counted { faults.new ≡ counted faults.old }
     ensures cause { Rose faults.old faults.new }
     ensures later { faults.old ≤ faults.new }
 {

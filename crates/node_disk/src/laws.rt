@@ -1,11 +1,12 @@
-//! What a stop leaves of an append over a disk in memory, and what a read and crashes give of any disk.
+//! What a stop leaves of an append over a disk in memory, what a read and crashes give of any disk,
+//! and what is known of a log at rest and of a disk that is calm.
 
 ghost use Rattle.std.specs.Prelude.{◌≡◌, ℕ, ◌<◌, ◌≤◌, ◌++◌, [], ◌∷◌, List, length, Bool, true};
-ghost use Rattle.node_disk.specs.Images.{IsImage};
+ghost use Rattle.node_disk.specs.Images.{Moment, IsImage};
 ghost use Rattle.node_disk.specs.Disk.{DiskState, LeftSince, LeavesOnly};
-ghost use Rattle.node_disk.specs.Frames.{Finds};
-ghost use Rattle.node_disk.specs.Log.{LogState, HasAppended, WasCutShort};
-ghost use Rattle.node_disk.specs.Memory.{MemoryState, memory_state, Continues};
+ghost use Rattle.node_disk.specs.Frames.{Finds, FindsWithOrWithout};
+ghost use Rattle.node_disk.specs.Log.{IsSettled, LogState, HasAppended, WasCutShort};
+ghost use Rattle.node_disk.specs.Memory.{MemoryState, memory_state, is_calm, Continues};
 ghost use Rattle.node_disk.specs.Cut.{IsArmed, kept_frames};
 
 use crate::Disk;
@@ -39,4 +40,23 @@ pub fn law_of_moments()
     ensures left_since { (old mid new : DiskState) (passes : List ℕ → Bool)
         → LeavesOnly old mid (λ image. passes image ≡ true) → LeavesOnly mid new (λ image. passes image ≡ true)
         → (image : List ℕ) → LeftSince new (length old.past) image → passes image ≡ true }
+{}
+
+/// A law, of a log at rest. A start finds its frames in what a read gives and in each image that a
+/// crash may leave, and as long as nothing is done to the disk no other image can be left.
+pub fn law_of_rest()
+    ensures seen { (frames : List (List ℕ)) (gate : ℕ) (moment : Moment)
+        → IsSettled frames gate moment → Finds frames moment.seen }
+    ensures images { (frames : List (List ℕ)) (gate : ℕ) (moment : Moment)
+        → IsSettled frames gate moment → (image : List ℕ) → IsImage moment image → Finds frames image }
+    ensures stays { (frames : List (List ℕ)) (frame : List ℕ) (gate : ℕ) (disk : DiskState)
+        → IsSettled frames gate disk.now → LeavesOnly disk disk (FindsWithOrWithout frames frame) }
+{}
+
+/// A law. A calm disk stays calm, and one in memory cuts no append of a log short.
+pub fn law_of_calm<D: Disk>()
+    ensures stays { (old new : D) → D.continues old new → D.calm old ≡ true → D.calm new ≡ true }
+    ensures memory_stays { (old new : MemoryState) → Continues old new → is_calm old ≡ true → is_calm new ≡ true }
+    ensures whole { (old new : LogState MemoryState) (frame : List ℕ)
+        → is_calm old.disk ≡ true → WasCutShort memory_state Continues frame old new → ⊥ }
 {}

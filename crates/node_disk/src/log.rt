@@ -1,6 +1,6 @@
 //! A log of frames on a disk.
 
-ghost use Rattle.std.specs.Prelude.{◌≡◌, ◌⊎◌, ◌+◌, ◌≤◌, ◌<◌, ◌^◌, ◌++◌, [], ◌∷◌, List, ℕ, length, true, false, IfOk, OnOk, OnErr, IfErr, Err, IsErrOf, Some, None, slice_get};
+ghost use Rattle.std.specs.Prelude.{◌≡◌, ◌⊎◌, ◌+◌, ◌≤◌, ◌<◌, ◌^◌, ◌++◌, [], ◌∷◌, List, ℕ, length, true, false, IfOk, OnOk, OnErr, IfErr, Ok, Err, IsErrOf, Some, None, slice_get};
 ghost use Rattle.node_disk.specs.Images.{IsImage, IsDurable};
 ghost use Rattle.cw_base.specs.Causes.{Rose};
 ghost use Rattle.node_disk.specs.Disk.{Holds, Torn, LeavesOnly, Synced, HasTold, IsCutShort, IsFront};
@@ -83,6 +83,15 @@ impl From<DiskError> for StoreError {
 /// An append writes length, frame and a closed gate behind the last gate, syncs, opens the last gate
 /// and syncs. So the gate stands closed on the disk until the frame behind it is there whole, and no
 /// checksum is needed.
+///
+/// ```text
+/// let mut log = match Log::start(alloc, MemoryDisk::new(alloc, Vec::new(alloc))) {
+///     Ok(log) => log,
+///     Err((_disk, error)) => return Err(error),
+/// };
+/// log.append(b"first")?;
+/// let disk = log.into_disk().reopen(); // a restart, on which a start finds the frame
+/// ```
 #[derive(Drop)]
 pub struct Log<D: Disk> {
     alloc: Global,
@@ -105,6 +114,8 @@ impl<D: Disk> Log<D> {
         // The frames are those of the bytes that it found, or a frame there is cut.
         ensures ok { IfOk result (λ log. (has_failed log ≡ false) × Finds (log_frames log) (D.state disk).now.seen) }
         ensures settled { IfOk result (λ log. LogIsSettled D.state log) }
+        ensures seen { IfOk result (λ log. 2 ≤ length (D.state disk).now.seen
+            → (D.state (log_disk log)).now.seen ≡ (D.state disk).now.seen) }
         ensures on_disk { IfOk result (λ log. (image : List ℕ)
             → IsImage (D.state (log_disk log)).now image → Finds (log_frames log) image) }
         ensures foreign { (place : ℕ) → IfErr result (λ e. e.1 ≡ StoreError.Foreign place
@@ -132,6 +143,7 @@ impl<D: Disk> Log<D> {
         ensures cause { IfErr result (λ e. e.1 ≡ StoreError.Disk → Rose (D.state disk).faults (D.state e.0).faults) }
         ensures faults { IfOk result (λ log. (D.state disk).faults ≤ (D.state (log_disk log)).faults) }
         ensures faults_err { IfErr result (λ e. (D.state disk).faults ≤ (D.state e.0).faults) }
+        ensures never_fails { D.calm disk ≡ true → IfErr result (λ e. e.1 ≡ StoreError.Disk → ⊥) }
         ensures not_failed { IfErr result (λ e. e.1 ≡ StoreError.Failed → ⊥) }
         ensures continues { IfOk result (λ log. D.continues disk (log_disk log)) }
         ensures continues_err { IfErr result (λ e. D.continues disk e.0) }
@@ -179,6 +191,13 @@ impl<D: Disk> Log<D> {
         self.frames[index].as_slice()
     }
 
+    /// Whether an earlier call left the disk in doubt: each append then answers `Failed`.
+    pub fn is_failed(&self) -> bool
+        ensures { result ≡ has_failed self.now }
+    {
+        self.failed
+    }
+
     /// Adds a frame, which is then on the disk, by four device calls: it writes length, frame and a
     /// closed gate behind the last gate, syncs, opens that gate, and syncs, and makes none after the
     /// first that fails. An empty frame isn't added and calls no device. Refused for memory before a
@@ -189,6 +208,7 @@ impl<D: Disk> Log<D> {
             × (log_frames self.new ≡ with_frame (log_frames self.old) frame.now)) }
         ensures err { OnErr result (log_frames self.new ≡ log_frames self.old) }
         ensures empty { length frame.now ≡ 0 → IsUnchanged self.old self.new }
+        ensures empty_ok { length frame.now ≡ 0 → has_failed self.old ≡ false → result ≡ Ok tt }
         ensures settled { has_failed self.new ≡ false → LogIsSettled D.state self.new }
 
         // After it each image has all frames, the new one too.
@@ -212,6 +232,7 @@ impl<D: Disk> Log<D> {
         ensures disk { IsErrOf result StoreError.Disk → has_failed self.new ≡ true }
         ensures disk_cause { IsErrOf result StoreError.Disk
             → Rose (D.state (log_disk self.old)).faults (D.state (log_disk self.new)).faults }
+        ensures never_fails { D.calm (log_disk self.old) ≡ true → IsErrOf result StoreError.Disk → ⊥ }
         ensures faults { (D.state (log_disk self.old)).faults ≤ (D.state (log_disk self.new)).faults }
         ensures failed { has_failed self.old ≡ true → IsErrOf result StoreError.Failed }
         ensures failed_same { has_failed self.old ≡ true → IsUnchanged self.old self.new }
@@ -276,6 +297,7 @@ fn found_bytes<D: Disk>(alloc: Global, disk: &mut D) -> Result<Vec<u8>, DiskErro
     ensures no_memory { IsErrOf result DiskError.NoMemory → IsFront (Synced true ∷ []) (D.state disk.old) (D.state disk.new) }
     ensures cause { IsErrOf result DiskError.Failed → Rose (D.state disk.old).faults (D.state disk.new).faults }
     ensures faults { (D.state disk.old).faults ≤ (D.state disk.new).faults }
+    ensures never_fails { D.calm disk.old ≡ true → IsErrOf result DiskError.Failed → ⊥ }
     ensures continues { D.continues disk.old disk.new }
 {
     match disk.sync() {
@@ -310,6 +332,7 @@ fn write_and_sync<D: Disk>(disk: &mut D, place: u64, bytes: &[u8]) -> Result<(),
     ensures cause { IsErrOf result DiskError.Failed → Rose (D.state disk.old).faults (D.state disk.new).faults }
     ensures faults { (D.state disk.old).faults ≤ (D.state disk.new).faults }
     ensures tried { Rose (D.state disk.old).tries (D.state disk.new).tries }
+    ensures never_fails { D.calm disk.old ≡ true → IsErrOf result DiskError.Failed → ⊥ }
     ensures continues { D.continues disk.old disk.new }
 {
     match disk.write_at(place, bytes) {
@@ -338,6 +361,7 @@ fn add_frame<D: Disk>(disk: &mut D, gate: u64, bytes: &[u8]) -> Result<(), DiskE
     ensures cause { IsErrOf result DiskError.Failed → Rose (D.state disk.old).faults (D.state disk.new).faults }
     ensures faults { (D.state disk.old).faults ≤ (D.state disk.new).faults }
     ensures tried { Rose (D.state disk.old).tries (D.state disk.new).tries }
+    ensures never_fails { D.calm disk.old ≡ true → IsErrOf result DiskError.Failed → ⊥ }
     ensures continues { D.continues disk.old disk.new }
 {
     match write_and_sync(disk, gate + 1, bytes) {

@@ -15,6 +15,13 @@ use std::marker::Model;
 ///
 /// It keeps every byte that was ever written to it, in the record by which it answers for earlier
 /// moments.
+///
+/// ```text
+/// let mut disk = MemoryDisk::new(alloc, Vec::new(alloc)); // no call fails by its number
+/// disk.stop_at(1, 1, 9); // in the next device call, behind one byte; the rest is 9
+/// assert_eq!(rt; disk.write_at(0, &[7, 7]), Err(DiskError::Failed));
+/// assert_eq!(rt; disk.reopen().bytes(), [7, 9].as_slice());
+/// ```
 #[derive(Drop)]
 pub struct MemoryDisk {
     alloc: Global,
@@ -160,14 +167,17 @@ impl MemoryDisk {
 impl Disk for MemoryDisk {
     ghost use Rattle.std.specs.Prelude.{◌≡◌, ◌≤◌, length, true, false, IfOk, OnOk, IsErrOf};
     ghost use Rattle.cw_base.specs.Causes.{Rose};
+    ghost use Rattle.cw_base.specs.Memory.{counted};
     ghost use Rattle.node_disk.specs.Disk.{IsSame, HasWritten, HasFailedToWrite, HasSynced, HasFailedToSync};
     ghost use Rattle.node_disk.specs.Record.{Write, Sync};
-    ghost use Rattle.node_disk.specs.Memory.{memory_state, is_stopped, next_fails, HasCalled, Continues};
-    ghost use Rattle.node_disk.specs.MemoryLaws.{continues_itself as itself, continues_on as on, seen_is_image as is_image};
+    ghost use Rattle.node_disk.specs.Memory.{memory_state, is_calm, is_stopped, next_fails, HasCalled, Continues};
+    ghost use Rattle.node_disk.specs.MemoryLaws.{calm_stays, continues_itself as itself, continues_on as on, seen_is_image as is_image};
 
     ghost state = { memory_state };
 
     ghost continues = { Continues };
+
+    ghost calm = { is_calm };
 
     ghost seen_is_image = { is_image };
 
@@ -175,17 +185,23 @@ impl Disk for MemoryDisk {
 
     ghost continues_on = { on };
 
+    ghost stays_calm = { calm_stays };
+
     // It fails exactly where a stop was reached.
+    #[tactic(auto, using(crate::proofs::Calm::never))]
     fn read_all(&mut self, alloc: Global) -> Result<Vec<u8>, DiskError>
         ensures bytes { IfOk result (λ bytes. bytes.items ≡ (memory_state self.old).now.seen) }
         ensures same { IsSame (memory_state self.old) (memory_state self.new) }
         ensures tries { (memory_state self.new).tries ≡ (memory_state self.old).tries }
         ensures faults { (memory_state self.old).faults ≤ (memory_state self.new).faults }
         ensures cause { IsErrOf result DiskError.Failed → Rose (memory_state self.old).faults (memory_state self.new).faults }
+        ensures never_fails { is_calm self.old ≡ true → IsErrOf result DiskError.Failed → ⊥ }
         ensures continues { Continues self.old self.new }
 
         ensures kept { self.new ≡ record self.old { faults = self.new.faults } }
         ensures calm { IfOk result (λ bytes. self.new.faults ≡ self.old.faults) }
+        ensures fault_counted { IsErrOf result DiskError.Failed → self.new.faults ≡ counted self.old.faults }
+        ensures no_fault { IsErrOf result DiskError.NoMemory → self.new.faults ≡ self.old.faults }
         ensures stopped { is_stopped self.old ≡ true → IsErrOf result DiskError.Failed }
         ensures only_stopped { IsErrOf result DiskError.Failed → is_stopped self.old ≡ true }
     {
@@ -196,6 +212,7 @@ impl Disk for MemoryDisk {
     }
 
     // It fails exactly where a stop or the numbers that fail say so, and records what it did.
+    #[tactic(auto, using(crate::proofs::Calm::never))]
     fn write_at(&mut self, place: u64, bytes: &[u8]) -> Result<(), DiskError>
         requires { place ≤ length (memory_state self.old).now.seen }
         ensures ok { OnOk result (HasWritten place bytes.now (memory_state self.old) (memory_state self.new)) }
@@ -204,12 +221,16 @@ impl Disk for MemoryDisk {
         ensures no_memory { IsErrOf result DiskError.NoMemory → IsSame (memory_state self.old) (memory_state self.new) }
         ensures tried { Rose (memory_state self.old).tries (memory_state self.new).tries }
         ensures faults { (memory_state self.old).faults ≤ (memory_state self.new).faults }
+        ensures never_fails { is_calm self.old ≡ true → IsErrOf result DiskError.Failed → ⊥ }
         ensures continues { Continues self.old self.new }
 
         ensures recorded { OnOk result (HasCalled (Write place bytes.now) self.old self.new) }
         ensures failure_recorded { IsErrOf result DiskError.Failed
             → HasCalled (Write place bytes.now) self.old self.new }
         ensures calm { OnOk result (self.new.faults ≡ self.old.faults) }
+        ensures fault_counted { IsErrOf result DiskError.Failed → self.new.faults ≡ counted self.old.faults }
+        ensures no_fault { IsErrOf result DiskError.NoMemory → self.new.faults ≡ self.old.faults }
+        ensures try_counted { self.new.tries ≡ counted self.old.tries }
         ensures succeeds { OnOk result (next_fails self.old ≡ false) }
         ensures fails { IsErrOf result DiskError.Failed → next_fails self.old ≡ true }
     {
@@ -235,17 +256,22 @@ impl Disk for MemoryDisk {
     }
 
     // The same of a sync.
+    #[tactic(auto, using(crate::proofs::Calm::never))]
     fn sync(&mut self) -> Result<(), DiskError>
         ensures ok { OnOk result (HasSynced (memory_state self.old) (memory_state self.new)) }
         ensures failed { IsErrOf result DiskError.Failed → HasFailedToSync (memory_state self.old) (memory_state self.new) }
         ensures no_memory { IsErrOf result DiskError.NoMemory → IsSame (memory_state self.old) (memory_state self.new) }
         ensures tried { Rose (memory_state self.old).tries (memory_state self.new).tries }
         ensures faults { (memory_state self.old).faults ≤ (memory_state self.new).faults }
+        ensures never_fails { is_calm self.old ≡ true → IsErrOf result DiskError.Failed → ⊥ }
         ensures continues { Continues self.old self.new }
 
         ensures recorded { OnOk result (HasCalled Sync self.old self.new) }
         ensures failure_recorded { IsErrOf result DiskError.Failed → HasCalled Sync self.old self.new }
         ensures calm { OnOk result (self.new.faults ≡ self.old.faults) }
+        ensures fault_counted { IsErrOf result DiskError.Failed → self.new.faults ≡ counted self.old.faults }
+        ensures no_fault { IsErrOf result DiskError.NoMemory → self.new.faults ≡ self.old.faults }
+        ensures try_counted { self.new.tries ≡ counted self.old.tries }
         ensures succeeds { OnOk result (next_fails self.old ≡ false) }
         ensures fails { IsErrOf result DiskError.Failed → next_fails self.old ≡ true }
     {

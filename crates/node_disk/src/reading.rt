@@ -5,7 +5,39 @@ ghost use Rattle.node_disk.specs.Frames.{count_of, read_log, IsAtRest};
 ghost use Rattle.node_disk.specs.Log.{all_items};
 
 use crate::StoreError;
+use cw_base::{Items, NoMemory};
 use std::alloc::{AllocError, Global};
+
+/// The frames of a log that these bytes are, without a disk: those that a start finds on a disk that
+/// gives them. `Foreign` is the place of an open gate whose frame is cut, in bytes from the start.
+pub fn read_log(alloc: Global, bytes: &[u8]) -> Result<Items<Items<u8>>, StoreError>
+    ensures found { IfOk result (λ frames. read_log bytes.now ≡ Ok frames) }
+    ensures foreign { (place : ℕ) → IsErrOf result (StoreError.Foreign place) → read_log bytes.now ≡ Err place }
+    ensures disk { IsErrOf result StoreError.Disk → ⊥ }
+    ensures failed { IsErrOf result StoreError.Failed → ⊥ }
+{
+    if bytes.len() < 2 {
+        return Ok(Items::new(alloc));
+    }
+    match read_frames(alloc, bytes) {
+        Ok((frames, _)) => match items_of(alloc, frames) {
+            Ok(items) => Ok(items),
+            Err(NoMemory) => Err(StoreError::NoMemory),
+        },
+        Err(error) => Err(error),
+    }
+}
+
+// The same frames, as lists that contracts see as their bytes.
+fn items_of(alloc: Global, frames: Vec<Vec<u8>>) -> Result<Items<Items<u8>>, NoMemory>
+    ensures { IfOk result (λ items. items ≡ all_items frames.items) }
+{
+    let mut items = Items::new(alloc);
+    for frame in frames {
+        items.push(Items::from_vec(frame))?;
+    }
+    Ok(items)
+}
 
 // The number that eight bytes say, the high byte first.
 #[tactic(auto, unfolding(crate::specs::Frames::count_of))]

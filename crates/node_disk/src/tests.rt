@@ -79,12 +79,43 @@ fn a_start_finds_whole_frames_and_names_a_cut_one(rt: HostRuntime) -> Result<(),
     Ok(())
 }
 
+// Bytes without a disk have the frames that a start finds on a disk of them.
+#[test]
+fn bytes_are_read_without_a_disk(rt: HostRuntime) -> Result<(), Fail> {
+    let alloc = rt.alloc();
+    for (bytes, frames) in [(&[][..], 0), (&[1], 0), (&[0, 1], 0), (&ONE_NOTE, 1)] {
+        assert_eq!(rt; read_log(alloc, bytes)?.len(), frames);
+    }
+    match read_log(alloc, &ONE_NOTE[..19]) {
+        Ok(_) => assert!(rt; false),
+        Err(error) => assert_eq!(rt; error, StoreError::Foreign(0)),
+    }
+    Ok(())
+}
+
+#[test]
+fn a_frame_of_more_than_a_mebibyte_is_found_again(rt: HostRuntime) -> Result<(), Fail> {
+    let alloc = rt.alloc();
+    let mut frame = Vec::new(alloc);
+    frame.resize(1_048_745, 7)?;
+    let mut log = log_on(alloc, MemoryDisk::new(alloc, Vec::new(alloc)))?;
+    log.append(&frame)?;
+    log.append(&NOTE)?;
+    let again = log_on(alloc, log.into_disk().reopen())?;
+    assert_eq!(rt; again.frames(), 2);
+    assert!(rt; again.frame(0) == frame.as_slice());
+    assert_eq!(rt; again.frame(1), NOTE.as_slice());
+    Ok(())
+}
+
 #[test]
 fn a_stopped_write_is_torn_and_the_disk_stays_stopped(rt: HostRuntime) -> Result<(), Fail> {
     let alloc = rt.alloc();
     let mut log = log_on(alloc, MemoryDisk::new(alloc, Vec::new(alloc)))?;
     log.stop_at(1, 3, 255);
+    assert!(rt; !log.is_failed());
     assert_eq!(rt; log.append(&NOTE), Err(StoreError::Disk));
+    assert!(rt; log.is_failed());
     assert_eq!(rt; log.append(&NOTE), Err(StoreError::Failed));
     let mut torn = [255; 20];
     torn[..4].copy_from_slice(&[0; 4]);
