@@ -44,6 +44,7 @@ module _ (r : Rules) (script : List Line) (w : World) (c : IsCluster r script) (
   kept_front front e =
       world_done r script w i m (front_turn m front) (record { more = front; joined = frames_join m.frames front; keeps = e }) k at
       (Grows_sound x (members_of w) (members_of (with_done w i (front_turn m front))) (grows_done w i m (front_turn m front) front at (frames_join m.frames front)) m.came.ballots (k.each i m at).came)
+      (k.each i m at).signers
       (λ v h. absurd (false≢true h))
 
   front_members : (front : List Note) → members_of (with_done w i (front_turn m front)) ≡ at_notes w i (member_notes m ++ front)

@@ -64,8 +64,8 @@ nullified_stands x fits members notes before rest k joined epoch view h =
 -- a settled view above the first has a proposal that stands notarized
 settled_stands : (x : Epochs) (fits : List Note → Proposal → Bool) (members : Members) → AreLawful x fits members → (notes before rest : List Note) → AreKept x fits members notes → notes ≡ before ++ rest → (epoch view : ℕ) → 0 < view → IsSettled before epoch view
     → (r : Proposal) × Stands x members (Notarize r) × (r.epoch ≡ epoch) × (r.view ≡ view)
-settled_stands x fits members l notes before rest k joined epoch view pos (inl z) = absurd (omega arith)
-settled_stands x fits members l notes before rest k joined epoch view pos (inr some) =
+settled_stands x fits members l notes before rest k joined epoch view pos (inl z) = absurd (omega (arith, z.0))
+settled_stands x fits members l notes before rest k joined epoch view pos (inr (above, some)) =
     let (r, settles) = settler_found before epoch view some in
     (r, settler_stands x fits members l notes k epoch view r (subst (λ ns. Settles ns epoch view r) (sym joined) (Settles_front before rest epoch view r settles)), settles.0, settles.1)
 

@@ -14,7 +14,7 @@ use Rattle.cw_types.specs.Same.{same_commitment}
 use Rattle.cw_rules.specs.Accepted.{State, first_some}
 use Rattle.cw_rules.specs.Held.{at_height, finalization_of, greatest_floor, held, last_ack, next, parent_of, pending, reached, resume}
 use Rattle.cw_rules.specs.Rules.{Rules, genesis, genesis_commitment}
-use Rattle.cw_rules.specs.Step.{deliveries, deliveries_within, delivery, handing, most_delivered, with_given, with_handed}
+use Rattle.cw_rules.specs.Step.{above_ack, deliveries, deliveries_within, delivery, handing, left_to_hand, most_delivered, with_given, with_handed}
 use Rattle.cw_rules.proofs.SameLemmas.{same_commitment_self}
 use Rattle.cw_rules.proofs.Lists.{all_true, and_then_some, first_some_at}
 
@@ -70,16 +70,12 @@ module _ (r : Rules) where
 
   -- ---- what a hand-out changes
 
-  last_added : (o : Option ℕ) (xs : List ℕ) (x : ℕ) → last_or o (xs ++ x ∷ []) ≡ Some x
+  pub last_added : (o : Option ℕ) (xs : List ℕ) (x : ℕ) → last_or o (xs ++ x ∷ []) ≡ Some x
   last_added o [] x = refl
   last_added o (y ∷ ys) x = last_added (Some y) ys x
 
-  next_given : (s : State) (h : ℕ) → next (with_given s h) ≡ max (h + 1) (greatest_floor s.notes)
+  pub next_given : (s : State) (h : ℕ) → next (with_given s h) ≡ max (h + 1) (greatest_floor s.notes)
   next_given s h = ap (λ o. max (option_map_or (λ x. x + 1) o (resume s.notes)) (greatest_floor s.notes)) (last_added None s.given h)
-
-  -- heights up to the last Ack are none that are pending
-  abbrev above : State → ℕ
-  above s = option_map_or (λ h. h + 1) (last_ack s.notes) 0
 
   abbrev is_pending : State → ℕ → Bool
   is_pending s h = option_map_or (λ a. nat_lt a h) (last_ack s.notes) true && nat_le (greatest_floor s.notes) h
@@ -92,16 +88,16 @@ module _ (r : Rules) where
   counted s h b e =
       ap length (filter-append (is_pending s) s.given (h ∷ [])) ∙ (length-append (filter (is_pending s) s.given) (filter (is_pending s) (h ∷ [])) ∙ ap (λ t. length (pending s) + length (cond t (h ∷ []) [])) e)
 
-  no_fewer : (s : State) (h : ℕ) → length (pending s) ≤ length (pending (with_given s h))
+  pub no_fewer : (s : State) (h : ℕ) → length (pending s) ≤ length (pending (with_given s h))
   no_fewer s h = omega (arith, counted s h (is_pending s h) refl)
 
-  one_more : (s : State) (h : ℕ) → above s ≤ h → greatest_floor s.notes ≤ h → length (pending (with_given s h)) ≡ length (pending s) + 1
+  pub one_more : (s : State) (h : ℕ) → above_ack s ≤ h → greatest_floor s.notes ≤ h → length (pending (with_given s h)) ≡ length (pending s) + 1
   one_more s h up high = counted s h true (and_from _ (nat_le (greatest_floor s.notes) h) (above_passes (last_ack s.notes) h up) (le-leb (greatest_floor s.notes) h high))
 
   -- ---- the bound
 
   -- what a delivery is
-  delivery_is : (s : State) (h : Handed) → delivery r s ≡ Some h → (length (pending s) < r.backlog) × (h.height ≡ next s)
+  pub delivery_is : (s : State) (h : Handed) → delivery r s ≡ Some h → (length (pending s) < r.backlog) × (h.height ≡ next s)
   delivery_is s h e = go (cases_Bool (nat_lt (length (pending s)) r.backlog))
     where
       at : Option Handed
@@ -129,30 +125,33 @@ module _ (r : Rules) where
           go (inl t) = absurd (omega (arith, ltb-true a b t))
           go (inr f) = f
 
+  -- with each delivery less is left to hand out
+  pub falls : (s : State) (h : Handed) → delivery r s ≡ Some h → left_to_hand r (with_given s h.height) < left_to_hand r s
+  falls s h e = go (cases_Bool (nat_lt h.height (above_ack s)))
+    where
+      is : (length (pending s) < r.backlog) × (h.height ≡ next s)
+      is = delivery_is s h e
+
+      high : greatest_floor s.notes ≤ h.height
+      high = omega (arith, is.1)
+
+      go : (nat_lt h.height (above_ack s) ≡ true) ⊎ (nat_lt h.height (above_ack s) ≡ false) → left_to_hand r (with_given s h.height) < left_to_hand r s
+      go (inl t) = omega (arith, is.0, is.1, ltb-true h.height (above_ack s) t, next_given s h.height, no_fewer s h.height)
+      go (inr f) = omega (arith, is.0, is.1, ltb-false h.height (above_ack s) f, next_given s h.height, one_more s h.height (ltb-false h.height (above_ack s) f) high)
+
   -- nothing more is handed out
-  pub ended : (steps : ℕ) (s : State) → (above s - next s) + (r.backlog - length (pending s)) ≤ steps → delivery r (with_handed s (deliveries_within r steps s)) ≡ None
+  pub ended : (steps : ℕ) (s : State) → left_to_hand r s ≤ steps → delivery r (with_handed s (deliveries_within r steps s)) ≡ None
   ended zero s le = same_given s (full_none s (omega arith))
     where
       same_given : (s : State) → delivery r s ≡ None → delivery r (with_handed s []) ≡ None
       same_given s e = subst (λ xs. delivery r (record { notes = s.notes; came = s.came; given = xs }) ≡ None) (sym (append-nil s.given)) e
   ended (suc steps) s le = go (delivery r s) refl (λ h. ended steps (with_given s h))
     where
-      fewer : (h : ℕ) → h ≡ next s → length (pending s) < r.backlog → (above s - next (with_given s h)) + (r.backlog - length (pending (with_given s h))) ≤ steps
-      fewer h e room = by_case (cases_Bool (nat_lt h (above s)))
-        where
-          high : greatest_floor s.notes ≤ h
-          high = omega (arith, e)
-
-          by_case : (nat_lt h (above s) ≡ true) ⊎ (nat_lt h (above s) ≡ false) → (above s - next (with_given s h)) + (r.backlog - length (pending (with_given s h))) ≤ steps
-          by_case (inl t) = omega (arith, ltb-true h (above s) t, next_given s h, no_fewer s h)
-          by_case (inr f) = omega (arith, ltb-false h (above s) f, next_given s h, one_more s h (ltb-false h (above s) f) high)
-
-      go : (o : Option Handed) → delivery r s ≡ o → ((h : ℕ) → (above s - next (with_given s h)) + (r.backlog - length (pending (with_given s h))) ≤ steps → delivery r (with_handed (with_given s h) (deliveries_within r steps (with_given s h))) ≡ None)
+      go : (o : Option Handed) → delivery r s ≡ o → ((h : ℕ) → left_to_hand r (with_given s h) ≤ steps → delivery r (with_handed (with_given s h) (deliveries_within r steps (with_given s h))) ≡ None)
           → delivery r (with_handed s (option_map_or (λ h. h ∷ deliveries_within r steps (with_given s h.height)) o [])) ≡ None
       go None e later = subst (λ xs. delivery r (record { notes = s.notes; came = s.came; given = xs }) ≡ None) (sym (append-nil s.given)) e
       go (Some h) e later =
-          let (room, high) = delivery_is s h e in
-          subst (λ xs. delivery r (record { notes = s.notes; came = s.came; given = xs }) ≡ None) (append_assoc s.given (h.height ∷ []) (map (λ (x : Handed). x.height) (deliveries_within r steps (with_given s h.height)))) (later h.height (fewer h.height high room))
+          subst (λ xs. delivery r (record { notes = s.notes; came = s.came; given = xs }) ≡ None) (append_assoc s.given (h.height ∷ []) (map (λ (x : Handed). x.height) (deliveries_within r steps (with_given s h.height)))) (later h.height (omega (arith, falls s h e)))
 
   -- as many as may be are pending, or the next height isn't reached
   pub all_delivered : (s : State) → (r.backlog ≤ length (pending (with_handed s (deliveries r s)))) ⊎ (at_height r s.notes (next (with_handed s (deliveries r s))) ≡ None)

@@ -23,3 +23,7 @@ pub mod Deliveries
 pub mod Codewords
 pub mod ClashFound
 pub mod Reports
+pub mod Heights
+pub mod Stores
+pub mod Changes
+pub mod Written

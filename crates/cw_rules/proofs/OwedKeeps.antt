@@ -1,8 +1,8 @@
 -- Each owed note has among the notes before it what it rests on.
-use Rattle.std.proofs.Common.{◌≡◌, ℕ, zero, suc, ◌*◌, ◌<◌, true, false, ◌&&◌, ◌==◌, not, List, [], ◌∷◌, Option, Some, None, IsTrue, is_some, sym, ◌∙◌, ap, subst, inl, inr, ◌⊎◌, arith, length, nat_le}
+use Rattle.std.proofs.Common.{◌≡◌, ℕ, zero, suc, ◌*◌, ◌<◌, true, false, ◌&&◌, ◌||◌, ◌==◌, Bool, find, not, List, [], ◌∷◌, Option, Some, None, IsTrue, is_some, sym, ◌∙◌, ap, subst, inl, inr, ◌⊎◌, arith, length, nat_le}
 use Rattle.std.specs.List.{list_any, AllByRecursion}
 use Rattle.std.specs.Option.{option_or, option_map_or, option_map}
-use Rattle.std.proofs.lemmas.Bool.{or_cases, and_parts, false≢true, cases_Bool, cond-true, cond-false, leb-true, eqb-true, not-true, leb-false}
+use Rattle.std.proofs.lemmas.Bool.{or_cases, or_left, or_right, and_parts, false≢true, cases_Bool, cond-true, cond-false, leb-true, eqb-true, not-true, leb-false}
 use Rattle.cw_types.specs.declared.commitment.Commitment.{Commitment}
 use Rattle.cw_types.specs.declared.note.Note.{Note}
 use Rattle.cw_types.specs.declared.vote.Proposal.{Proposal}
@@ -17,7 +17,7 @@ use Rattle.cw_rules.specs.Accepted.{Ballot, Came, Many, Part, Row, Single, State
 use Rattle.cw_rules.specs.Fits.{fits}
 use Rattle.cw_rules.specs.Held.{at_height, held, if_committed, row_of, shown, whole_of}
 use Rattle.cw_rules.specs.Keeps.{IsClosed, IsRising, IsSound, Keeps, Meaning}
-use Rattle.cw_rules.specs.Notes.{epoch_of, has_cert, has_certified, has_vote, root_of, settled, settler}
+use Rattle.cw_rules.specs.Notes.{enters, entry, epoch_of, has_begun, has_cert, has_certified, has_vote, root_of, settled, settler}
 use Rattle.cw_rules.specs.Owed.{all_nullified, block_owed, cert_owed, certified_owed, epoch_owed, finalize_owed, floor_owed, has_closed, has_voted, is_ready, is_single, known, knows, named_commitments, named_proposals, named_votes, notarize_owed, owed, reached_epoch, signers_in, signers_of, top_epoch, when}
 use Rattle.cw_rules.specs.Rules.{Chunk, Rules, block_of, commit, genesis_commitment}
 use Rattle.cw_rules.specs.Stands.{IsSettled}
@@ -42,7 +42,7 @@ whole_under : (r : Rules) (c : Commitment) (p : Part) (b : Block) → whole_of r
 whole_under r c (Whole x) b h = committed_under r c x b h
 whole_under r c (Row d x) b h = cc
 
-shown_under : (r : Rules) (came : Came) (c : Commitment) (b : Block) → shown r came c ≡ Some b → commit r b ≡ c
+pub shown_under : (r : Rules) (came : Came) (c : Commitment) (b : Block) → shown r came c ≡ Some b → commit r b ≡ c
 shown_under r came c b h = go (or_some (first_some (whole_of r c) came.parts) (option_and_then (if_committed r c) (block_of r c.config rows)) b h)
   where
     rows : List Chunk
@@ -114,15 +114,56 @@ single_sound m i v (Single j w ∷ xs) a h = go (or_cases ((i == j) && same_vote
         (subst (λ u. well_formed u ≡ true) (sym f) a.0.0, subst (λ u. m.backs i u ≡ true) (sym f) (subst (λ k. m.backs k w ≡ true) (sym g) a.0.1))
     go (inr e) later = later e
 
+-- an entry that is found was noted
+entered_by : (epoch : ℕ) (notes : List Note) (x : ℕ × Commitment) → find (λ (e : ℕ × Commitment). e.0 == epoch) (filter_map entry notes) ≡ Some x → list_any (enters epoch) notes ≡ true
+entered_by epoch [] x h = cc
+entered_by epoch (note ∷ notes) x h = by_note note h (entered_by epoch notes x)
+  where
+    of : ℕ × Commitment → Bool
+    of e = e.0 == epoch
+
+    by_note : (n : Note) → find (λ (e : ℕ × Commitment). e.0 == epoch) (filter_map entry (n ∷ notes)) ≡ Some x → (find (λ (e : ℕ × Commitment). e.0 == epoch) (filter_map entry notes) ≡ Some x → list_any (enters epoch) notes ≡ true) → list_any (enters epoch) (n ∷ notes) ≡ true
+    by_note (Note.Epoch d c) h later = go (cases_Bool (d == epoch))
+      where
+        go : ((d == epoch) ≡ true) ⊎ ((d == epoch) ≡ false) → ((d == epoch) || list_any (enters epoch) notes) ≡ true
+        go (inl t) = or_left (d == epoch) (list_any (enters epoch) notes) t
+        go (inr f) = or_right (d == epoch) (list_any (enters epoch) notes) (later (sym (cond-false (d == epoch) (Some (d, c)) (find (λ (e : ℕ × Commitment). e.0 == epoch) (filter_map entry notes)) f) ∙ h))
+    by_note (Note.Block c b) h later = later h
+    by_note (Note.Verified d w c) h later = later h
+    by_note (Note.Certified p) h later = later h
+    by_note (Note.Vote v) h later = later h
+    by_note (Note.Cert s) h later = later h
+    by_note (Note.Ack n) h later = later h
+    by_note (Note.Floor n) h later = later h
+    by_note (Note.Prune n) h later = later h
+
+-- an epoch that has a root has begun
+pub begun_by : (c0 : Commitment) (notes : List Note) (epoch : ℕ) (c : Commitment) → root_of c0 notes epoch ≡ Some c → has_begun notes epoch ≡ true
+begun_by c0 notes epoch c h = go (cases_Bool (epoch == 0))
+  where
+    found : Option (ℕ × Commitment)
+    found = find (λ (e : ℕ × Commitment). e.0 == epoch) (filter_map entry notes)
+
+    go : ((epoch == 0) ≡ true) ⊎ ((epoch == 0) ≡ false) → ((epoch == 0) || list_any (enters epoch) notes) ≡ true
+    go (inl t) = or_left (epoch == 0) (list_any (enters epoch) notes) t
+    go (inr f) =
+        let (x, e, g) = map_some (λ (e : ℕ × Commitment). e.1) found c (sym (cond-false (epoch == 0) (Some c0) (option_map (λ (e : ℕ × Commitment). e.1) found) f) ∙ h) in
+        or_right (epoch == 0) (list_any (enters epoch) notes) (entered_by epoch notes x e)
+
+-- what isn't 0 is above it
+eqb-above : (n : ℕ) → (n == 0) ≡ false → 0 < n
+eqb-above zero f = absurd (false≢true (sym f))
+eqb-above (suc n) f = omega arith
+
 -- a settled view, by the search that a proposal's parent goes through
 pub settled_tells : (c0 : Commitment) (notes : List Note) (epoch view : ℕ) (c : Commitment) → settled c0 notes epoch view ≡ Some c → IsSettled notes epoch view
 settled_tells c0 notes epoch view c h = go (cases_Bool (view == 0))
   where
     go : ((view == 0) ≡ true) ⊎ ((view == 0) ≡ false) → IsSettled notes epoch view
-    go (inl t) = inl (eqb-true view 0 t)
+    go (inl t) = inl (eqb-true view 0 t, begun_by c0 notes epoch c (sym (cond-true (view == 0) (root_of c0 notes epoch) (option_map (λ (p : Proposal). p.payload) (settler notes epoch view)) t) ∙ h))
     go (inr f) =
         let (p, e, g) = map_some (λ (p : Proposal). p.payload) (settler notes epoch view) c (sym (cond-false (view == 0) (root_of c0 notes epoch) (option_map (λ (p : Proposal). p.payload) (settler notes epoch view)) f) ∙ h) in
-        inr (ap is_some e)
+        inr (eqb-above view f, ap is_some e)
 
 notarize_keeps : (r : Rules) (m : Meaning) (id : ℕ) (s : State) → IsTold m id s → (p : Proposal) (note : Note) → Unit {0} → notarize_owed r id s p ≡ Some note → Keeps r m s.notes note
 notarize_keeps r m id s told p note u h =

@@ -2,7 +2,7 @@
 use Rattle.std.proofs.Common.{◌≡◌, ℕ, zero, suc, ◌+◌, ◌-◌, ◌^◌, ◌<◌, Bool, true, false, ◌&&◌, ◌||◌, ◌==◌, not, cond, List, [], ◌∷◌, ◌++◌, Option, Some, None, IsSome, refl, sym, ◌∙◌, ap, subst, inl, inr, ◌⊎◌, arith, find, nat_lt, filter_map, append_assoc, append-nil, ltb-true, lt-ltb}
 use Rattle.std.specs.List.{list_any, AllByRecursion}
 use Rattle.std.specs.Option.{option_map_or, option_and_then, option_map}
-use Rattle.std.proofs.lemmas.Bool.{and_parts, and_from, false≢true, cases_Bool, cases_eq, cond-true, cond-false, eqb-true, not-true}
+use Rattle.std.proofs.lemmas.Bool.{and_parts, and_from, false≢true, cases_Bool, cases_eq, cond-true, cond-false, eqb-true, not-true, or_cases, or_left, or_right}
 use Rattle.std.proofs.lemmas.List.Folds.{list_any-append}
 use Rattle.std.proofs.lemmas.List.Elements.{filter_map-append}
 use Rattle.cw_types.specs.declared.commitment.Commitment.{Commitment}
@@ -16,7 +16,7 @@ use Rattle.cw_rules.specs.Accepted.{Ballot, State}
 use Rattle.cw_rules.specs.Direct.{best_parent, direct, least, proposal_notes, propose_new, propose_over, proposed, proposed_block, timed_out}
 use Rattle.cw_rules.specs.Held.{held, pending}
 use Rattle.cw_rules.specs.Keeps.{AreAlong, IsRising, IsSound, KeepsBy, Meaning}
-use Rattle.cw_rules.specs.Notes.{epoch_of, has_block, is_cert, nullified, settled, settling, view_of}
+use Rattle.cw_rules.specs.Notes.{enters, epoch_of, has_begun, has_block, is_cert, nullified, settled, settling, view_of}
 use Rattle.cw_rules.specs.Owed.{all_nullified, has_closed, has_voted, owed, votes_in}
 use Rattle.cw_rules.specs.Rules.{Rules, commit, genesis_commitment}
 use Rattle.cw_rules.specs.Stands.{EachAfter, IsSettled}
@@ -36,8 +36,12 @@ find_front p (x ∷ xs) ys h = go (p x) h (find_front p xs ys)
     go false h later = later h
 
 pub IsSettled_front : (xs ys : List Note) (epoch view : ℕ) → IsSettled xs epoch view → IsSettled (xs ++ ys) epoch view
-IsSettled_front xs ys epoch view (inl z) = inl z
-IsSettled_front xs ys epoch view (inr s) = inr (rw filter_map-append (find_front (λ p. (p.epoch == epoch) && (p.view == view)) (filter_map settling xs) (filter_map settling ys) s))
+IsSettled_front xs ys epoch view (inl (first, begun)) = inl (first, go (or_cases (epoch == 0) (list_any (enters epoch) xs) begun))
+  where
+    go : ((epoch == 0) ≡ true) ⊎ (list_any (enters epoch) xs ≡ true) → has_begun (xs ++ ys) epoch ≡ true
+    go (inl t) = or_left (epoch == 0) (list_any (enters epoch) (xs ++ ys)) t
+    go (inr t) = or_right (epoch == 0) (list_any (enters epoch) (xs ++ ys)) (any_front (enters epoch) xs ys t)
+IsSettled_front xs ys epoch view (inr (pos, s)) = inr (pos, rw filter_map-append (find_front (λ p. (p.epoch == epoch) && (p.view == view)) (filter_map settling xs) (filter_map settling ys) s))
 
 pub all_nullified_front : (xs ys : List Note) (epoch low high : ℕ) → all_nullified xs epoch low high ≡ true → all_nullified (xs ++ ys) epoch low high ≡ true
 all_nullified_front xs ys epoch low high h =
@@ -52,7 +56,7 @@ pub record IsParent (r : Rules) (notes : List Note) (epoch below : ℕ) (best : 
   pub holds : held r notes best.1 ≡ Some best.2
   pub between : (view : ℕ) → best.0 < view → view < below → nullified notes epoch view ≡ true
 
-parent_found : (r : Rules) (notes : List Note) (epoch below : ℕ) (best : ℕ × Commitment × Block) → best_parent r notes epoch below ≡ Some best → IsParent r notes epoch below best
+pub parent_found : (r : Rules) (notes : List Note) (epoch below : ℕ) (best : ℕ × Commitment × Block) → best_parent r notes epoch below ≡ Some best → IsParent r notes epoch below best
 parent_found r notes epoch zero best h = cc
 parent_found r notes epoch (suc view) best h = go (or_some here below best h) (parent_found r notes epoch view best)
   where

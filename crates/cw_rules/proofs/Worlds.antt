@@ -2,7 +2,7 @@
 use Rattle.std.proofs.Common.{◌≡◌, ℕ, zero, suc, ◌+◌, ◌<◌, ◌≤◌, Bool, true, false, ◌&&◌, ◌||◌, ◌==◌, not, cond, nat_lt, nat_le, List, [], ◌∷◌, ◌++◌, Option, Some, None, is_none, IsTrue, length, map, option_map, option_and_then, count_by, flat_map, slice_get, slice_set, refl, sym, ◌∙◌, ap, subst, inl, inr, ◌⊎◌, arith, append_assoc, append-nil, leb-true, eqb-true, eq-eqb}
 use Rattle.std.specs.List.{list_any, list_all, AllByRecursion, range_with_len}
 use Rattle.std.specs.Option.{option_map_or}
-use Rattle.std.proofs.lemmas.Bool.{and_parts, or_cases, or_left, or_right, false≢true, cases_Bool, cond-true, cond-false}
+use Rattle.std.proofs.lemmas.Bool.{and_from, and_parts, or_cases, or_left, or_right, false≢true, cases_Bool, cond-true, cond-false}
 use Rattle.cw_types.specs.declared.event.Event.{Event}
 use Rattle.cw_types.specs.declared.event.Out.{Out}
 use Rattle.cw_types.specs.declared.message.Message.{Message}
@@ -17,11 +17,11 @@ use Rattle.cw_rules.specs.Accepted.{Ballot, Came, Many, Part, Row, Single, State
 use Rattle.cw_rules.specs.Fits.{block_fits}
 use Rattle.cw_rules.specs.Keeps.{AllKeep, AreAlong, IsClosed, IsRising, IsSound, Keeps, KeepsBy, Meaning, meaning}
 use Rattle.cw_rules.specs.Notes.{has_vote, is_vote}
-use Rattle.cw_rules.specs.Reached.{IsCluster, IsMemberKept, Reaches, members_of}
+use Rattle.cw_rules.specs.Reached.{IsCluster, IsMemberKept, IsSigned, Reaches, members_of}
 use Rattle.cw_rules.specs.Rules.{Rules}
 use Rattle.cw_rules.specs.Stands.{AreKept, AreLawful, EachAfter, Members, backs_at, is_faulty_at}
 use Rattle.cw_rules.specs.Step.{Member, Stepped, add_frame, cut_step, member_notes, start, state_of, step, step_notes, stopped, taken, taken_came, with_notes}
-use Rattle.cw_rules.specs.World.{Cut, Do, Faulty, Line, Restart, World, done_by, event_of, fault_sends, faults, happens, is_faulty, is_sent_vote, line_member, member_at, opening, run, sent_from, sent_now, signed, turned, with_done, with_sends}
+use Rattle.cw_rules.specs.World.{Cut, Do, Faulty, Line, Restart, Sent, World, done_by, event_of, fault_sends, faults, happens, is_faulty, is_sent_vote, line_member, member_at, opening, run, sent_from, sent_now, signed, turned, with_done, with_sends}
 use Rattle.std.proofs.lemmas.Option.{same_Some}
 use Rattle.std.proofs.lemmas.List.Folds.{list_any-append}
 use Rattle.cw_rules.proofs.Lists.{is_in, and_then_some}
@@ -152,13 +152,63 @@ freeze r w i m at before (note ∷ more) e = (
   subst (λ ns. EachAfter (Keeps r (means_at r w i ns)) (before ++ note ∷ []) more) (append_assoc before (note ∷ []) more) (freeze r w i m at (before ++ note ∷ []) more e.1),
 )
 
+-- what was signed by some is signed where these and maybe more signed
+signs_more : (r : Rules) (before after : ℕ → Vote → Bool) → ((i : ℕ) (v : Vote) → before i v ≡ true → after i v ≡ true) → (bs : List Ballot) → AllByRecursion (IsSigned r before) bs → AllByRecursion (IsSigned r after) bs
+signs_more r before after more [] a = tt
+signs_more r before after more (Single i v ∷ bs) a = (more i v a.0, signs_more r before after more bs a.1)
+signs_more r before after more (Many s ∷ bs) a = (valid_more, signs_more r before after more bs a.1)
+  where
+    all : (xs : List ℕ) → list_all (λ i. is_member r.epochs (vote_epoch s.vote) i && before i s.vote) xs ≡ true → list_all (λ i. is_member r.epochs (vote_epoch s.vote) i && after i s.vote) xs ≡ true
+    all [] h = refl
+    all (x ∷ xs) h =
+        let p = and_parts (is_member r.epochs (vote_epoch s.vote) x && before x s.vote) (list_all (λ i. is_member r.epochs (vote_epoch s.vote) i && before i s.vote) xs) h in
+        let q = and_parts (is_member r.epochs (vote_epoch s.vote) x) (before x s.vote) p.0 in
+        and_from (is_member r.epochs (vote_epoch s.vote) x && after x s.vote) (list_all (λ i. is_member r.epochs (vote_epoch s.vote) i && after i s.vote) xs)
+        (and_from (is_member r.epochs (vote_epoch s.vote) x) (after x s.vote) q.0 (more x s.vote q.1)) (all xs p.1)
+
+    valid_more : is_valid r after s ≡ true
+    valid_more =
+        let front = well_formed s.vote && rises_from 0 s.signers in
+        let enough = nat_le (quorum (size r.epochs (vote_epoch s.vote))) (length s.signers) in
+        let a1 = and_parts (front && list_all (λ i. is_member r.epochs (vote_epoch s.vote) i && before i s.vote) s.signers) enough a.0 in
+        let a2 = and_parts front (list_all (λ i. is_member r.epochs (vote_epoch s.vote) i && before i s.vote) s.signers) a1.0 in
+        and_from (front && list_all (λ i. is_member r.epochs (vote_epoch s.vote) i && after i s.vote) s.signers) enough
+        (and_from front (list_all (λ i. is_member r.epochs (vote_epoch s.vote) i && after i s.vote) s.signers) a2.0 (all s.signers a2.1)) a1.1
+
+-- what was sent stays sent
+sent_more : (i : ℕ) (v : Vote) (pool more : List Sent) → list_any (is_sent_vote i v) pool ≡ true → list_any (is_sent_vote i v) (pool ++ more) ≡ true
+sent_more i v pool more h = list_any-append (is_sent_vote i v) pool more ∙ or_left (list_any (is_sent_vote i v) pool) (list_any (is_sent_vote i v) more) h
+
+-- who is faulty stays so
+faulty_set : (xs : List (Option Member)) (i j : ℕ) (m x : Member) → slice_get xs i ≡ Some (Some m) → option_map_or is_none (slice_get (slice_set xs i (Some x)) j) false ≡ option_map_or is_none (slice_get xs j) false
+faulty_set [] i j m x h = refl
+faulty_set (o ∷ xs) zero zero m x h = let e : o ≡ Some m = same_Some o (Some m) h in ap is_none (sym e)
+faulty_set (o ∷ xs) zero (suc j) m x h = refl
+faulty_set (o ∷ xs) (suc i) zero m x h = refl
+faulty_set (o ∷ xs) (suc i) (suc j) m x h = faulty_set xs i j m x h
+
+signed_done : (w : World) (i : ℕ) (m : Member) (done : Stepped) → slice_get w.members i ≡ Some (Some m) → (j : ℕ) (v : Vote) → signed w j v ≡ true → signed (with_done w i done) j v ≡ true
+signed_done w i m done at j v h = go (or_cases (is_faulty w j) (list_any (is_sent_vote j v) w.pool) h)
+  where
+    go : (is_faulty w j ≡ true) ⊎ (list_any (is_sent_vote j v) w.pool ≡ true) → signed (with_done w i done) j v ≡ true
+    go (inl f) = or_left (is_faulty (with_done w i done) j) (list_any (is_sent_vote j v) (with_done w i done).pool) (faulty_set w.members i j m done.member at ∙ f)
+    go (inr s) = or_right (is_faulty (with_done w i done) j) (list_any (is_sent_vote j v) (with_done w i done).pool) (sent_more j v w.pool (sent_now w i done.sent) s)
+
+signed_sends : (w : World) (a : ℕ) (outs : List Out) (j : ℕ) (v : Vote) → signed w j v ≡ true → signed (with_sends w a outs) j v ≡ true
+signed_sends w a outs j v h = go (or_cases (is_faulty w j) (list_any (is_sent_vote j v) w.pool) h)
+  where
+    go : (is_faulty w j ≡ true) ⊎ (list_any (is_sent_vote j v) w.pool ≡ true) → signed (with_sends w a outs) j v ≡ true
+    go (inl f) = or_left (is_faulty w j) (list_any (is_sent_vote j v) (with_sends w a outs).pool) f
+    go (inr s) = or_right (is_faulty w j) (list_any (is_sent_vote j v) (with_sends w a outs).pool) (sent_more j v w.pool (sent_now w a outs) s)
+
 -- a member's turn keeps the world, where its new notes keep to those before, what came is sound, and each vote sent is noted
 pub world_done : (r : Rules) (script : List Line) (w : World) (i : ℕ) (m : Member) (done : Stepped) (t : Turns r w i m done)
     → IsWorldKept r script w → slice_get w.members i ≡ Some (Some m)
     → AllByRecursion (IsSound (meaning r.epochs (members_of (with_done w i done)))) done.member.came.ballots
+    → AllByRecursion (IsSigned r (signed w)) done.member.came.ballots
     → ((v : Vote) → list_any (votes i v) done.sent ≡ true → has_vote (member_notes done.member) v ≡ true)
     → IsWorldKept r script (with_done w i done)
-world_done r script w i m done t k at came sent = record {
+world_done r script w i m done t k at came signs sent = record {
   total = sym (Grows_length (members_of w) (members_of w') g) ∙ k.total;
   few = λ epoch. omega (arith, k.few epoch, count_more (is_faulty_at (members_of w')) (is_faulty_at (members_of w)) (λ j. Grows_faulty j (members_of w) (members_of w') g) (members_in r.epochs epoch));
   named = λ j f m' h. by_named j f m' (get-set w.members i j (Some done.member) (Some m') h);
@@ -187,10 +237,15 @@ world_done r script w i m done t k at came sent = record {
     kept : IsMemberKept r w i m
     kept = k.each i m at
 
+    -- who signed a vote before signed it after
+    signs_done : (bs : List Ballot) → AllByRecursion (IsSigned r (signed w)) bs → AllByRecursion (IsSigned r (signed w')) bs
+    signs_done bs a = signs_more r (signed w) (signed w') (signed_done w i m done at) bs a
+
     own : IsMemberKept r w' i done.member
     own = record {
       notes = subst (EachAfter (Keeps r (meaning r.epochs (members_of w'))) []) (sym e) (each_append (Keeps r (meaning r.epochs (members_of w'))) [] (member_notes m) more (Grows_keeps r (members_of w) (members_of w') g [] (member_notes m) kept.notes) new);
       came = came;
+      signers = signs_done done.member.came.ballots signs;
       sent = λ v h. by_sent v (any_cases (is_sent_vote i v) w.pool (sent_now w i done.sent) h);
     }
       where
@@ -205,6 +260,7 @@ world_done r script w i m done t k at came sent = record {
         record {
           notes = Grows_keeps r (members_of w) (members_of w') g [] (member_notes m') q.notes;
           came = Grows_sound r.epochs (members_of w) (members_of w') g m'.came.ballots q.came;
+          signers = signs_done m'.came.ballots q.signers;
           sent = λ v h. by_sent q v (any_cases (is_sent_vote j v) w.pool (sent_now w i done.sent) h);
         }
       where
@@ -212,74 +268,86 @@ world_done r script w i m done t k at came sent = record {
         by_sent q v (inl a) = q.sent v a
         by_sent q v (inr a) = absurd (p.0 (sent_other (length w.pool) i j v done.sent a))
 
--- ---- what is accepted is sound
+-- ---- what is accepted is sound, and signed
 
-module _ (m : Meaning) where
-  sound_push : (bs : List Ballot) (b : Ballot) → AllByRecursion (IsSound m) bs → IsSound m b → AllByRecursion (IsSound m) (bs ++ b ∷ [])
+-- what holds of all that came holds of what is accepted too, where it holds of each vote and certificate that is accepted
+module _ (P : Ballot → Type 0) where
+  sound_push : (bs : List Ballot) (b : Ballot) → AllByRecursion P bs → P b → AllByRecursion P (bs ++ b ∷ [])
   sound_push [] b a s = (s, tt)
   sound_push (x ∷ xs) b a s = (a.0, sound_push xs b a.1 s)
 
-  ballot_sound : (came : Came) (fits : Bool) (b : Ballot) → AllByRecursion (IsSound m) came.ballots → (fits ≡ true → IsSound m b) → AllByRecursion (IsSound m) (take_ballot came fits b).ballots
+  ballot_sound : (came : Came) (fits : Bool) (b : Ballot) → AllByRecursion P came.ballots → (fits ≡ true → P b) → AllByRecursion P (take_ballot came fits b).ballots
   ballot_sound came fits b a f = go (cases_Bool (fits && not (list_any (same_ballot b) came.ballots)))
     where
       more : Came
       more = record { ballots = came.ballots ++ b ∷ []; parts = came.parts; wishes = came.wishes }
 
-      go : ((fits && not (list_any (same_ballot b) came.ballots)) ≡ true) ⊎ ((fits && not (list_any (same_ballot b) came.ballots)) ≡ false) → AllByRecursion (IsSound m) (take_ballot came fits b).ballots
-      go (inl t) = subst (λ (c : Came). AllByRecursion (IsSound m) c.ballots) (sym (cond-true (fits && not (list_any (same_ballot b) came.ballots)) more came t)) (sound_push came.ballots b a (f (and_parts fits _ t).0))
-      go (inr n) = subst (λ (c : Came). AllByRecursion (IsSound m) c.ballots) (sym (cond-false (fits && not (list_any (same_ballot b) came.ballots)) more came n)) a
+      go : ((fits && not (list_any (same_ballot b) came.ballots)) ≡ true) ⊎ ((fits && not (list_any (same_ballot b) came.ballots)) ≡ false) → AllByRecursion P (take_ballot came fits b).ballots
+      go (inl t) = subst (λ (c : Came). AllByRecursion P c.ballots) (sym (cond-true (fits && not (list_any (same_ballot b) came.ballots)) more came t)) (sound_push came.ballots b a (f (and_parts fits _ t).0))
+      go (inr n) = subst (λ (c : Came). AllByRecursion P c.ballots) (sym (cond-false (fits && not (list_any (same_ballot b) came.ballots)) more came n)) a
 
-  part_sound : (came : Came) (fits : Bool) (p : Part) → AllByRecursion (IsSound m) came.ballots → AllByRecursion (IsSound m) (take_part came fits p).ballots
+  part_sound : (came : Came) (fits : Bool) (p : Part) → AllByRecursion P came.ballots → AllByRecursion P (take_part came fits p).ballots
   part_sound came fits p a = go (fits && not (list_any (same_part p) came.parts))
     where
       more : Came
       more = record { ballots = came.ballots; parts = came.parts ++ p ∷ []; wishes = came.wishes }
 
-      go : (b : Bool) → AllByRecursion (IsSound m) (cond b more came).ballots
+      go : (b : Bool) → AllByRecursion P (cond b more came).ballots
       go true = a
       go false = a
 
-  module _ (r : Rules) (sign : ℕ → Vote → Bool) (closed : IsClosed r m) (true_sign : (i : ℕ) (v : Vote) → is_member r.epochs (vote_epoch v) i ≡ true → sign i v ≡ true → m.backs i v ≡ true) where
-    signers_back : (v : Vote) (xs : List ℕ) → list_all (λ i. is_member r.epochs (vote_epoch v) i && sign i v) xs ≡ true → AllByRecursion (λ i. IsTrue (is_member r.epochs (vote_epoch v) i) × IsTrue (m.backs i v)) xs
-    signers_back v [] h = tt
-    signers_back v (x ∷ xs) h =
-        let p = and_parts (is_member r.epochs (vote_epoch v) x && sign x v) (list_all (λ i. is_member r.epochs (vote_epoch v) i && sign i v) xs) h in
-        let q = and_parts (is_member r.epochs (vote_epoch v) x) (sign x v) p.0 in
-        ((q.0, true_sign x v q.0 q.1), signers_back v xs p.1)
-
-    valid_holds : (s : Cert) → is_valid r sign s ≡ true → IsTrue (m.holds s.vote)
-    valid_holds s h =
-        let all = list_all (λ i. is_member r.epochs (vote_epoch s.vote) i && sign i s.vote) s.signers in
-        let a = and_parts (well_formed s.vote && rises_from 0 s.signers && all) (nat_le (quorum (size r.epochs (vote_epoch s.vote))) (length s.signers)) h in
-        let b = and_parts (well_formed s.vote && rises_from 0 s.signers) all a.0 in
-        let c = and_parts (well_formed s.vote) (rises_from 0 s.signers) b.0 in
-        closed s.vote s.signers c.1 (signers_back s.vote s.signers b.1) (leb-true (quorum (size r.epochs (vote_epoch s.vote))) (length s.signers) a.1)
-
-    accepted_sound : (came : Came) (msg : Message) → AllByRecursion (IsSound m) came.ballots → AllByRecursion (IsSound m) (accepted r sign came msg).ballots
+  module _ (r : Rules) (sign : ℕ → Vote → Bool)
+      (single : (i : ℕ) (v : Vote) → is_member r.epochs (vote_epoch v) i ≡ true → well_formed v ≡ true → sign i v ≡ true → P (Single i v))
+      (many : (s : Cert) → is_valid r sign s ≡ true → P (Many s)) where
+    accepted_sound : (came : Came) (msg : Message) → AllByRecursion P came.ballots → AllByRecursion P (accepted r sign came msg).ballots
     accepted_sound came (Message.Vote i v) a = ballot_sound came (is_member r.epochs (vote_epoch v) i && well_formed v && sign i v) (Single i v) a (λ t.
         let p = and_parts (is_member r.epochs (vote_epoch v) i && well_formed v) (sign i v) t in
         let q = and_parts (is_member r.epochs (vote_epoch v) i) (well_formed v) p.0 in
-        (q.1, true_sign i v q.0 p.1))
-    accepted_sound came (Message.Cert s) a = ballot_sound came (is_valid r sign s) (Many s) a (valid_holds s)
+        single i v q.0 q.1 p.1)
+    accepted_sound came (Message.Cert s) a = ballot_sound came (is_valid r sign s) (Many s) a (many s)
     accepted_sound came (Message.Shard c x) a = part_sound came (is_chunk_of r c x) (Row c x) a
     accepted_sound came (Message.Block b) a = part_sound came true (Whole b) a
     accepted_sound came _ a = a
 
-    wished_sound : (came : Came) (s : Cert) → AllByRecursion (IsSound m) came.ballots → AllByRecursion (IsSound m) (wished r sign came s).ballots
+    wished_sound : (came : Came) (s : Cert) → AllByRecursion P came.ballots → AllByRecursion P (wished r sign came s).ballots
     wished_sound came s a = by_proposal (finalized s.vote)
       where
-        by_valid : (p : Proposal) → (is_valid r sign s ≡ true) ⊎ (is_valid r sign s ≡ false) → AllByRecursion (IsSound m) (wish_for r sign came s p).ballots
-        by_valid p (inl t) = subst (λ (c : Came). AllByRecursion (IsSound m) c.ballots) (sym (cond-true (is_valid r sign s) (add_wish (take_ballot came true (Many s)) p.payload) came t)) (ballot_sound came true (Many s) a (λ _. valid_holds s t))
-        by_valid p (inr f) = subst (λ (c : Came). AllByRecursion (IsSound m) c.ballots) (sym (cond-false (is_valid r sign s) (add_wish (take_ballot came true (Many s)) p.payload) came f)) a
+        by_valid : (p : Proposal) → (is_valid r sign s ≡ true) ⊎ (is_valid r sign s ≡ false) → AllByRecursion P (wish_for r sign came s p).ballots
+        by_valid p (inl t) = subst (λ (c : Came). AllByRecursion P c.ballots) (sym (cond-true (is_valid r sign s) (add_wish (take_ballot came true (Many s)) p.payload) came t)) (ballot_sound came true (Many s) a (λ _. many s t))
+        by_valid p (inr f) = subst (λ (c : Came). AllByRecursion P c.ballots) (sym (cond-false (is_valid r sign s) (add_wish (take_ballot came true (Many s)) p.payload) came f)) a
 
-        by_proposal : (o : Option Proposal) → AllByRecursion (IsSound m) (option_map_or (wish_for r sign came s) o came).ballots
+        by_proposal : (o : Option Proposal) → AllByRecursion P (option_map_or (wish_for r sign came s) o came).ballots
         by_proposal None = a
         by_proposal (Some p) = by_valid p (cases_Bool (is_valid r sign s))
 
-    taken_sound : (came : Came) (e : Event) → AllByRecursion (IsSound m) came.ballots → AllByRecursion (IsSound m) (taken_came r sign came e).ballots
-    taken_sound came (Event.Deliver msg) a = accepted_sound came msg a
-    taken_sound came (Event.Floor c) a = wished_sound came c a
-    taken_sound came _ a = a
+    all_taken : (came : Came) (e : Event) → AllByRecursion P came.ballots → AllByRecursion P (taken_came r sign came e).ballots
+    all_taken came (Event.Deliver msg) a = accepted_sound came msg a
+    all_taken came (Event.Floor c) a = wished_sound came c a
+    all_taken came _ a = a
+
+-- what is accepted is signed
+taken_signed : (r : Rules) (sign : ℕ → Vote → Bool) (came : Came) (e : Event) → AllByRecursion (IsSigned r sign) came.ballots → AllByRecursion (IsSigned r sign) (taken_came r sign came e).ballots
+taken_signed r sign came e a = all_taken (IsSigned r sign) r sign (λ i v is formed t. t) (λ s t. t) came e a
+
+-- and sound, where who signed a vote backs it
+module _ (m : Meaning) (r : Rules) (sign : ℕ → Vote → Bool) (closed : IsClosed r m) (true_sign : (i : ℕ) (v : Vote) → is_member r.epochs (vote_epoch v) i ≡ true → sign i v ≡ true → m.backs i v ≡ true) where
+  signers_back : (v : Vote) (xs : List ℕ) → list_all (λ i. is_member r.epochs (vote_epoch v) i && sign i v) xs ≡ true → AllByRecursion (λ i. IsTrue (is_member r.epochs (vote_epoch v) i) × IsTrue (m.backs i v)) xs
+  signers_back v [] h = tt
+  signers_back v (x ∷ xs) h =
+      let p = and_parts (is_member r.epochs (vote_epoch v) x && sign x v) (list_all (λ i. is_member r.epochs (vote_epoch v) i && sign i v) xs) h in
+      let q = and_parts (is_member r.epochs (vote_epoch v) x) (sign x v) p.0 in
+      ((q.0, true_sign x v q.0 q.1), signers_back v xs p.1)
+
+  valid_holds : (s : Cert) → is_valid r sign s ≡ true → IsTrue (m.holds s.vote)
+  valid_holds s h =
+      let all = list_all (λ i. is_member r.epochs (vote_epoch s.vote) i && sign i s.vote) s.signers in
+      let a = and_parts (well_formed s.vote && rises_from 0 s.signers && all) (nat_le (quorum (size r.epochs (vote_epoch s.vote))) (length s.signers)) h in
+      let b = and_parts (well_formed s.vote && rises_from 0 s.signers) all a.0 in
+      let c = and_parts (well_formed s.vote) (rises_from 0 s.signers) b.0 in
+      closed s.vote s.signers c.1 (signers_back s.vote s.signers b.1) (leb-true (quorum (size r.epochs (vote_epoch s.vote))) (length s.signers) a.1)
+
+  taken_sound : (came : Came) (e : Event) → AllByRecursion (IsSound m) came.ballots → AllByRecursion (IsSound m) (taken_came r sign came e).ballots
+  taken_sound came e a = all_taken (IsSound m) r sign (λ i v is formed t. (formed, true_sign i v is t)) valid_holds came e a
 
 -- ---- a member's turn
 
@@ -348,11 +416,15 @@ module _ (r : Rules) (script : List Line) (w : World) (c : IsCluster r script) (
       → ((v : Vote) → list_any (votes i v) done.sent ≡ true → has_vote written v ≡ true)
       → IsWorldKept r script (with_done w i done)
   world_noted done joined from sent =
-      world_done r script w i m done (step_turns done joined) k at (by_came from)
+      world_done r script w i m done (step_turns done joined) k at (by_came from) (by_signers from)
       (λ v h. subst (λ ns. has_vote ns v ≡ true) (sym joined) (any_back (is_vote v) (member_notes m) written (sent v h)))
     where
       g : Grows (members_of w) (members_of (with_done w i done))
       g = grows_done w i m done written at joined
+
+      by_signers : (done.member.came.ballots ≡ m.came.ballots) ⊎ (done.member.came ≡ during.came) → AllByRecursion (IsSigned r (signed w)) done.member.came.ballots
+      by_signers (inl x) = subst (AllByRecursion (IsSigned r (signed w))) (sym x) (k.each i m at).signers
+      by_signers (inr x) = subst (λ (y : Came). AllByRecursion (IsSigned r (signed w)) y.ballots) (sym x) (taken_signed r (signed w) m.came e (k.each i m at).signers)
 
       by_came : (done.member.came.ballots ≡ m.came.ballots) ⊎ (done.member.came ≡ during.came) → AllByRecursion (IsSound (meaning r.epochs (members_of (with_done w i done)))) done.member.came.ballots
       by_came (inl x) = subst (AllByRecursion (IsSound (meaning r.epochs (members_of (with_done w i done))))) (sym x) (Grows_sound r.epochs (members_of w) (members_of (with_done w i done)) g m.came.ballots (k.each i m at).came)
@@ -411,6 +483,7 @@ world_cut r script w i m a c x e cluster k at = by_end ((length notes == 0) || n
           turns = t;
           kept = world_done r script w i m (part false) t k at
               (Grows_sound r.epochs (members_of w) (members_of (with_done w i (part false))) (grows_done w i m (part false) [] at (sym (append-nil (member_notes m)))) m.came.ballots (k.each i m at).came)
+              (k.each i m at).signers
               (λ v h. absurd (false≢true h));
         }
 
@@ -426,7 +499,7 @@ world_cut r script w i m a c x e cluster k at = by_end ((length notes == 0) || n
 world_start : (r : Rules) (script : List Line) (w : World) (i : ℕ) (m : Member) → IsWorldKept r script w → slice_get w.members i ≡ Some (Some m) → IsTurn r script w i m (start r i m.frames)
 world_start r script w i m k at =
     let t = nothing_new r w i m (start r i m.frames) refl in
-    record { turns = t; kept = world_done r script w i m (start r i m.frames) t k at tt (λ v h. start_voted i v r i m.frames h) }
+    record { turns = t; kept = world_done r script w i m (start r i m.frames) t k at tt tt (λ v h. start_voted i v r i m.frames h) }
 
 -- ---- a line, a script
 
@@ -436,7 +509,7 @@ world_faulty r script w a outs k f = record {
   total = k.total;
   few = k.few;
   named = k.named;
-  each = λ j m h. record { notes = (k.each j m h).notes; came = (k.each j m h).came; sent = λ v s. by_sent j m h v (any_cases (is_sent_vote j v) w.pool (sent_now w a outs) s) };
+  each = λ j m h. record { notes = (k.each j m h).notes; came = (k.each j m h).came; signers = signs_more r (signed w) (signed (with_sends w a outs)) (signed_sends w a outs) m.came.ballots (k.each j m h).signers; sent = λ v s. by_sent j m h v (any_cases (is_sent_vote j v) w.pool (sent_now w a outs) s) };
 }
   where
     by_sent : (j : ℕ) (m : Member) → slice_get w.members j ≡ Some (Some m) → (v : Vote) → (list_any (is_sent_vote j v) w.pool ≡ true) ⊎ (list_any (is_sent_vote j v) (sent_now w a outs) ≡ true) → has_vote (member_notes m) v ≡ true
@@ -551,7 +624,7 @@ opening_kept r script c = record {
       where
         by_start : (b : Bool) → cond b None (Some (start r k []).member) ≡ Some m → IsMemberKept r (opening r script) i m
         by_start true e = cc
-        by_start false e = let s : (start r k []).member ≡ m = cc in subst (IsMemberKept r (opening r script) i) s (record { notes = tt; came = tt; sent = λ v h. absurd (false≢true h) })
+        by_start false e = let s : (start r k []).member ≡ m = cc in subst (IsMemberKept r (opening r script) i) s (record { notes = tt; came = tt; signers = tt; sent = λ v h. absurd (false≢true h) })
 
 -- ---- the law
 

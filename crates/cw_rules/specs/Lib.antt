@@ -14,3 +14,4 @@ pub mod Coding
 pub mod Stands
 pub mod Keeps
 pub mod Reached
+pub mod Telling

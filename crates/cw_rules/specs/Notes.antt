@@ -1,5 +1,5 @@
 -- What a member's notes tell: its votes, what it knows to be certified, which views are over.
-use Rattle.std.specs.Prelude.{[], ℕ, ◌&&◌, ◌+◌, ◌==◌, ◌∷◌, Bool, List, None, Option, Some, false, filter_map, find, if◌then◌else◌, max, option_map}
+use Rattle.std.specs.Prelude.{[], ℕ, ◌&&◌, ◌+◌, ◌==◌, ◌||◌, ◌∷◌, Bool, List, None, Option, Some, false, filter_map, find, if◌then◌else◌, max, option_map}
 use Rattle.std.specs.List.{list_any}
 use Rattle.cw_types.specs.Same.{same_commitment, same_proposal, same_vote}
 use Rattle.cw_types.specs.Votes.{finalized}
@@ -64,6 +64,15 @@ settler notes epoch view = find (λ p. (p.epoch == epoch) && (p.view == view)) (
 abbrev pub entered : Note → Option ℕ
 entered (Note.Epoch epoch c) = Some epoch
 entered _ = None
+
+-- the note enters that epoch
+abbrev pub enters : ℕ → Note → Bool
+enters epoch (Note.Epoch e c) = e == epoch
+enters epoch _ = false
+
+-- the epoch has begun: it is the first, or a note enters it
+abbrev pub has_begun : List Note → ℕ → Bool
+has_begun notes epoch = (epoch == 0) || list_any (enters epoch) notes
 
 -- what an epoch is entered by
 abbrev pub entry : Note → Option (ℕ × Commitment)

@@ -1,5 +1,5 @@
 -- The worlds that a script reaches.
-use Rattle.std.specs.Prelude.{[], ℕ, ◌++◌, ◌+◌, ◌<◌, ◌∷◌, ◌≡◌, ◌≢◌, ◌≤◌, ◌⊎◌, IsTrue, List, Some, count_by, length, map, option_map, slice_get}
+use Rattle.std.specs.Prelude.{[], ℕ, ⊤, ◌++◌, ◌+◌, ◌<◌, ◌∷◌, ◌≡◌, ◌≢◌, ◌≤◌, ◌⊎◌, Bool, IsTrue, List, Some, count_by, length, map, option_map, slice_get}
 use Rattle.std.specs.List.{AllByRecursion, list_any}
 use Rattle.cw_types.specs.Block.{Block}
 use Rattle.cw_types.specs.Epochs.{Epochs, is_last, members_in, rises_from, size}
@@ -10,13 +10,14 @@ use Rattle.cw_types.specs.declared.note.Note.{Note}
 use Rattle.cw_types.specs.declared.vote.Proposal.{Proposal}
 use Rattle.cw_types.specs.declared.vote.Vote.{Vote}
 use Rattle.cw_types.specs.declared.vote.Vote.TheVariants.{Finalize}
+use Rattle.cw_rules.specs.Accepted.{Ballot, Many, Single, is_valid}
 use Rattle.cw_rules.specs.Chains.{Ends, IsChain, all_notes, block_under, chain_to, link_commitment, outcome}
 use Rattle.cw_rules.specs.Keeps.{IsSound, Keeps, meaning}
 use Rattle.cw_rules.specs.Notes.{has_vote}
 use Rattle.cw_rules.specs.Rules.{Rules, digest, genesis}
 use Rattle.cw_rules.specs.Stands.{EachAfter, Members, Stands}
 use Rattle.cw_rules.specs.Step.{Member, member_notes}
-use Rattle.cw_rules.specs.World.{Line, World, faults, is_sent_vote, opening, run}
+use Rattle.cw_rules.specs.World.{Line, World, faults, happens, is_sent_vote, line_member, opening, run, signed}
 
 -- the members of a world, with all their notes
 abbrev pub members_of : World → Members
@@ -93,11 +94,35 @@ pub record IsClash (r : Rules) (w : World) (earlier later : List ℕ) : Type 0 w
   pub one_digest : digest r first ≡ digest r second
   pub different : first ≢ second
 
+-- what came was signed: a vote by its signer, a certificate by a quorum
+abbrev pub IsSigned : Rules → (ℕ → Vote → Bool) → Ballot → Type 0
+IsSigned r sign (Single i v) = IsTrue (sign i v)
+IsSigned r sign (Many s) = IsTrue (is_valid r sign s)
+
 -- what is kept of an honest member
 pub record IsMemberKept (r : Rules) (w : World) (i : ℕ) (m : Member) : Type 0 where
   -- each note rests on those before it, by what votes mean among the members
   pub notes : EachAfter (Keeps r (meaning r.epochs (members_of w))) [] (member_notes m)
   -- each vote that came was signed by its signer, and that of each certificate stands
   pub came : AllByRecursion (IsSound (meaning r.epochs (members_of w))) m.came.ballots
+  -- each vote that came was sent by its signer, or that is faulty; so was each vote of each certificate
+  pub signers : AllByRecursion (IsSigned r (signed w)) m.came.ballots
   -- each of its votes that was sent is among its notes
   pub sent : (v : Vote) → IsTrue (list_any (is_sent_vote i v) w.pool) → IsTrue (has_vote (member_notes m) v)
+
+-- a note of a block is under the block's digest
+abbrev pub IsNamed : Rules → Note → Type 0
+IsNamed r (Note.Block c b) = digest r b ≡ c.block
+IsNamed r _ = ⊤
+
+-- each Block note of an honest member is
+abbrev pub AllNamed : Rules → World → Type 0
+AllNamed r w = AllByRecursion (IsNamed r) (all_notes w)
+
+-- what a line leaves of an honest member: its notes and maybe more, and all of it where the line is another's
+pub record OnlyGrows (r : Rules) (w : World) (line : Line) (i : ℕ) (m : Member) : Type 0 where
+  pub after : Member
+  pub there : slice_get (happens r w line).members i ≡ Some (Some after)
+  pub more : List Note
+  pub notes : member_notes after ≡ member_notes m ++ more
+  pub same : i ≢ line_member line → after ≡ m

@@ -36,6 +36,23 @@ pub record Rules : Type 0 where
   -- the application accepts the first block over the second
   pub accepts : Block → Block → Bool
 
+-- the same below, for other members, another backlog and another application
+abbrev pub among : Rules → Epochs → ℕ → (Block → Block → Bool) → Rules
+among r epochs backlog accepts = record {
+  epochs = epochs;
+  backlog = backlog;
+  hash = r.hash;
+  block_bytes = r.block_bytes;
+  context_bytes = r.context_bytes;
+  code = r.code;
+  root = r.root;
+  path = r.path;
+  leads_to = r.leads_to;
+  text_of = r.text_of;
+  read_block = r.read_block;
+  accepts = accepts;
+}
+
 -- the config of n members
 abbrev pub config_for : ℕ → Shards
 config_for n = record { minimum = least_chunks n; extra = extra_chunks n }

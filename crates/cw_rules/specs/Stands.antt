@@ -9,7 +9,7 @@ use Rattle.cw_types.specs.declared.vote.Proposal.{Proposal}
 use Rattle.cw_types.specs.declared.vote.Vote.{Vote}
 use Rattle.cw_types.specs.declared.vote.Vote.TheVariants.{Finalize, Notarize, Nullify}
 use Rattle.cw_rules.specs.Fits.{fits}
-use Rattle.cw_rules.specs.Notes.{has_cert, has_certified, has_vote, nullified, settler}
+use Rattle.cw_rules.specs.Notes.{has_begun, has_cert, has_certified, has_vote, nullified, settler}
 
 -- the members by number: an honest one with its notes, a faulty one without
 abbrev pub Members : Type 0
@@ -46,9 +46,10 @@ LeadsTo x members q (r ∷ way) p = Stands x members (Notarize r) × (r.epoch �
 abbrev pub Descends : Epochs → Members → Proposal → Proposal → Type 0
 Descends x members q p = (way : List Proposal) × LeadsTo x members q way p
 
--- some proposal is settled for the view of the epoch, or it is the view before the first
+-- view 0 of an epoch is settled where the epoch has begun, and by nothing else; each other view by a proposal of it
 abbrev pub IsSettled : List Note → ℕ → ℕ → Type 0
-IsSettled notes epoch view = (view ≡ 0) ⊎ IsSome (settler notes epoch view)
+IsSettled notes epoch view =
+    ((view ≡ 0) × IsTrue (has_begun notes epoch)) ⊎ ((0 < view) × IsSome (settler notes epoch view))
 
 -- each of the views strictly between is nullified
 abbrev pub AreNullified : List Note → ℕ → ℕ → ℕ → Type 0

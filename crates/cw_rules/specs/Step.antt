@@ -1,5 +1,5 @@
 -- One step of a member: what it notes, sends and hands out, and which tickets it serves.
-use Rattle.std.specs.Prelude.{[], ℕ, ◌&&◌, ◌*◌, ◌++◌, ◌+◌, ◌==◌, ◌||◌, ◌∷◌, Bool, List, None, Option, Some, false, filter, filter_map, flat_map, if◌then◌else◌, is_none, length, map, nat_lt, not, option_and_then, option_map, suc, true, unwrap_or, zero}
+use Rattle.std.specs.Prelude.{[], ℕ, ◌&&◌, ◌*◌, ◌++◌, ◌+◌, ◌-◌, ◌==◌, ◌||◌, ◌∷◌, Bool, List, None, Option, Some, false, filter, filter_map, flat_map, if◌then◌else◌, is_none, length, map, nat_lt, not, option_and_then, option_map, suc, true, unwrap_or, zero}
 use Rattle.std.specs.List.{last_or}
 use Rattle.std.specs.Option.{option_map_or}
 use Rattle.cw_base.specs.Memory.{counted}
@@ -75,9 +75,17 @@ abbrev pub deliveries_within : Rules → ℕ → State → List Handed
 deliveries_within r zero s = []
 deliveries_within r (suc steps) s = option_map_or (λ h. h ∷ deliveries_within r steps (with_given s h.height)) (delivery r s) []
 
--- no more are handed out than there are heights up to the last Ack, which are never pending, and then as many as may be pending
+-- the height behind the last Ack. Those below it are never pending
+abbrev pub above_ack : State → ℕ
+above_ack s = option_map_or (λ h. h + 1) (last_ack s.notes) 0
+
+-- no more are handed out than there are heights up to the last Ack, and then as many as may be pending
 abbrev pub most_delivered : Rules → State → ℕ
-most_delivered r s = option_map_or (λ h. h + 1) (last_ack s.notes) 0 + r.backlog
+most_delivered r s = above_ack s + r.backlog
+
+-- how many more may be handed out: up to the last Ack, and then while there is room in the backlog
+abbrev pub left_to_hand : Rules → State → ℕ
+left_to_hand r s = (above_ack s - next s) + (r.backlog - length (pending s))
 
 -- the blocks that a step hands out
 abbrev pub deliveries : Rules → State → List Handed

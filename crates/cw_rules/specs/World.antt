@@ -4,6 +4,7 @@ use Rattle.std.specs.List.{list_any, range_with_len}
 use Rattle.std.specs.Option.{option_map_or}
 use Rattle.cw_types.specs.Block.{Block}
 use Rattle.cw_types.specs.Epochs.{members_in}
+use Rattle.cw_types.specs.Reading.{message_of}
 use Rattle.cw_types.specs.Same.{same_vote}
 use Rattle.cw_types.specs.Votes.{finalized, proposal_of}
 use Rattle.cw_types.specs.declared.event.Event.{Event}
@@ -47,7 +48,7 @@ pub data Fault : Type 0 where
   Notarize_of : (number : ℕ) → Fault
   Finalize_of : (number : ℕ) → Fault
   Nullify_of : (view : ℕ) → Fault
-  Raw : (message : Message) → Fault
+  Raw : (bytes : List ℕ) → Fault
 
 -- a line of a script
 pub data Line : Type 0 where
@@ -106,7 +107,7 @@ message_proposal _ = None
 abbrev pub voted_on : World → ℕ → Option Proposal
 voted_on w number = option_and_then (λ s. message_proposal s.message) (slice_get w.pool number)
 
--- what a faulty member sends. An offer is a block of height 1 over genesis
+-- what a faulty member sends. An offer is a block of height 1 over genesis, and raw bytes go as the message that they read as
 abbrev pub fault_sends : Rules → World → ℕ → Fault → List Out
 fault_sends r w a Silent = []
 fault_sends r w a (Offer view payload) =
@@ -115,7 +116,7 @@ fault_sends r w a (Offer view payload) =
 fault_sends r w a (Notarize_of number) = option_map_or (λ p. to_all (Message.Vote a (Notarize p)) ∷ []) (voted_on w number) []
 fault_sends r w a (Finalize_of number) = option_map_or (λ p. to_all (Message.Vote a (Finalize p)) ∷ []) (voted_on w number) []
 fault_sends r w a (Nullify_of view) = to_all (Message.Vote a (Nullify 0 view)) ∷ []
-fault_sends r w a (Raw m) = to_all m ∷ []
+fault_sends r w a (Raw bytes) = to_all (message_of bytes) ∷ []
 
 -- what comes from a member, numbered on from there
 abbrev pub sent_from : ℕ → ℕ → List Out → List Sent

@@ -1,6 +1,6 @@
 //! Laws on the notes of members, and on every world that a script reaches.
 
-ghost use Rattle.std.specs.Prelude.{Bool, IsTrue, List, None, Some, [], false, filter_map, length, slice_get, true, ℕ, ◌%◌, ◌*◌, ◌++◌, ◌<◌, ◌↔◌, ◌≡◌, ◌≤◌, ◌⊎◌};
+ghost use Rattle.std.specs.Prelude.{Bool, IsTrue, List, None, Some, [], false, filter_map, is_none, length, map, slice_get, true, ℕ, ◌%◌, ◌*◌, ◌++◌, ◌<◌, ◌↔◌, ◌≡◌, ◌≢◌, ◌≤◌, ◌⊎◌};
 ghost use Rattle.std.specs.List.{AllByRecursion, range_with_len};
 ghost use Rattle.cw_types.specs.declared.commitment.Commitment.{Commitment};
 ghost use Rattle.cw_types.specs.declared.event.Event.{Event};
@@ -16,12 +16,14 @@ ghost use Rattle.cw_rules.specs.Held.{at_height, held, next, pending, row_of, sh
 ghost use Rattle.cw_rules.specs.Keeps.{AreAlong, IsCertifiedIn, IsGreatest, IsRising, IsSound, Keeps, KeepsBy, Meaning};
 ghost use Rattle.cw_rules.specs.Notes.{epoch_of, has_vote};
 ghost use Rattle.cw_rules.specs.Owed.{epoch_owed, owed};
-ghost use Rattle.cw_rules.specs.Reached.{AllAnchored, GoesDown, In, IsClash, IsCluster, IsMemberKept, IsOneChain, IsReported, Reaches, ReachesClear, members_of};
+ghost use Rattle.cw_rules.specs.Reached.{AllAnchored, AllNamed, GoesDown, In, IsClash, IsCluster, IsMemberKept, IsOneChain, IsReported, OnlyGrows, Reaches, ReachesClear, members_of};
 ghost use Rattle.cw_rules.specs.Report.{handed_in, report_of};
-ghost use Rattle.cw_rules.specs.Rules.{Rules, chunks, commit, is_under, total_of};
+ghost use Rattle.cw_rules.specs.Rules.{Rules, among, chunks, commit, is_under, total_of};
 ghost use Rattle.cw_rules.specs.Stands.{AreKept, AreLawful, Descends, EachAfter, Members, Stands};
-ghost use Rattle.cw_rules.specs.Step.{Member, deliveries, step_notes, taken_came, with_handed, with_notes};
-ghost use Rattle.cw_rules.specs.World.{Line, World, opening};
+ghost use Rattle.cw_rules.specs.Sends.{finalization_at};
+ghost use Rattle.cw_rules.specs.Step.{Member, Wanted, deliveries, delivery, found, left_to_hand, marks, settle, step_notes, taken_came, with_given, with_handed, with_notes};
+ghost use Rattle.cw_rules.specs.Telling.{FitsLine, TellsBlocks};
+ghost use Rattle.cw_rules.specs.World.{Line, World, happens, opening};
 ghost use Rattle.cw_rules.specs.Coding.{AreApart, AreByteChunks, IsCoder, IsCodeword, first_chunks};
 ghost use Rattle.cw_types.specs.Block.{Block};
 
@@ -117,6 +119,19 @@ pub fn cluster_laws()
     ensures kept { (r : Rules) (script : List Line) (w : World)
         → IsCluster r script → Reaches r script w
         → (i : ℕ) (m : Member) → slice_get w.members i ≡ Some (Some m) → IsMemberKept r w i m }
+    // each block that an honest member noted has the digest that its commitment names
+    ensures named { (r : Rules) (script : List Line) (w : World)
+        → IsCluster r script → Reaches r script w → AllNamed r w }
+{}
+
+/// What a line does to the members.
+pub fn line_laws()
+    // it changes its own member alone, whose notes only grow
+    ensures grows { (r : Rules) (w : World) (line : Line) (i : ℕ) (m : Member)
+        → slice_get w.members i ≡ Some (Some m) → OnlyGrows r w line i m }
+    // who is faulty stays so, and who is honest
+    ensures flags { (r : Rules) (w : World) (line : Line)
+        → map is_none (happens r w line).members ≡ map is_none w.members }
 {}
 
 /// In every world that a script reaches without a clash, the epochs follow one another. With two blocks
@@ -155,16 +170,23 @@ pub fn report_laws()
         → IsReported r w (handed_in r script) (report_of r script w).chain }
 {}
 
-/// What a clash shows: in a world that the script reaches, two different blocks of one digest, each
-/// genesis or noted by an honest member.
+/// What a clash shows.
 pub fn clash_laws()
-    ensures { (r : Rules) (script : List Line) (earlier later : List ℕ)
+    // in a world that the script reaches, two different blocks of one digest, each genesis or noted by an honest member
+    ensures blocks { (r : Rules) (script : List Line) (earlier later : List ℕ)
         → outcome r (opening r script) script ≡ Clashes earlier later
         → (w : World) × Reaches r script w × IsClash r w earlier later }
+    // two different texts, where what the script brings in can be written
+    ensures texts { (r : Rules) (script : List Line) (earlier later : List ℕ)
+        → TellsBlocks r → IsCluster r script → AllByRecursion FitsLine script
+        → outcome r (opening r script) script ≡ Clashes earlier later → earlier ≢ later }
 {}
 
 /// The bounds in the definitions never run out.
 pub fn bound_laws()
+    // after a settling nothing is owed
+    ensures settles { (r : Rules) (id : ℕ) (s : State)
+        → owed r id (with_notes s (settle r id (marks s) s)) ≡ None }
     // after the notes of a step nothing more is owed
     ensures settled { (r : Rules) (id : ℕ) (s : State) (e : Event)
         → owed r id (with_notes s (step_notes r id s e)) ≡ None }
@@ -172,9 +194,38 @@ pub fn bound_laws()
     ensures delivered { (r : Rules) (s : State)
         → (r.backlog ≤ length (pending (with_handed s (deliveries r s))))
         ⊎ (at_height r s.notes (next (with_handed s (deliveries r s))) ≡ None) }
+    // with each delivery less is left to hand out
+    ensures falls { (r : Rules) (s : State) (h : Handed) → delivery r s ≡ Some h
+        → left_to_hand r (with_given s h.height) < left_to_hand r s }
     // what stands at a height is held
     ensures held { (r : Rules) (notes : List Note) (height : ℕ) (c : Commitment)
         → at_height r notes height ≡ Some c → (b : Block) × (held r notes c ≡ Some b) }
+    // and is of that height
+    ensures of_height { (r : Rules) (notes : List Note) (height : ℕ) (c : Commitment)
+        → at_height r notes height ≡ Some c
+        → (b : Block) → held r notes c ≡ Some b → b.height ≡ height }
+{}
+
+/// What a store of blocks answers, by its notes alone: neither the members of the epochs nor the
+/// application make a difference, nor does what came.
+pub fn store_laws()
+    // what stands at a height
+    ensures height { (r : Rules) (x : Epochs) (backlog : ℕ) (accepts : Block → Block → Bool)
+        → (notes : List Note) (height : ℕ)
+        → at_height (among r x backlog accepts) notes height ≡ at_height r notes height }
+    // the first finalization of a height
+    ensures finalization { (r : Rules) (x : Epochs) (backlog : ℕ) (accepts : Block → Block → Bool)
+        → (notes : List Note) (height : ℕ)
+        → first_some (finalization_at (among r x backlog accepts) notes height) notes
+        ≡ first_some (finalization_at r notes height) notes }
+    // what a ticket waits for
+    ensures found { (r : Rules) (x : Epochs) (backlog : ℕ) (accepts : Block → Block → Bool)
+        → (notes : List Note) (w : Wanted) → found (among r x backlog accepts) notes w ≡ found r notes w }
+    // what is handed out, with one backlog
+    ensures handed { (r : Rules) (x : Epochs) (accepts : Block → Block → Bool)
+        → (notes : List Note) (came others : Came) (given : List ℕ)
+        → deliveries (among r x r.backlog accepts) (record { notes = notes; came = came; given = given })
+        ≡ deliveries r (record { notes = notes; came = others; given = given }) }
 {}
 
 /// What chunks show, by what the rules ask of the codewords below them.

@@ -8,6 +8,6 @@
 mod laws;
 
 pub use laws::{
-    bound_laws, chain_laws, clash_laws, cluster_laws, coding_laws, epoch_laws, member_laws,
-    one_chain, owed_laws, report_laws, single_laws,
+    bound_laws, chain_laws, clash_laws, cluster_laws, coding_laws, epoch_laws, line_laws,
+    member_laws, one_chain, owed_laws, report_laws, single_laws, store_laws,
 };

@@ -1,5 +1,6 @@
 use Rattle.cw_rules.specs.Fits.{block_fits}
 use Rattle.cw_rules.specs.Reached.{members_of}
+use Rattle.cw_rules.proofs.Changes.{reached_named}
 use Rattle.cw_rules.proofs.Certified.{ancestors_in}
 use Rattle.cw_rules.proofs.Worlds.{reached_keep}
 use Rattle.cw_rules.proofs.Chain.{one_notarized, not_both_stand, finalized_descent}
@@ -23,3 +24,6 @@ returns-clause-certified c r script w cluster reach = ancestors_in r cluster.spa
 
 pub returns-clause-kept : goal.returns-clause-kept
 returns-clause-kept c r script w cluster reach = (reached_kept r script w cluster reach).each
+
+pub returns-clause-named : goal.returns-clause-named
+returns-clause-named c = reached_named
