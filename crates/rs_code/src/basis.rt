@@ -1,8 +1,9 @@
 //! What each given row counts for in another row of the codeword.
 
-ghost use Rattle.std.specs.Prelude.{◌≡◌, ◌==◌, if◌then◌else◌, ℕ, ◌<◌, length, slice_index, IfOk};
+ghost use Rattle.std.specs.Prelude.{◌≡◌, ◌≢◌, ◌==◌, if◌then◌else◌, ℕ, ◌<◌, length, slice_index, IfOk};
 ghost use Rattle.rs_code.specs.Codeword.{ArePoints};
-ghost use Rattle.rs_code.specs.Coefficients.{weight, distance, AreWeights, AreCoefficients, AreAllCoefficients};
+ghost use Rattle.rs_code.specs.Coefficients.{weight, distance, AreWeights, AreCoefficients, AreAllCoefficients, AreInverses};
+ghost use Rattle.rs_code.specs.Field.{inverse};
 
 use crate::gf16;
 use std::alloc::{AllocError, Global};
@@ -52,9 +53,11 @@ impl Basis {
     pub fn coefficients(&self, alloc: Global, targets: &[u16]) -> Result<Vec<u16>, AllocError>
         ensures { IfOk result (λ v. AreAllCoefficients self.now targets.now v.items) }
     {
+        let count = self.points.len().saturating_add(targets.len());
+        let inverses = inverses_below(alloc, count.min(32768).next_power_of_two() as u16)?;
         let mut all = Vec::new(alloc);
         for target in targets {
-            let one = coefficients_at(alloc, &self.points, &self.weights, *target)?;
+            let one = coefficients_at(alloc, &self.points, &self.weights, &inverses, *target)?;
             all.extend_from_slice(&one)?;
         }
         Ok(all)
@@ -95,8 +98,10 @@ fn coefficients_at(
     alloc: Global,
     points: &[u16],
     weights: &[u16],
+    inverses: &[u16],
     x: u16,
 ) -> Result<Vec<u16>, AllocError>
+    requires inverses { AreInverses inverses.now }
     requires points { ArePoints (length points.now) (λ u. slice_index points.now u) }
     requires weights { AreWeights points.now weights.now }
     ensures { IfOk result (λ v. AreCoefficients points.now x v.items) }
@@ -110,9 +115,36 @@ fn coefficients_at(
     let distance = distance_of(points, x);
     let mut values = Vec::new(alloc);
     'weighed: for s in 0..points.len() {
-        values.push(gf16::mul(distance, gf16::mul(weights[s], gf16::inv(x ^ points[s]))))?;
+        values.push(gf16::mul(
+            distance,
+            gf16::mul(weights[s], inverse_of(inverses, x ^ points[s])),
+        ))?;
     }
     Ok(values)
+}
+
+// The inverses of the elements below a count, and 0 at 0.
+fn inverses_below(alloc: Global, count: u16) -> Result<Vec<u16>, AllocError>
+    ensures { IfOk result (λ v. AreInverses v.items) }
+{
+    let mut inverses = Vec::new(alloc);
+    for element in 0..count {
+        inverses.push(if element == 0 { 0 } else { gf16::inv(element) })?;
+    }
+    Ok(inverses)
+}
+
+// The inverse of an element other than 0, from a list of some where it is there.
+fn inverse_of(inverses: &[u16], element: u16) -> u16
+    requires some { element ≢ 0 }
+    requires inverses { AreInverses inverses.now }
+    ensures { result ≡ inverse element }
+{
+    if usize::from(element) < inverses.len() {
+        inverses[usize::from(element)]
+    } else {
+        gf16::inv(element)
+    }
 }
 
 // The product of the differences of x to all points.

@@ -1,6 +1,6 @@
 //! Rows by sums of given rows, one stripe of columns beside the other.
 
-ghost use Rattle.std.specs.Prelude.{◌≡◌, ℕ, ◌<◌, ◌≤◌, ◌+◌, ◌-◌, ◌*◌, ◌/◌, ◌%◌, ◌++◌, take, drop, length, slice_index, slice_index_or, IfOk, OnOk, List, Result, Vec};
+ghost use Rattle.std.specs.Prelude.{◌≡◌, ℕ, ◌<◌, ◌≤◌, ◌+◌, ◌-◌, ◌*◌, ◌/◌, ◌%◌, ◌++◌, take, drop, length, slice_index, slice_index_or, IfOk, OnOk, List, Result, Vec, min};
 ghost use Rattle.std.specs.declared.alloc.Global.{Global};
 ghost use Rattle.std.specs.declared.alloc.AllocError.{AllocError};
 ghost use Rattle.rs_code.specs.Coefficients.{weighted};
@@ -8,8 +8,8 @@ ghost use Rattle.rs_code.specs.Rows.{symbol_bytes, joined, row_through};
 ghost use Rattle.rs_code.specs.Stripes.{stripe_start, stripe_bytes, AreStripes};
 
 use crate::basis::Basis;
+use crate::eights::{fill_lane, group_sums};
 use crate::stripes::{stripe, stripe_count};
-use crate::sums::{column_sums, push_symbols};
 use cw_base::{NoMemory, Strategy};
 use std::alloc::{AllocError, Global};
 use std::thread::Threads;
@@ -31,7 +31,7 @@ pub fn rows_at<R: Threads + Sync, S: Strategy>(
 {
     let coefficients = basis.coefficients(alloc, targets)?;
     let k = basis.count();
-    let count = stripe_count(width, strategy.pieces());
+    let count = stripe_count(width, usize::MAX);
     let pieces = run_stripes(
         rt,
         alloc,
@@ -100,22 +100,65 @@ fn stripe_rows(
         (λ i. stripe_bytes width count index (λ j. weighted k rows.now width coefficients.now i j))) }
 {
     let (first, last) = stripe(width, count, index);
-    let mut out = Vec::new(alloc);
-    for target in 0..targets {
-        let own = own_coefficients(coefficients, k, target);
-        let sums = column_sums(alloc, own, rows, width, first / 2, (last - first) / 2)?;
-        push_symbols(&mut out, &sums)?;
+    let wide = last - first;
+    let mut out = Vec::with_capacity(alloc, targets.saturating_mul(wide))?;
+    for group in 0..targets.div_ceil(8) {
+        push_group(
+            alloc,
+            &mut out,
+            rows,
+            k,
+            width,
+            coefficients,
+            targets,
+            8 * group,
+            first / 2,
+            wide / 2,
+        )?;
     }
     Ok(out)
 }
 
-// What the k rows count for in one target.
-fn own_coefficients(coefficients: &[u16], k: usize, target: usize) -> &[u16]
-    requires { (target + 1) * k ≤ length coefficients.now }
-    ensures count { length result.now ≡ k }
-    ensures each { (s : ℕ) → s < k → slice_index result.now s ≡ slice_index coefficients.now (target * k + s) }
+// Appends, for each of the next targets, of which there are at most eight, the bytes of its row in
+// some columns.
+fn push_group(
+    alloc: Global,
+    out: &mut Vec<u8>,
+    rows: &[u8],
+    k: usize,
+    width: usize,
+    coefficients: &[u16],
+    targets: usize,
+    done: usize,
+    first: usize,
+    count: usize,
+) -> Result<(), AllocError>
+    requires rows { length rows.now ≡ k * width }
+    requires coefficients { length coefficients.now ≡ targets * k }
+    requires columns { 2 * (first + count) ≤ width }
+    requires done { done ≤ targets }
+    ensures { OnOk result (
+        out.old.items ≡ joined done (λ i. symbol_bytes count (λ j. weighted k rows.now width coefficients.now i (first + j))) →
+        out.new.items ≡ joined (done + min 8 (targets - done)) (λ i. symbol_bytes count (λ j. weighted k rows.now width coefficients.now i (first + j)))) }
 {
-    &coefficients[target * k..][..k]
+    let lanes = (targets - done).min(8);
+    let own = own_coefficients(coefficients, done * k);
+    let sums = group_sums(alloc, own, k, lanes, rows, width, first, count)?;
+    let mut bytes = vec![in alloc; 0u8; 2 * count]?;
+    for place in 0..lanes {
+        fill_lane(&mut bytes, &sums, place);
+        out.extend_from_slice(&bytes)?;
+    }
+    Ok(())
+}
+
+// The coefficients from a place on.
+fn own_coefficients(coefficients: &[u16], place: usize) -> &[u16]
+    requires { place ≤ length coefficients.now }
+    ensures count { place + length result.now ≡ length coefficients.now }
+    ensures each { (i : ℕ) → i < length result.now → slice_index result.now i ≡ slice_index coefficients.now (place + i) }
+{
+    &coefficients[place..]
 }
 
 // The rows whose stripes were done, each whole.
@@ -133,7 +176,7 @@ fn rows_of_stripes(
     ensures { (value : ℕ → ℕ → ℕ) → AreStripes width targets value pieces.now →
         IfOk result (λ v. v.items ≡ joined targets (λ i. symbol_bytes (width / 2) (λ j. value i j))) }
 {
-    let mut out = Vec::new(alloc);
+    let mut out = Vec::with_capacity(alloc, targets.saturating_mul(width))?;
     for place in 0..targets {
         push_row(&mut out, pieces, width, place)?;
     }

@@ -1,0 +1,278 @@
+//! Sums of rows for eight targets at once: each entry of a table has eight factors' products side by
+//! side, so that one look-up serves eight targets.
+
+ghost use Rattle.std.specs.Prelude.{◌≡◌, ℕ, ◌<◌, ◌≤◌, ◌+◌, ◌*◌, ◌^◌, bit_xor, length, slice_index, IfOk, List};
+ghost use Rattle.rs_code.specs.Codeword.{sum_below};
+ghost use Rattle.rs_code.specs.Coefficients.{lane, AreTables};
+ghost use Rattle.rs_code.specs.Field.{times};
+ghost use Rattle.rs_code.specs.Rows.{symbol, symbol_bytes};
+
+use crate::gf16;
+use std::alloc::{AllocError, Global};
+
+/// An element for each of eight targets.
+pub type Eight = [u16; 8];
+
+// The sum of two in each lane.
+fn sum_of_two(a: &Eight, b: &Eight) -> Eight
+    ensures { (l : ℕ) → l < 8 → slice_index result l ≡ bit_xor (slice_index a.now l) (slice_index b.now l) }
+{
+    [
+        a[0] ^ b[0],
+        a[1] ^ b[1],
+        a[2] ^ b[2],
+        a[3] ^ b[3],
+        a[4] ^ b[4],
+        a[5] ^ b[5],
+        a[6] ^ b[6],
+        a[7] ^ b[7],
+    ]
+}
+
+// The product with 2 in each lane.
+fn each_by_2(a: &Eight) -> Eight
+    ensures { (l : ℕ) → l < 8 → slice_index result l ≡ times (slice_index a.now l) 2 }
+{
+    [
+        gf16::by_2(a[0]),
+        gf16::by_2(a[1]),
+        gf16::by_2(a[2]),
+        gf16::by_2(a[3]),
+        gf16::by_2(a[4]),
+        gf16::by_2(a[5]),
+        gf16::by_2(a[6]),
+        gf16::by_2(a[7]),
+    ]
+}
+
+// The product with 4 in each lane.
+fn each_by_4(a: &Eight) -> Eight
+    ensures { (l : ℕ) → l < 8 → slice_index result l ≡ times (slice_index a.now l) 4 }
+{
+    [
+        gf16::by_4(a[0]),
+        gf16::by_4(a[1]),
+        gf16::by_4(a[2]),
+        gf16::by_4(a[3]),
+        gf16::by_4(a[4]),
+        gf16::by_4(a[5]),
+        gf16::by_4(a[6]),
+        gf16::by_4(a[7]),
+    ]
+}
+
+// The product with 16 in each lane.
+fn each_by_16(a: &Eight) -> Eight
+    ensures { (l : ℕ) → l < 8 → slice_index result l ≡ times (slice_index a.now l) 16 }
+{
+    [
+        gf16::by_16(a[0]),
+        gf16::by_16(a[1]),
+        gf16::by_16(a[2]),
+        gf16::by_16(a[3]),
+        gf16::by_16(a[4]),
+        gf16::by_16(a[5]),
+        gf16::by_16(a[6]),
+        gf16::by_16(a[7]),
+    ]
+}
+
+// The product with 256 in each lane.
+fn each_by_256(a: &Eight) -> Eight
+    ensures { (l : ℕ) → l < 8 → slice_index result l ≡ times (slice_index a.now l) 256 }
+{
+    [
+        gf16::by_256(a[0]),
+        gf16::by_256(a[1]),
+        gf16::by_256(a[2]),
+        gf16::by_256(a[3]),
+        gf16::by_256(a[4]),
+        gf16::by_256(a[5]),
+        gf16::by_256(a[6]),
+        gf16::by_256(a[7]),
+    ]
+}
+
+// Copies the first `count` entries behind themselves, with a step added in each lane.
+fn double(table: &mut [Eight], count: usize, step: &Eight)
+    requires { 2 * count ≤ length table.old }
+    ensures count { length table.new ≡ length table.old }
+    ensures first { (b l : ℕ) → b < count → l < 8 → lane table.new b l ≡ lane table.old b l }
+    ensures second { (b l : ℕ) → b < count → l < 8 → lane table.new (count + b) l ≡ bit_xor (lane table.old b l) (slice_index step.now l) }
+{
+    for place in 0..count {
+        table[count + place] = sum_of_two(&table[place], step);
+    }
+}
+
+// Doubles a table of eight factors' products with the bytes below a power of two. The step is the
+// product with that power.
+fn double_products(table: &mut [Eight], count: usize, factors: &Eight, step: &Eight)
+    requires { 2 * count ≤ length table.old }
+    ensures count { length table.new ≡ length table.old }
+    ensures each { (n : ℕ) → count ≡ 2 ^ n → count ≤ 128 →
+        ((l : ℕ) → l < 8 → slice_index step.now l ≡ times (slice_index factors.now l) count) →
+        ((b l : ℕ) → b < count → l < 8 → lane table.old b l ≡ times (slice_index factors.now l) b) →
+        (b l : ℕ) → b < 2 * count → l < 8 → lane table.new b l ≡ times (slice_index factors.now l) b }
+{
+    double(table, count, step);
+}
+
+// The products of eight factors with each byte.
+fn spread(table: &mut [Eight], factors: &Eight)
+    requires { length table.old ≡ 256 }
+    ensures { AreTables factors.now table.new }
+{
+    let two = each_by_2(factors);
+    let four = each_by_4(factors);
+    let eight = each_by_4(&two);
+    table[0] = [0; 8];
+    double_products(table, 1, factors, factors);
+    double_products(table, 2, factors, &two);
+    double_products(table, 4, factors, &four);
+    double_products(table, 8, factors, &eight);
+    double_products(table, 16, factors, &each_by_16(factors));
+    double_products(table, 32, factors, &each_by_16(&two));
+    double_products(table, 64, factors, &each_by_16(&four));
+    double_products(table, 128, factors, &each_by_16(&eight));
+}
+
+// The sum of three in each lane.
+fn sum_of_three(a: &Eight, b: &Eight, c: &Eight) -> Eight
+    ensures { (l : ℕ) → l < 8 →
+        slice_index result l ≡ bit_xor (slice_index a.now l) (bit_xor (slice_index b.now l) (slice_index c.now l)) }
+{
+    [
+        a[0] ^ (b[0] ^ c[0]),
+        a[1] ^ (b[1] ^ c[1]),
+        a[2] ^ (b[2] ^ c[2]),
+        a[3] ^ (b[3] ^ c[3]),
+        a[4] ^ (b[4] ^ c[4]),
+        a[5] ^ (b[5] ^ c[5]),
+        a[6] ^ (b[6] ^ c[6]),
+        a[7] ^ (b[7] ^ c[7]),
+    ]
+}
+
+// Adds to the sums the products of eight factors with the row's symbols, from a first column on.
+// `low` has the factors' products with each lower byte, `high` with each upper byte.
+fn add_by_tables(
+    sums: &mut [Eight],
+    low: &[Eight],
+    high: &[Eight],
+    rows: &[u8],
+    width: usize,
+    row: usize,
+    first: usize,
+)
+    requires room { row * width + 2 * (first + length sums.old) ≤ length rows.now }
+    requires low { length low.now ≡ 256 }
+    requires high { length high.now ≡ 256 }
+    ensures count { length sums.new ≡ length sums.old }
+    ensures each { (j l : ℕ) → j < length sums.old → l < 8 → lane sums.new j l ≡ bit_xor (lane sums.old j l)
+        (bit_xor (lane high.now (slice_index rows.now (row * width + 2 * (first + j))) l)
+        (lane low.now (slice_index rows.now (row * width + 2 * (first + j) + 1)) l)) }
+{
+    for column in 0..sums.len() {
+        let place = row * width + 2 * (first + column);
+        let upper = &high[usize::from(rows[place])];
+        let lower = &low[usize::from(rows[place + 1])];
+        sums[column] = sum_of_three(&sums[column], upper, lower);
+    }
+}
+
+// Adds to the sums the products of eight factors with the row's symbols, from a first column on.
+fn add_row(
+    sums: &mut [Eight],
+    low: &mut [Eight],
+    high: &mut [Eight],
+    factors: &Eight,
+    rows: &[u8],
+    width: usize,
+    row: usize,
+    first: usize,
+)
+    requires room { row * width + 2 * (first + length sums.old) ≤ length rows.now }
+    requires low { length low.old ≡ 256 }
+    requires high { length high.old ≡ 256 }
+    ensures count { length sums.new ≡ length sums.old }
+    ensures low { length low.new ≡ 256 }
+    ensures high { length high.new ≡ 256 }
+    ensures each { (j l : ℕ) → j < length sums.old → l < 8 → lane sums.new j l
+        ≡ bit_xor (lane sums.old j l) (times (symbol rows.now width row (first + j)) (slice_index factors.now l)) }
+{
+    spread(low, factors);
+    spread(high, &each_by_256(factors));
+    add_by_tables(sums, low, high, rows, width, row, first);
+}
+
+// The coefficient of a row in one lane, and 0 in a lane that has no target.
+fn coefficient_of(own: &[u16], k: usize, lanes: usize, lane: usize, row: usize) -> u16
+    requires own { lanes * k ≤ length own.now }
+    requires row { row < k }
+    ensures { lane < lanes → result ≡ slice_index own.now (lane * k + row) }
+{
+    if lane < lanes { own[lane * k + row] } else { 0 }
+}
+
+// The coefficients of a row in all lanes.
+fn coefficients_of(own: &[u16], k: usize, lanes: usize, row: usize) -> Eight
+    requires own { lanes * k ≤ length own.now }
+    requires row { row < k }
+    ensures { (l : ℕ) → l < 8 → l < lanes → slice_index result l ≡ slice_index own.now (l * k + row) }
+{
+    [
+        coefficient_of(own, k, lanes, 0, row),
+        coefficient_of(own, k, lanes, 1, row),
+        coefficient_of(own, k, lanes, 2, row),
+        coefficient_of(own, k, lanes, 3, row),
+        coefficient_of(own, k, lanes, 4, row),
+        coefficient_of(own, k, lanes, 5, row),
+        coefficient_of(own, k, lanes, 6, row),
+        coefficient_of(own, k, lanes, 7, row),
+    ]
+}
+
+/// For each of at most eight targets, one in a lane, the sums over the k rows of a row's symbol times
+/// its coefficient for the target, in `count` columns from the column `first` on.
+pub fn group_sums(
+    alloc: Global,
+    own: &[u16],
+    k: usize,
+    lanes: usize,
+    rows: &[u8],
+    width: usize,
+    first: usize,
+    count: usize,
+) -> Result<Vec<Eight>, AllocError>
+    requires own { lanes * k ≤ length own.now }
+    requires rows { length rows.now ≡ k * width }
+    requires columns { 2 * (first + count) ≤ width }
+    ensures count { IfOk result (λ v. length v.items ≡ count) }
+    ensures each { IfOk result (λ v. (j l : ℕ) → j < count → l < 8 → l < lanes → lane v.items j l
+        ≡ sum_below k (λ s. times (symbol rows.now width s (first + j)) (slice_index own.now (l * k + s)))) }
+{
+    let mut sums = vec![in alloc; [0u16; 8]; count]?;
+    let mut low = vec![in alloc; [0u16; 8]; 256]?;
+    let mut high = vec![in alloc; [0u16; 8]; 256]?;
+    for row in 0..k {
+        let factors = coefficients_of(own, k, lanes, row);
+        add_row(
+            &mut sums, &mut low, &mut high, &factors, rows, width, row, first,
+        );
+    }
+    Ok(sums)
+}
+
+/// Writes the symbols of one lane, each as two big-endian bytes.
+pub fn fill_lane(bytes: &mut [u8], sums: &[Eight], place: usize)
+    requires long { length bytes.old ≡ 2 * length sums.now }
+    requires place { place < 8 }
+    ensures { bytes.new ≡ symbol_bytes (length sums.now) (λ j. lane sums.now j place) }
+{
+    for column in 0..sums.len() {
+        let symbol = sums[column][place];
+        bytes[2 * column] = (symbol / 256) as u8;
+        bytes[2 * column + 1] = (symbol % 256) as u8;
+    }
+}
