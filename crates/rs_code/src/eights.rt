@@ -1,11 +1,11 @@
 //! Sums of rows for eight targets at once: each entry of a table has eight factors' products side by
 //! side, so that one look-up serves eight targets.
 
-ghost use Rattle.std.specs.Prelude.{◌≡◌, ℕ, ◌<◌, ◌≤◌, ◌+◌, ◌*◌, ◌^◌, bit_xor, length, slice_index, IfOk, List};
+ghost use Rattle.std.specs.Prelude.{◌≡◌, ℕ, ◌<◌, ◌≤◌, ◌+◌, ◌*◌, ◌^◌, bit_xor, length, slice_index, IfOk};
 ghost use Rattle.rs_code.specs.Codeword.{sum_below};
 ghost use Rattle.rs_code.specs.Coefficients.{lane, AreTables};
 ghost use Rattle.rs_code.specs.Field.{times};
-ghost use Rattle.rs_code.specs.Rows.{symbol, symbol_bytes};
+ghost use Rattle.rs_code.specs.Rows.{symbol};
 
 use crate::gf16;
 use std::alloc::{AllocError, Global};
@@ -26,6 +26,38 @@ fn sum_of_two(a: &Eight, b: &Eight) -> Eight
         a[5] ^ b[5],
         a[6] ^ b[6],
         a[7] ^ b[7],
+    ]
+}
+
+/// The product in each lane.
+pub fn products(a: &Eight, b: &Eight) -> Eight
+    ensures { (l : ℕ) → l < 8 → slice_index result l ≡ times (slice_index a.now l) (slice_index b.now l) }
+{
+    [
+        gf16::mul(a[0], b[0]),
+        gf16::mul(a[1], b[1]),
+        gf16::mul(a[2], b[2]),
+        gf16::mul(a[3], b[3]),
+        gf16::mul(a[4], b[4]),
+        gf16::mul(a[5], b[5]),
+        gf16::mul(a[6], b[6]),
+        gf16::mul(a[7], b[7]),
+    ]
+}
+
+/// The difference to one element in each lane.
+pub fn differences(a: &Eight, b: u16) -> Eight
+    ensures { (l : ℕ) → l < 8 → slice_index result l ≡ bit_xor (slice_index a.now l) b }
+{
+    [
+        a[0] ^ b,
+        a[1] ^ b,
+        a[2] ^ b,
+        a[3] ^ b,
+        a[4] ^ b,
+        a[5] ^ b,
+        a[6] ^ b,
+        a[7] ^ b,
     ]
 }
 
@@ -206,73 +238,61 @@ fn add_row(
     add_by_tables(sums, low, high, rows, width, row, first);
 }
 
-// The coefficient of a row in one lane, and 0 in a lane that has no target.
-fn coefficient_of(own: &[u16], k: usize, lanes: usize, lane: usize, row: usize) -> u16
-    requires own { lanes * k ≤ length own.now }
-    requires row { row < k }
-    ensures { lane < lanes → result ≡ slice_index own.now (lane * k + row) }
-{
-    if lane < lanes { own[lane * k + row] } else { 0 }
-}
-
-// The coefficients of a row in all lanes.
-fn coefficients_of(own: &[u16], k: usize, lanes: usize, row: usize) -> Eight
-    requires own { lanes * k ≤ length own.now }
-    requires row { row < k }
-    ensures { (l : ℕ) → l < 8 → l < lanes → slice_index result l ≡ slice_index own.now (l * k + row) }
-{
-    [
-        coefficient_of(own, k, lanes, 0, row),
-        coefficient_of(own, k, lanes, 1, row),
-        coefficient_of(own, k, lanes, 2, row),
-        coefficient_of(own, k, lanes, 3, row),
-        coefficient_of(own, k, lanes, 4, row),
-        coefficient_of(own, k, lanes, 5, row),
-        coefficient_of(own, k, lanes, 6, row),
-        coefficient_of(own, k, lanes, 7, row),
-    ]
-}
-
-/// For each of at most eight targets, one in a lane, the sums over the k rows of a row's symbol times
-/// its coefficient for the target, in `count` columns from the column `first` on.
+/// For each of eight targets, one in a lane, the sums over the rows of a row's symbol times its factor
+/// for the target, in `count` columns from the column `first` on.
 pub fn group_sums(
     alloc: Global,
-    own: &[u16],
-    k: usize,
-    lanes: usize,
+    factors: &[Eight],
     rows: &[u8],
     width: usize,
     first: usize,
     count: usize,
 ) -> Result<Vec<Eight>, AllocError>
-    requires own { lanes * k ≤ length own.now }
-    requires rows { length rows.now ≡ k * width }
+    requires rows { length rows.now ≡ length factors.now * width }
     requires columns { 2 * (first + count) ≤ width }
     ensures count { IfOk result (λ v. length v.items ≡ count) }
-    ensures each { IfOk result (λ v. (j l : ℕ) → j < count → l < 8 → l < lanes → lane v.items j l
-        ≡ sum_below k (λ s. times (symbol rows.now width s (first + j)) (slice_index own.now (l * k + s)))) }
+    ensures each { IfOk result (λ v. (j l : ℕ) → j < count → l < 8 → lane v.items j l
+        ≡ sum_below (length factors.now) (λ s. times (symbol rows.now width s (first + j)) (lane factors.now s l))) }
 {
     let mut sums = vec![in alloc; [0u16; 8]; count]?;
     let mut low = vec![in alloc; [0u16; 8]; 256]?;
     let mut high = vec![in alloc; [0u16; 8]; 256]?;
-    for row in 0..k {
-        let factors = coefficients_of(own, k, lanes, row);
+    for row in 0..factors.len() {
         add_row(
-            &mut sums, &mut low, &mut high, &factors, rows, width, row, first,
+            &mut sums,
+            &mut low,
+            &mut high,
+            &factors[row],
+            rows,
+            width,
+            row,
+            first,
         );
     }
     Ok(sums)
 }
 
-/// Writes the symbols of one lane, each as two big-endian bytes.
-pub fn fill_lane(bytes: &mut [u8], sums: &[Eight], place: usize)
-    requires long { length bytes.old ≡ 2 * length sums.now }
+/// Writes the symbols of one lane into a row, from a first column on, each as two big-endian bytes.
+pub fn fill_lane(
+    rows: &mut [u8],
+    width: usize,
+    row: usize,
+    first: usize,
+    sums: &[Eight],
+    place: usize,
+)
+    requires row { (row + 1) * width ≤ length rows.old }
+    requires columns { 2 * (first + length sums.now) ≤ width }
     requires place { place < 8 }
-    ensures { bytes.new ≡ symbol_bytes (length sums.now) (λ j. lane sums.now j place) }
+    ensures count { length rows.new ≡ length rows.old }
+    ensures written { (j : ℕ) → j < length sums.now → symbol rows.new width row (first + j) ≡ lane sums.now j place }
+    ensures others { (i j : ℕ) → 2 * (j + 1) ≤ width → (i ≡ row → first ≤ j → j < first + length sums.now → ⊥) →
+        symbol rows.new width i j ≡ symbol rows.old width i j }
 {
     for column in 0..sums.len() {
         let symbol = sums[column][place];
-        bytes[2 * column] = (symbol / 256) as u8;
-        bytes[2 * column + 1] = (symbol % 256) as u8;
+        let at = row * width + 2 * (first + column);
+        rows[at] = (symbol / 256) as u8;
+        rows[at + 1] = (symbol % 256) as u8;
     }
 }
