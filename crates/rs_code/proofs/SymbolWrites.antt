@@ -1,8 +1,8 @@
 -- Rows whose symbols are written one at a time.
-use Rattle.std.proofs.Common.{◌≡◌, ◌≢◌, ℕ, suc, ◌+◌, ◌*◌, ◌/◌, ◌%◌, ◌<◌, ◌≤◌, ◌^◌, List, length, set, get_or, refl, sym, ap, ap₂, ◌∙◌, arith, mul-le-mul_right, ⊎_elim, get_or-set_same, get_or-set_other, div-add-mod'}
+use Rattle.std.proofs.Common.{◌≡◌, ◌≢◌, ℕ, suc, ◌+◌, ◌*◌, ◌/◌, ◌%◌, ◌<◌, ◌≤◌, List, length, set, get_or, sym, ap, ap₂, ◌∙◌, arith, mul-le-mul_right, ⊎_elim, get_or-set_same, get_or-set_other, div-add-mod'}
 use Rattle.std.proofs.lemmas.Bool.{cases_eq, cases_lt}
 use Rattle.std.proofs.lemmas.List.{length-set}
-use Rattle.rs_code.specs.Rows.{symbol, symbol_bytes, joined, row_of, AreRows}
+use Rattle.rs_code.specs.Rows.{symbol, symbol_bytes, joined, AreRows}
 use Rattle.rs_code.proofs.RowBytes.{symbol_bytes_same, joined_same}
 use Rattle.rs_code.proofs.RowLaws.{bytes_of_symbols, joined_rows}
 

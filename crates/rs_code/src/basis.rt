@@ -5,8 +5,8 @@ ghost use Rattle.rs_code.specs.Codeword.{ArePoints};
 ghost use Rattle.rs_code.specs.Coefficients.{weight, distance, AreWeights, AreCoefficients, AreInverses};
 ghost use Rattle.rs_code.specs.Field.{times, inverse};
 
-use crate::eights::{Eight, differences, products};
 use crate::gf16;
+use crate::lanes::{Eight, differences, next_eight, products, put_eight};
 use std::alloc::{AllocError, Global};
 use std::marker::Model;
 
@@ -70,32 +70,47 @@ impl Basis {
     }
 }
 
-// The weights of these points.
+// The weights of these points, of eight at a time.
 fn weights_of(alloc: Global, points: &[u16]) -> Result<Vec<u16>, AllocError>
     requires { ArePoints (length points.now) (λ u. slice_index points.now u) }
     ensures { IfOk result (λ v. AreWeights points.now v.items) }
 {
-    let mut weights = Vec::new(alloc);
-    for s in 0..points.len() {
-        weights.push(weight_of(points, s))?;
+    let mut weights = vec![in alloc; 0u16; points.len()]?;
+    for group in 0..points.len().div_ceil(8) {
+        let own = weights_at(points, &next_eight(points, 8 * group));
+        put_eight(&mut weights, 8 * group, &own);
     }
     Ok(weights)
 }
 
-// The weight of point s: 1 over the product of its differences to the other points.
-fn weight_of(points: &[u16], s: usize) -> u16
-    requires within { s < length points.now }
-    requires points { ArePoints (length points.now) (λ u. slice_index points.now u) }
-    ensures { result ≡ weight (length points.now) (λ u. slice_index points.now u) s }
+// The weights of eight points: 1 over the product of the differences to the other points.
+fn weights_at(points: &[u16], xs: &Eight) -> Eight
+    requires { ArePoints (length points.now) (λ u. slice_index points.now u) }
+    ensures { (l s : ℕ) → l < 8 → s < length points.now → slice_index xs.now l ≡ slice_index points.now s →
+        slice_index result l ≡ weight (length points.now) (λ u. slice_index points.now u) s }
 {
-    let own = points[s];
-    let mut product = 1;
-    for (u, point) in points.iter().enumerate() {
-        if u != s {
-            product = gf16::mul(product, own ^ *point);
-        }
+    let mut product = [1u16; 8];
+    for point in points {
+        let others = one_where_equal(xs, *point, &differences(xs, *point));
+        product = products(&product, &others);
     }
-    gf16::inv(product)
+    inverses(&product)
+}
+
+// The inverse in each lane, and 0 at 0.
+fn inverses(xs: &Eight) -> Eight
+    ensures { (l : ℕ) → l < 8 → slice_index xs.now l ≢ 0 → slice_index result l ≡ inverse (slice_index xs.now l) }
+{
+    [
+        inverse_or_zero(xs[0]),
+        inverse_or_zero(xs[1]),
+        inverse_or_zero(xs[2]),
+        inverse_or_zero(xs[3]),
+        inverse_or_zero(xs[4]),
+        inverse_or_zero(xs[5]),
+        inverse_or_zero(xs[6]),
+        inverse_or_zero(xs[7]),
+    ]
 }
 
 // The inverses of the first elements, and 0 at 0.

@@ -7,123 +7,10 @@ ghost use Rattle.rs_code.specs.Coefficients.{lane, AreTables};
 ghost use Rattle.rs_code.specs.Field.{times};
 ghost use Rattle.rs_code.specs.Rows.{symbol};
 
-use crate::gf16;
+use crate::lanes::{
+    Eight, each_by_2, each_by_4, each_by_16, each_by_256, sum_of_three, sum_of_two,
+};
 use std::alloc::{AllocError, Global};
-
-/// An element for each of eight targets.
-pub type Eight = [u16; 8];
-
-// The sum of two in each lane.
-fn sum_of_two(a: &Eight, b: &Eight) -> Eight
-    ensures { (l : ℕ) → l < 8 → slice_index result l ≡ bit_xor (slice_index a.now l) (slice_index b.now l) }
-{
-    [
-        a[0] ^ b[0],
-        a[1] ^ b[1],
-        a[2] ^ b[2],
-        a[3] ^ b[3],
-        a[4] ^ b[4],
-        a[5] ^ b[5],
-        a[6] ^ b[6],
-        a[7] ^ b[7],
-    ]
-}
-
-/// The product in each lane.
-pub fn products(a: &Eight, b: &Eight) -> Eight
-    ensures { (l : ℕ) → l < 8 → slice_index result l ≡ times (slice_index a.now l) (slice_index b.now l) }
-{
-    [
-        gf16::mul(a[0], b[0]),
-        gf16::mul(a[1], b[1]),
-        gf16::mul(a[2], b[2]),
-        gf16::mul(a[3], b[3]),
-        gf16::mul(a[4], b[4]),
-        gf16::mul(a[5], b[5]),
-        gf16::mul(a[6], b[6]),
-        gf16::mul(a[7], b[7]),
-    ]
-}
-
-/// The difference to one element in each lane.
-pub fn differences(a: &Eight, b: u16) -> Eight
-    ensures { (l : ℕ) → l < 8 → slice_index result l ≡ bit_xor (slice_index a.now l) b }
-{
-    [
-        a[0] ^ b,
-        a[1] ^ b,
-        a[2] ^ b,
-        a[3] ^ b,
-        a[4] ^ b,
-        a[5] ^ b,
-        a[6] ^ b,
-        a[7] ^ b,
-    ]
-}
-
-// The product with 2 in each lane.
-fn each_by_2(a: &Eight) -> Eight
-    ensures { (l : ℕ) → l < 8 → slice_index result l ≡ times (slice_index a.now l) 2 }
-{
-    [
-        gf16::by_2(a[0]),
-        gf16::by_2(a[1]),
-        gf16::by_2(a[2]),
-        gf16::by_2(a[3]),
-        gf16::by_2(a[4]),
-        gf16::by_2(a[5]),
-        gf16::by_2(a[6]),
-        gf16::by_2(a[7]),
-    ]
-}
-
-// The product with 4 in each lane.
-fn each_by_4(a: &Eight) -> Eight
-    ensures { (l : ℕ) → l < 8 → slice_index result l ≡ times (slice_index a.now l) 4 }
-{
-    [
-        gf16::by_4(a[0]),
-        gf16::by_4(a[1]),
-        gf16::by_4(a[2]),
-        gf16::by_4(a[3]),
-        gf16::by_4(a[4]),
-        gf16::by_4(a[5]),
-        gf16::by_4(a[6]),
-        gf16::by_4(a[7]),
-    ]
-}
-
-// The product with 16 in each lane.
-fn each_by_16(a: &Eight) -> Eight
-    ensures { (l : ℕ) → l < 8 → slice_index result l ≡ times (slice_index a.now l) 16 }
-{
-    [
-        gf16::by_16(a[0]),
-        gf16::by_16(a[1]),
-        gf16::by_16(a[2]),
-        gf16::by_16(a[3]),
-        gf16::by_16(a[4]),
-        gf16::by_16(a[5]),
-        gf16::by_16(a[6]),
-        gf16::by_16(a[7]),
-    ]
-}
-
-// The product with 256 in each lane.
-fn each_by_256(a: &Eight) -> Eight
-    ensures { (l : ℕ) → l < 8 → slice_index result l ≡ times (slice_index a.now l) 256 }
-{
-    [
-        gf16::by_256(a[0]),
-        gf16::by_256(a[1]),
-        gf16::by_256(a[2]),
-        gf16::by_256(a[3]),
-        gf16::by_256(a[4]),
-        gf16::by_256(a[5]),
-        gf16::by_256(a[6]),
-        gf16::by_256(a[7]),
-    ]
-}
 
 // Copies the first `count` entries behind themselves, with a step added in each lane.
 fn double(table: &mut [Eight], count: usize, step: &Eight)
@@ -167,23 +54,6 @@ fn spread(table: &mut [Eight], factors: &Eight)
     double_products(table, 32, factors, &each_by_16(&two));
     double_products(table, 64, factors, &each_by_16(&four));
     double_products(table, 128, factors, &each_by_16(&eight));
-}
-
-// The sum of three in each lane.
-fn sum_of_three(a: &Eight, b: &Eight, c: &Eight) -> Eight
-    ensures { (l : ℕ) → l < 8 →
-        slice_index result l ≡ bit_xor (slice_index a.now l) (bit_xor (slice_index b.now l) (slice_index c.now l)) }
-{
-    [
-        a[0] ^ (b[0] ^ c[0]),
-        a[1] ^ (b[1] ^ c[1]),
-        a[2] ^ (b[2] ^ c[2]),
-        a[3] ^ (b[3] ^ c[3]),
-        a[4] ^ (b[4] ^ c[4]),
-        a[5] ^ (b[5] ^ c[5]),
-        a[6] ^ (b[6] ^ c[6]),
-        a[7] ^ (b[7] ^ c[7]),
-    ]
 }
 
 // Adds to the sums the products of eight factors with the row's symbols, from a first column on.

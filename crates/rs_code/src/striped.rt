@@ -10,7 +10,8 @@ ghost use Rattle.rs_code.specs.Rows.{symbol, symbol_bytes, joined, row_through};
 ghost use Rattle.rs_code.specs.Stripes.{stripe_start, stripe_bytes, AreStripes};
 
 use crate::basis::Basis;
-use crate::eights::{Eight, fill_lane, group_sums};
+use crate::eights::{fill_lane, group_sums};
+use crate::lanes::{Eight, next_eight};
 use crate::stripes::{stripe, stripe_count};
 use cw_base::{NoMemory, Strategy};
 use std::alloc::{AllocError, Global};
@@ -149,36 +150,6 @@ fn fill_group(
         )?;
     }
     Ok(())
-}
-
-// The next eight targets. Where fewer are left, the other lanes have any element.
-fn next_eight(targets: &[u16], done: usize) -> Eight
-    requires { done < length targets.now }
-    ensures { (l : ℕ) → l < 8 → done + l < length targets.now → slice_index result l ≡ slice_index targets.now (done + l) }
-{
-    [
-        target_in(targets, done, 0),
-        target_in(targets, done, 1),
-        target_in(targets, done, 2),
-        target_in(targets, done, 3),
-        target_in(targets, done, 4),
-        target_in(targets, done, 5),
-        target_in(targets, done, 6),
-        target_in(targets, done, 7),
-    ]
-}
-
-// The target in one of eight lanes, and 0 where no target is left.
-fn target_in(targets: &[u16], done: usize, lane: usize) -> u16
-    requires done { done < length targets.now }
-    requires lane { lane < 8 }
-    ensures { done + lane < length targets.now → result ≡ slice_index targets.now (done + lane) }
-{
-    if lane < targets.len() - done {
-        targets[done + lane]
-    } else {
-        0
-    }
 }
 
 // Writes the symbols of some lanes in a block of columns, from `start` on: the sums of the rows' symbols

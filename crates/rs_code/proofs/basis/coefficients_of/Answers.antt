@@ -1,8 +1,8 @@
-use Rattle.std.proofs.Common.{◌≡◌, ℕ, ◌<◌, ◌^◌, List, length, get_or, bit_xor, sym, ap₂, ◌∙◌, arith, rules, ⊎_elim}
+use Rattle.std.proofs.Common.{◌≡◌, ℕ, ◌<◌, length, get_or, bit_xor, sym, ap₂, ◌∙◌, arith, rules, ⊎_elim}
 use Rattle.std.proofs.lemmas.Bool.{cases_eq}
 use Rattle.rs_code.specs.Field.{times, inverse}
 use Rattle.rs_code.specs.Codeword.{product_below, factor}
-use Rattle.rs_code.specs.Coefficients.{weight, distance}
+use Rattle.rs_code.specs.Coefficients.{weight}
 use Rattle.rs_code.proofs.LaneLaws.{entry_pushed}
 use Rattle.rs_code.proofs.WeightLaws.{basis_here_is_one, basis_by_distance}
 use Rattle.rs_code.proofs.basis.coefficients_of.Goals as goal

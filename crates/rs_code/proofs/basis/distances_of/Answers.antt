@@ -1,4 +1,4 @@
-use Rattle.std.proofs.Common.{◌≡◌, ℕ, zero, suc, get_or, bit_xor, refl, sym, ap, ap₂, ◌∙◌, length, arith}
+use Rattle.std.proofs.Common.{◌≡◌, ℕ, get_or, bit_xor, sym, ap, ap₂, ◌∙◌, length, arith}
 use Rattle.rs_code.specs.Codeword.{product_below}
 use Rattle.rs_code.specs.Field.{times}
 use Rattle.rs_code.proofs.Codewords.{product_none, product_more}

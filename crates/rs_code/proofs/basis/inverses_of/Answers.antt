@@ -1,4 +1,4 @@
-use Rattle.std.proofs.Common.{ℕ, zero, suc, arith}
+use Rattle.std.proofs.Common.{zero, suc, arith}
 use Rattle.rs_code.proofs.basis.inverses_of.Goals as goal
 
 pub returns : goal.returns

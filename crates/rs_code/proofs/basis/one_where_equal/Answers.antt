@@ -1,4 +1,4 @@
-use Rattle.std.proofs.Common.{ℕ, zero, suc, arith}
+use Rattle.std.proofs.Common.{zero, suc, arith}
 use Rattle.rs_code.proofs.basis.one_where_equal.Goals as goal
 
 pub returns-clause-here : goal.returns-clause-here
