@@ -37,8 +37,8 @@ fn double_products(table: &mut [Eight], count: usize, factors: &Eight, step: &Ei
     double(table, count, step);
 }
 
-// The products of eight factors with each byte.
-fn spread(table: &mut [Eight], factors: &Eight)
+/// The products of eight factors with each byte.
+pub fn spread(table: &mut [Eight], factors: &Eight)
     requires { length table.old ≡ 256 }
     ensures { AreTables factors.now table.new }
 {

@@ -12,6 +12,7 @@ ghost use Rattle.rs_code.specs.Stripes.{stripe_start, stripe_bytes, AreStripes};
 use crate::basis::Basis;
 use crate::eights::{fill_lane, group_sums};
 use crate::lanes::{Eight, next_eight};
+use crate::pairs::{fill_pair_lane, pair_sums};
 use crate::stripes::{stripe, stripe_count};
 use cw_base::{NoMemory, Strategy};
 use std::alloc::{AllocError, Global};
@@ -179,9 +180,78 @@ fn fill_block(
     ensures written { OnOk result ((l j : ℕ) → l < lanes → j < count → symbol out.new wide (done + l) (start + j)
         ≡ sum_below (length factors.now) (λ s. times (symbol rows.now width s (first + (start + j))) (lane factors.now s l))) }
 {
+    if lanes <= 2 {
+        return fill_pairs(
+            alloc, out, factors, rows, width, wide, done, lanes, first, start, count,
+        );
+    }
+    fill_eights(
+        alloc, out, factors, rows, width, wide, done, lanes, first, start, count,
+    )
+}
+
+// The same by tables for eight targets.
+fn fill_eights(
+    alloc: Global,
+    out: &mut [u8],
+    factors: &[Eight],
+    rows: &[u8],
+    width: usize,
+    wide: usize,
+    done: usize,
+    lanes: usize,
+    first: usize,
+    start: usize,
+    count: usize,
+) -> Result<(), AllocError>
+    requires rows { length rows.now ≡ length factors.now * width }
+    requires columns { 2 * (first + start + count) ≤ width }
+    requires own { 2 * (start + count) ≤ wide }
+    requires out { (done + lanes) * wide ≤ length out.old }
+    requires lanes { lanes ≤ 8 }
+    requires fits { done + lanes < 2 ^ 64 }
+    ensures count { length out.new ≡ length out.old }
+    ensures others { (i j : ℕ) → 2 * (j + 1) ≤ wide → (done ≤ i → start ≤ j → j < start + count → ⊥) →
+        symbol out.new wide i j ≡ symbol out.old wide i j }
+    ensures written { OnOk result ((l j : ℕ) → l < lanes → j < count → symbol out.new wide (done + l) (start + j)
+        ≡ sum_below (length factors.now) (λ s. times (symbol rows.now width s (first + (start + j))) (lane factors.now s l))) }
+{
     let sums = group_sums(alloc, factors, rows, width, first + start, count)?;
     for place in 0..lanes {
         fill_lane(out, wide, done + place, start, &sums, place);
+    }
+    Ok(())
+}
+
+// The same by tables for two targets.
+fn fill_pairs(
+    alloc: Global,
+    out: &mut [u8],
+    factors: &[Eight],
+    rows: &[u8],
+    width: usize,
+    wide: usize,
+    done: usize,
+    lanes: usize,
+    first: usize,
+    start: usize,
+    count: usize,
+) -> Result<(), AllocError>
+    requires rows { length rows.now ≡ length factors.now * width }
+    requires columns { 2 * (first + start + count) ≤ width }
+    requires own { 2 * (start + count) ≤ wide }
+    requires out { (done + lanes) * wide ≤ length out.old }
+    requires lanes { lanes ≤ 2 }
+    requires fits { done + lanes < 2 ^ 64 }
+    ensures count { length out.new ≡ length out.old }
+    ensures others { (i j : ℕ) → 2 * (j + 1) ≤ wide → (done ≤ i → start ≤ j → j < start + count → ⊥) →
+        symbol out.new wide i j ≡ symbol out.old wide i j }
+    ensures written { OnOk result ((l j : ℕ) → l < lanes → j < count → symbol out.new wide (done + l) (start + j)
+        ≡ sum_below (length factors.now) (λ s. times (symbol rows.now width s (first + (start + j))) (lane factors.now s l))) }
+{
+    let sums = pair_sums(alloc, factors, rows, width, first + start, count)?;
+    for place in 0..lanes {
+        fill_pair_lane(out, wide, done + place, start, &sums, place);
     }
     Ok(())
 }

@@ -25,6 +25,6 @@ loop-s-preserved c =
     (cases_eq (x l) (P s)) in
     record {
       count = search rules;
-      each = entry_pushed c.loop-s.values.items c.push.new.self.items s c.coefficients_at.result (λ t l. product_below k (λ u. factor P (x l) t u))
+      each = entry_pushed 8 c.loop-s.values.items c.push.new.self.items s c.coefficients_at.result (λ t l. product_below k (λ u. factor P (x l) t u))
           c.loop-s.invariant.count c.in_ok-push.ensures.items value c.loop-s.invariant.each;
     }

@@ -4,7 +4,7 @@ use Rattle.rs_code.specs.Codeword.{sum_below}
 use Rattle.rs_code.specs.Coefficients.{lane}
 use Rattle.rs_code.specs.Field.{times}
 use Rattle.rs_code.specs.Rows.{symbol}
-use Rattle.rs_code.proofs.striped.fill_block.Goals as goal
+use Rattle.rs_code.proofs.striped.fill_eights.Goals as goal
 
 pub fill_lane-requires-clause-row : goal.fill_lane-requires-clause-row
 fill_lane-requires-clause-row c =

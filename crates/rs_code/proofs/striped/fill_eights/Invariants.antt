@@ -3,7 +3,7 @@ use Rattle.rs_code.specs.Codeword.{sum_below}
 use Rattle.rs_code.specs.Coefficients.{lane}
 use Rattle.rs_code.specs.Field.{times}
 use Rattle.rs_code.specs.Rows.{symbol}
-use Rattle.rs_code.proofs.striped.fill_block.Given as goal
+use Rattle.rs_code.proofs.striped.fill_eights.Given as goal
 
 -- the lanes so far are written
 abbrev pub invariant-loop-place : goal.invariant-loop-place
