@@ -4,6 +4,7 @@ pub mod Lists
 pub mod InChunks
 pub mod Answered
 pub mod KeptLemmas
+pub mod LedUp
 pub mod Sizes
 pub mod Standing
 pub mod Decoded

@@ -1,7 +1,8 @@
 //! The chunks that are kept.
 
-ghost use Rattle.std.specs.Prelude.{◌≡◌, [], IfOk, OnErr, OnOk};
-ghost use Rattle.shards.specs.Kept.{rules_of};
+ghost use Rattle.std.specs.Prelude.{◌≡◌, [], IfErr, IfOk, IsFalse, IsTrue, OnErr, OnOk};
+ghost use Rattle.cw_rules.specs.Accepted.{is_chunk_of};
+ghost use Rattle.shards.specs.Kept.{is_known, rules_of};
 ghost use Rattle.shards.specs.Verdicts.{after, verdict};
 
 use crate::checks::is_chunk_of;
@@ -53,7 +54,8 @@ impl<H: Hasher<Digest = Digest32>> Shards<H> {
     /// that holds: it is known, where one of that commitment and index was kept; foreign, where the
     /// commitment's config is that of no epoch or the chunk doesn't stand under its root. Else it is kept;
     /// and as the last of as many chunks as show a block, it shows the block of whose codeword they are
-    /// rows, if there is one that is committed to so. Where memory is short nothing changes.
+    /// rows, if there is one that is committed to so. Where memory is short nothing changes;
+    /// of a chunk that is known or foreign it never is.
     pub fn take<R: Threads + Sync, S: Strategy>(
         &mut self,
         rt: &R,
@@ -64,11 +66,13 @@ impl<H: Hasher<Digest = Digest32>> Shards<H> {
         ensures verdict { IfOk result (λ v. v ≡ verdict (rules_of H.digest_of self.old.epochs) self.old.kept commitment.now chunk) }
         ensures ok { OnOk result (self.new ≡ after (rules_of H.digest_of self.old.epochs) self.old commitment.now chunk) }
         ensures err { OnErr result (self.new ≡ self.old) }
+        ensures new { IfErr result (λ _. IsFalse (is_known self.old.kept commitment.now chunk)) }
+        ensures taken { IfErr result (λ _. IsTrue (is_chunk_of (rules_of H.digest_of self.old.epochs) commitment.now chunk)) }
     {
         if pieces::is_known(self.kept.as_slice(), commitment, &chunk) {
             return Ok(Verdict::Known);
         }
-        if !is_chunk_of::<H, S>(self.alloc, &self.committees, commitment, &chunk, strategy)? {
+        if !is_chunk_of::<H>(&self.committees, commitment, &chunk) {
             return Ok(Verdict::Foreign);
         }
         let verdict = kept_verdict::<H, R, S>(

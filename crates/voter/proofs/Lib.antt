@@ -8,7 +8,6 @@ pub mod Heights
 pub mod Joined
 pub mod Kept
 pub mod Lists
-pub mod Numbers
 pub mod Places
 pub mod Signers
 pub mod StepDown

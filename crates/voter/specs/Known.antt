@@ -4,7 +4,6 @@ use Rattle.cw_base.specs.declared.hash.Digest32.{Digest32}
 use Rattle.cw_types.specs.Encoding.{block_bytes, context_bytes}
 use Rattle.cw_types.specs.Epochs.{Epochs}
 use Rattle.cw_types.specs.Same.{same_commitment, same_vote}
-use Rattle.cw_types.specs.Votes.{is_ordered, well_formed}
 use Rattle.cw_types.specs.declared.commitment.Commitment.{Commitment}
 use Rattle.cw_types.specs.declared.note.Note.{Note}
 use Rattle.cw_types.specs.declared.vote.Vote.{Vote}
@@ -31,13 +30,6 @@ with_note t note = record { epochs = t.epochs; id = t.id; notes = t.notes ++ not
 -- one more chunk at a place of the member's own
 abbrev pub with_own : Known → Commitment → ℕ → Known
 with_own t c at = record { epochs = t.epochs; id = t.id; notes = t.notes; ballots = t.ballots; own = t.own ++ record { commitment = c; index = at } ∷ [] }
-
--- a vote may be counted that a note holds, and its proposal too
-abbrev pub is_countable : Note → Bool
-is_countable (Note.Vote v) = well_formed v
-is_countable (Note.Cert s) = well_formed s.vote
-is_countable (Note.Certified p) = is_ordered p
-is_countable _ = true
 
 -- ---- as the rules see it
 
@@ -89,8 +81,3 @@ ballot_signers (Many s) = s.signers
 -- it is the chunk of the commitment at that place
 abbrev pub is_own_at : ℕ → Commitment → OwnChunk → Bool
 is_own_at at c x = same_commitment c x.commitment && (x.index == at)
-
--- the height of a noted block
-abbrev pub noted_height : Note → Option ℕ
-noted_height (Note.Block c b) = Some b.height
-noted_height _ = None

@@ -14,7 +14,8 @@ use Rattle.cw_rules.specs.Direct.{best_parent}
 use Rattle.cw_rules.specs.Notes.{view_of}
 use Rattle.cw_rules.specs.Owed.{all_nullified, ballot_vote, is_row_at}
 use Rattle.cw_rules.specs.Rules.{Rules}
-use Rattle.voter.specs.Known.{Known, is_countable, is_own_at}
+use Rattle.note_scans.specs.Countable.{is_countable}
+use Rattle.voter.specs.Known.{Known, is_own_at}
 
 -- the tally has the member's committees, its notes, the votes and certificates that came to it, and those chunks that came and stand at its place of some epoch
 pub record StandsFor (hash : List ℕ → Digest32) (t : Known) (r : Rules) (s : State) : Type 0 where

@@ -9,12 +9,12 @@ ghost use Rattle.cw_types.specs.Epochs.{members_in, size};
 ghost use Rattle.cw_types.specs.Numbers.{quorum};
 ghost use Rattle.cw_types.specs.Votes.{vote_epoch, well_formed};
 ghost use Rattle.cw_types.specs.declared.note.Note.{Note};
-ghost use Rattle.voter.specs.Known.{ballot_signers, certifies, is_countable, state_of, vote_rules};
+ghost use Rattle.note_scans.specs.Countable.{is_countable};
+ghost use Rattle.voter.specs.Known.{ballot_signers, certifies, state_of, vote_rules};
 ghost use Rattle.voter.specs.Owing as owing;
 ghost use Rattle.voter.specs.Standing.{are_signers};
 
 use crate::ballot::Ballot;
-use crate::notes;
 use crate::tally::Tally;
 use cw_base::{Digest32, Hasher, Items, NoMemory};
 use cw_types::{Cert, Vote, quorum};
@@ -26,7 +26,7 @@ impl<H> Tally<H> {
         ensures { result ≡ rule.knows self.now.id (state_of self.now) vote.now member }
     {
         self.has_voted_so(vote, member)
-            || (member == self.id && notes::has_vote(self.notes.as_slice(), vote))
+            || (member == self.id && note_scans::has_vote(self.notes.as_slice(), vote))
     }
 
     // Whether this vote of that member came.
@@ -68,7 +68,7 @@ impl<H> Tally<H> {
     fn is_certifiable(&self, vote: &Vote) -> bool
         ensures { result ≡ (not (has_cert self.now.notes vote.now) && (is_some (find (certifies vote.now) self.now.ballots) || nat_le (quorum (size self.now.epochs (vote_epoch vote.now))) (length (filter (rule.knows self.now.id (state_of self.now) vote.now) (members_in self.now.epochs (vote_epoch vote.now)))))) }
     {
-        !notes::has_cert(self.notes.as_slice(), vote)
+        !note_scans::has_cert(self.notes.as_slice(), vote)
             && (self.has_arrived(vote) || self.is_signed(vote))
     }
 
@@ -128,7 +128,7 @@ impl<H: Hasher<Digest = Digest32>> Tally<H> {
                 self.notes
                     .as_slice()
                     .iter()
-                    .filter_map(|note| notes::vote_of(note)),
+                    .filter_map(|note| note_scans::vote_of(note)),
             )
             .find(|vote| self.owes_cert(vote))
     }

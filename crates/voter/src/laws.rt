@@ -1,17 +1,16 @@
-//! What the votes of members can't do, whatever they know, and what a tally tells of the rules.
+//! What a tally tells of the rules.
 
-ghost use Rattle.std.specs.Prelude.{[], Bool, IsTrue, List, None, Some, find, option_map, true, ◌<◌, ◌≡◌, ◌∷◌, ℕ};
+ghost use Rattle.std.specs.Prelude.{[], IsTrue, List, None, Some, find, option_map, true, ◌<◌, ◌≡◌, ◌∷◌, ℕ};
 ghost use Rattle.std.specs.List.{list_all};
 ghost use Rattle.cw_base.specs.declared.hash.Digest32.{Digest32};
 ghost use Rattle.cw_types.specs.Block.{Block};
 ghost use Rattle.cw_types.specs.Commit.{genesis_commitment};
 ghost use Rattle.cw_types.specs.Encoding.{block_bytes, context_bytes};
-ghost use Rattle.cw_types.specs.Epochs.{Epochs, place};
+ghost use Rattle.cw_types.specs.Epochs.{place};
 ghost use Rattle.cw_types.specs.declared.commitment.Commitment.{Commitment};
 ghost use Rattle.cw_types.specs.declared.event.Handed.{Handed};
 ghost use Rattle.cw_types.specs.declared.note.Note.{Note};
 ghost use Rattle.cw_types.specs.declared.vote.Proposal.{Proposal};
-ghost use Rattle.cw_types.specs.declared.vote.Vote.{Vote};
 ghost use Rattle.cw_rules.specs.Accepted.{Ballot, Row, State, Whole, add_wish, first_some, take_ballot, take_part};
 ghost use Rattle.cw_rules.specs.Direct.{best_parent};
 ghost use Rattle.cw_rules.specs.Fits.{block_fits};
@@ -19,36 +18,14 @@ ghost use Rattle.cw_rules.specs.Held.{held};
 ghost use Rattle.cw_rules.specs.Notes.{view_of};
 ghost use Rattle.cw_rules.specs.Owed as rule;
 ghost use Rattle.cw_rules.specs.Rules.{Chunk, Rules};
-ghost use Rattle.cw_rules.specs.Stands.{AreLawful, Descends, Members, Stands};
 ghost use Rattle.cw_rules.specs.Step.{nothing_came, with_handed, with_notes};
-ghost use Rattle.voter.specs.Known.{Known, is_countable, unknowing, with_ballot, with_note, with_own};
+ghost use Rattle.note_scans.specs.Countable.{is_countable};
+ghost use Rattle.voter.specs.Known.{Known, unknowing, with_ballot, with_note, with_own};
 ghost use Rattle.voter.specs.Owing as owing;
 ghost use Rattle.voter.specs.Standing.{StandsFor, best_from, is_formed, is_signed, with_came};
 
 use crate::tally::Tally;
 use cw_types::{Note, Proposal, Vote};
-
-/// Among members of whom at most f of each epoch are faulty, and the others honest, what stands is one
-/// chain in each epoch. What it means that the block of a proposal fits is left open, so a payload may be
-/// any commitment.
-pub fn chain_laws()
-    // no two different votes to notarize of one epoch and view stand
-    ensures one_notarized { (x : Epochs) (fits : List Note → Proposal → Bool) (members : Members)
-        → AreLawful x fits members
-        → (p q : Proposal) → Stands x members (Vote.Notarize p) → Stands x members (Vote.Notarize q)
-        → p.epoch ≡ q.epoch → p.view ≡ q.view → p ≡ q }
-    // a vote to finalize and one to nullify its view never both stand
-    ensures not_both { (x : Epochs) (fits : List Note → Proposal → Bool) (members : Members)
-        → AreLawful x fits members
-        → (p : Proposal) → Stands x members (Vote.Finalize p) → Stands x members (Vote.Nullify p.epoch p.view) → ⊥ }
-    // what stands notarized in a later view of the epoch than a finalized proposal descends from it
-    ensures descent { (x : Epochs) (fits : List Note → Proposal → Bool) (members : Members)
-        → AreLawful x fits members
-        → (p q : Proposal) → Stands x members (Vote.Finalize p) → Stands x members (Vote.Notarize q)
-        → p.epoch ≡ q.epoch → p.view < q.view → Descends x members q p }
-{
-    cw_rules::chain_laws();
-}
 
 /// What a tally owes is what the rules say that each member owes that it stands for, whatever the rules
 /// stand on and whatever else the member knows. Whether a block fits is the member's to say.
@@ -128,4 +105,8 @@ pub fn owed_is_countable()
         → owing.cert_owed hash t ≡ Some owed → IsTrue (is_countable owed) }
     ensures votes { (hash : List ℕ → Digest32) (t : Known) (owed : Note) → IsTrue (list_all is_countable t.notes) → IsTrue (list_all is_formed t.ballots)
         → owing.vote_owed hash t ≡ Some owed → IsTrue (is_countable owed) }
+    // the note that the first proposal is certified whose block fits
+    ensures certified { (hash : List ℕ → Digest32) (t : Known) (r : Rules) (p : Proposal)
+        → IsTrue (list_all is_countable t.notes) → IsTrue (list_all is_formed t.ballots)
+        → find (block_fits r t.notes) (owing.uncertified t) ≡ Some p → IsTrue (is_countable (Note.Certified p)) }
 {}

@@ -8,16 +8,15 @@ mod ballot;
 mod certs;
 mod context;
 mod laws;
-mod notes;
 mod own;
 mod parents;
 mod proposals;
 mod tally;
 mod votes;
 
+pub use cw_rules::chain_laws;
 pub use laws::{
-    chain_laws, owed_is_countable, parent_stands, standing_is_kept, tally_is_countable,
-    tally_stands,
+    owed_is_countable, parent_stands, standing_is_kept, tally_is_countable, tally_stands,
 };
 pub use own::OwnChunk;
 pub use tally::Tally;

@@ -4,7 +4,6 @@ ghost use Rattle.std.specs.Prelude.{◌≡◌};
 ghost use Rattle.cw_types.specs.Commit.{genesis_commitment};
 ghost use Rattle.voter.specs.Owing as owing;
 
-use crate::notes;
 use crate::tally::Tally;
 use cw_base::{Digest32, Hasher};
 use cw_types::Commitment;
@@ -37,7 +36,7 @@ impl<H: Hasher<Digest = Digest32>> Tally<H> {
     {
         let view = self.view(epoch);
         let top = below.min(view);
-        if !notes::all_nullified(self.notes.as_slice(), epoch, top.saturating_sub(1), view) {
+        if !note_scans::all_nullified(self.notes.as_slice(), epoch, top.saturating_sub(1), view) {
             return None;
         }
         self.parent_below(epoch, top)

@@ -1,16 +1,15 @@
 //! The proposals that a member may certify.
 
-ghost use Rattle.std.specs.Prelude.{◌≡◌, ◌==◌, filter, filter_map, find, length, option_and_then, option_map, slice_get, take};
+ghost use Rattle.std.specs.Prelude.{◌≡◌, ◌==◌, IfSome, IsTrue, filter, filter_map, find, length, option_and_then, option_map, slice_get, take};
 ghost use Rattle.std.specs.List.{enumerate_from, list_any};
 ghost use Rattle.std.specs.Option.{is_some};
 ghost use Rattle.cw_rules.specs.Owed as rule;
 ghost use Rattle.cw_types.specs.Same.{same_proposal};
-ghost use Rattle.cw_types.specs.Votes.{proposal_of};
+ghost use Rattle.cw_types.specs.Votes.{is_ordered, proposal_of};
 ghost use Rattle.voter.specs.Known.{state_of};
 ghost use Rattle.voter.specs.Owing as owing;
 
 use crate::ballot::Ballot;
-use crate::notes;
 use crate::tally::Tally;
 use cw_types::{Note, Proposal, Vote};
 
@@ -19,8 +18,8 @@ impl<H> Tally<H> {
     fn is_uncertified(&self, proposal: &Proposal) -> bool
         ensures { result ≡ owing.is_uncertified self.now.notes proposal.now }
     {
-        notes::has_cert(self.notes.as_slice(), &Vote::Notarize(*proposal))
-            && !notes::has_certified(self.notes.as_slice(), proposal)
+        note_scans::has_cert(self.notes.as_slice(), &Vote::Notarize(*proposal))
+            && !note_scans::has_certified(self.notes.as_slice(), proposal)
     }
 
     // Whether one of the first `at` proposals that are named is the same.
@@ -30,12 +29,12 @@ impl<H> Tally<H> {
         self.ballots
             .as_slice()
             .iter()
-            .filter_map(|ballot| ballot.proposal())
+            .filter_map(|ballot| ballot.proposal().copied())
             .chain(
                 self.notes
                     .as_slice()
                     .iter()
-                    .filter_map(|note| notes::note_proposal(note)),
+                    .filter_map(|note| note_scans::proposal_of(note).copied()),
             )
             .take(at)
             .any(|other| proposal.is_same(&other))
@@ -57,12 +56,12 @@ impl<H> Tally<H> {
         self.ballots
             .as_slice()
             .iter()
-            .filter_map(|ballot| ballot.proposal())
+            .filter_map(|ballot| ballot.proposal().copied())
             .chain(
                 self.notes
                     .as_slice()
                     .iter()
-                    .filter_map(|note| notes::note_proposal(note)),
+                    .filter_map(|note| note_scans::proposal_of(note).copied()),
             )
             .enumerate()
             .filter(|(at, proposal)| self.is_candidate(*at, proposal))
@@ -77,7 +76,7 @@ impl<H> Tally<H> {
         self.ballots
             .as_slice()
             .iter()
-            .filter_map(|ballot| ballot.proposal())
+            .filter_map(|ballot| ballot.proposal().copied())
             .count()
     }
 
@@ -99,7 +98,7 @@ impl<H> Tally<H> {
         self.notes
             .as_slice()
             .iter()
-            .filter(|note| notes::note_proposal(note).is_some())
+            .filter(|note| note_scans::proposal_of(note).is_some())
             .nth(at)
     }
 
@@ -108,7 +107,7 @@ impl<H> Tally<H> {
         ensures { option_map (λ proposal. proposal.now) result ≡ option_and_then (λ x. proposal_of (rule.ballot_vote x)) (slice_get (filter (λ x. is_some (proposal_of (rule.ballot_vote x))) self.now.ballots) at) }
     {
         match self.ballot_naming(at) {
-            Some(ballot) => ballot.named_proposal(),
+            Some(ballot) => ballot.proposal(),
             None => None,
         }
     }
@@ -118,7 +117,7 @@ impl<H> Tally<H> {
         ensures { option_map (λ proposal. proposal.now) result ≡ option_and_then rule.note_proposal (slice_get (filter (λ note. is_some (rule.note_proposal note)) self.now.notes) at) }
     {
         match self.note_naming(at) {
-            Some(note) => notes::named_proposal(note),
+            Some(note) => note_scans::proposal_of(note),
             None => None,
         }
     }
@@ -133,15 +132,26 @@ impl<H> Tally<H> {
         }
     }
 
-    /// The proposal at this place, counted from 0, among those with a noted notarization that aren't
-    /// certified: each once, in the order in which what came and then the notes first name them. None
-    /// past the last. Takes no memory.
-    pub fn uncertified(&self, index: usize) -> Option<&Proposal>
-        ensures { option_map (λ proposal. proposal.now) result ≡ slice_get (owing.uncertified self.now) index }
+    // The proposal at this place of those that are notarized and not certified.
+    fn nth_uncertified(&self, index: usize) -> Option<&Proposal>
+        ensures { option_map (λ proposal. proposal.now) result
+            ≡ slice_get (owing.uncertified self.now) index }
     {
         match self.ranked_candidate(index) {
             Some((_, (at, _))) => self.named_at(at),
             None => None,
         }
+    }
+
+    /// The proposal at this place, counted from 0, among those with a noted notarization that aren't
+    /// certified: each once, in the order in which what came and then the notes first name them. None
+    /// past the last. Each can be noted as certified. Takes no memory.
+    pub fn uncertified(&self, index: usize) -> Option<&Proposal>
+        ensures value { option_map (λ proposal. proposal.now) result
+            ≡ slice_get (owing.uncertified self.now) index }
+        ensures ordered { IfSome result (λ proposal. IsTrue (is_ordered proposal.now)) }
+    {
+        let _ = &self.notes;
+        self.nth_uncertified(index)
     }
 }

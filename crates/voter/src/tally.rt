@@ -6,11 +6,11 @@ ghost use Rattle.cw_rules.specs.Accepted.{Many, Single, same_ballot};
 ghost use Rattle.cw_rules.specs.Notes as rule;
 ghost use Rattle.cw_types.specs.Commit.{genesis_commitment};
 ghost use Rattle.cw_types.specs.Votes as votes;
-ghost use Rattle.voter.specs.Known.{is_countable, unknowing, with_ballot, with_note, with_own};
+ghost use Rattle.note_scans.specs.Countable.{is_countable};
+ghost use Rattle.voter.specs.Known.{unknowing, with_ballot, with_note, with_own};
 ghost use Rattle.voter.specs.Standing.{are_signers};
 
 use crate::ballot::Ballot;
-use crate::notes;
 use crate::own::OwnChunk;
 use cw_base::{Digest32, Hasher, Items, NoMemory};
 use cw_types::{Cert, Commitment, Committees, Note, Vote, genesis_commitment};
@@ -66,7 +66,7 @@ impl<H: Hasher<Digest = Digest32>> Tally<H> {
     pub fn settled(&self, epoch: u64, view: u64) -> Option<Commitment>
         ensures { result ≡ rule.settled (genesis_commitment H.digest_of) self.now.notes epoch view }
     {
-        notes::settled(
+        note_scans::settled(
             genesis_commitment::<H>(),
             self.notes.as_slice(),
             epoch,
@@ -155,7 +155,7 @@ impl<H> Tally<H> {
     pub fn epoch(&self) -> u64
         ensures { result ≡ rule.epoch_of self.now.notes }
     {
-        notes::epoch_of(self.notes.as_slice())
+        note_scans::epoch_of(self.notes.as_slice())
     }
 
     /// The view of an epoch that the member is in: one above the greatest with a noted nullification,
@@ -163,13 +163,13 @@ impl<H> Tally<H> {
     pub fn view(&self, epoch: u64) -> u64
         ensures { result ≡ rule.view_of self.now.notes epoch }
     {
-        notes::view_of(self.notes.as_slice(), epoch)
+        note_scans::view_of(self.notes.as_slice(), epoch)
     }
 
     /// Whether the nullification of a view of an epoch is noted. Takes no memory.
     pub fn nullified(&self, epoch: u64, view: u64) -> bool
         ensures { result ≡ rule.nullified self.now.notes epoch view }
     {
-        notes::nullified(self.notes.as_slice(), epoch, view)
+        note_scans::nullified(self.notes.as_slice(), epoch, view)
     }
 }

@@ -1,7 +1,7 @@
 ghost use Rattle.std.specs.Prelude.{[], ◌≡◌, ◌<◌, ◌∷◌, ◌-◌, ◌^◌, IfOk};
 ghost use Rattle.cw_types.specs.Epochs.{single};
 ghost use Rattle.cw_types.specs.declared.vote.Vote.TheVariants.{Nullify};
-ghost use Rattle.voter.specs.Known.{is_countable};
+ghost use Rattle.note_scans.specs.Countable.{is_countable};
 
 use crate::*;
 use cw_base::{Config, Digest32, Items, SumHasher};

@@ -4,7 +4,8 @@ ghost use Rattle.std.specs.Prelude.{◌≡◌, ◌==◌, ◌&&◌, ◌<◌, ◌-
 ghost use Rattle.std.specs.List.{list_any};
 ghost use Rattle.std.specs.Option.{option_map_or};
 ghost use Rattle.cw_base.specs.Config.{same_shards};
-ghost use Rattle.cw_rules.specs.Held.{greatest_prune, held};
+ghost use Rattle.cw_rules.specs.Accepted.{first_some};
+ghost use Rattle.cw_rules.specs.Held.{greatest_prune, held, noted_block_of};
 ghost use Rattle.cw_rules.specs.Notes as notes_rule;
 ghost use Rattle.cw_rules.specs.Owed as rule;
 ghost use Rattle.cw_rules.specs.Rules.{config_for};
@@ -12,14 +13,16 @@ ghost use Rattle.cw_types.specs.Commit.{genesis_commitment};
 ghost use Rattle.cw_types.specs.Epochs.{is_last, is_member, leader, place, size};
 ghost use Rattle.cw_types.specs.declared.note.Note.{Note};
 ghost use Rattle.cw_types.specs.declared.vote.Vote.{Vote};
-ghost use Rattle.voter.specs.Known.{is_countable, is_own_at, noted_height, state_of, vote_rules};
+ghost use Rattle.note_scans.specs.Countable.{is_countable};
+ghost use Rattle.voter.specs.Known.{is_own_at, state_of, vote_rules};
 ghost use Rattle.voter.specs.Owing as owing;
 
 use crate::context::context_digest;
-use crate::notes;
 use crate::tally::Tally;
 use cw_base::{Config, Digest32, Hasher};
-use cw_types::{Commitment, Context, Proposal, Vote, committees, genesis_commitment, max_faults};
+use cw_types::{
+    ChainBlock, Commitment, Context, Proposal, Vote, committees, genesis_commitment, max_faults,
+};
 
 impl<H> Tally<H> {
     // Whether it is a member of the epoch.
@@ -58,21 +61,24 @@ impl<H> Tally<H> {
         }
     }
 
-    // The height of the first noted block under a commitment, unless that was pruned.
-    fn kept_height(&self, commitment: &Commitment) -> Option<u64>
-        ensures value { result ≡ option_and_then (λ h. if nat_lt 0 h && nat_lt h (greatest_prune self.now.notes) then None else Some h) (option_and_then noted_height (find (notes_rule.is_block commitment.now) self.now.notes)) }
-        ensures bound { IfSome result (λ height. height < 2 ^ 64 - 1) }
+    // The first noted block under a commitment, unless that was pruned.
+    fn kept_block(&self, commitment: &Commitment) -> Option<&ChainBlock>
+        ensures { option_map (λ b. b.now) result
+            ≡ option_and_then
+            (λ b. if nat_lt 0 b.height && nat_lt b.height (greatest_prune self.now.notes)
+            then None else Some b)
+            (first_some (noted_block_of commitment.now) self.now.notes) }
     {
-        notes::kept_height(self.notes.as_slice(), commitment)
+        note_scans::kept_block(self.notes.as_slice(), commitment)
     }
 
     // Whether the proposal is certified, in a view that the member hasn't closed.
     fn can_finalize(&self, proposal: &Proposal) -> bool
         ensures { result ≡ (notes_rule.has_certified self.now.notes proposal.now && is_member self.now.epochs proposal.now.epoch self.now.id && not (rule.has_closed self.now.notes proposal.now.epoch proposal.now.view)) }
     {
-        notes::has_certified(self.notes.as_slice(), proposal)
+        note_scans::has_certified(self.notes.as_slice(), proposal)
             && self.is_member(proposal.epoch)
-            && !notes::has_closed(self.notes.as_slice(), proposal.epoch, proposal.view)
+            && !note_scans::has_closed(self.notes.as_slice(), proposal.epoch, proposal.view)
     }
 
     // Whether blocks of that epoch are cut so.
@@ -105,7 +111,10 @@ impl<H: Hasher<Digest = Digest32>> Tally<H> {
         if commitment.is_same(&genesis_commitment::<H>()) {
             return Some(0);
         }
-        self.kept_height(commitment)
+        match self.kept_block(commitment) {
+            Some(block) => Some(block.height()),
+            None => None,
+        }
     }
 
     // Whether the payload is one for the proposal over that parent.
@@ -177,7 +186,7 @@ impl<H: Hasher<Digest = Digest32>> Tally<H> {
             && proposal.view == self.view(proposal.epoch)
             && self.is_member(proposal.epoch)
             && self.has_leaders_vote(proposal)
-            && !notes::has_voted(self.notes.as_slice(), proposal.epoch, proposal.view)
+            && !note_scans::has_voted(self.notes.as_slice(), proposal.epoch, proposal.view)
     }
 
     // Whether all is there for a vote to notarize the proposal.
@@ -186,7 +195,7 @@ impl<H: Hasher<Digest = Digest32>> Tally<H> {
     {
         self.is_turn(proposal)
             && self.is_ready_over_settled(proposal)
-            && notes::all_nullified(
+            && note_scans::all_nullified(
                 self.notes.as_slice(),
                 proposal.epoch,
                 proposal.parent,
@@ -215,12 +224,12 @@ impl<H: Hasher<Digest = Digest32>> Tally<H> {
         self.ballots
             .as_slice()
             .iter()
-            .filter_map(|ballot| ballot.proposal())
+            .filter_map(|ballot| ballot.proposal().copied())
             .chain(
                 self.notes
                     .as_slice()
                     .iter()
-                    .filter_map(|note| notes::note_proposal(note)),
+                    .filter_map(|note| note_scans::proposal_of(note).copied()),
             )
             .find(|proposal| self.owes_notarize(proposal))
     }
@@ -232,12 +241,12 @@ impl<H: Hasher<Digest = Digest32>> Tally<H> {
         self.ballots
             .as_slice()
             .iter()
-            .filter_map(|ballot| ballot.proposal())
+            .filter_map(|ballot| ballot.proposal().copied())
             .chain(
                 self.notes
                     .as_slice()
                     .iter()
-                    .filter_map(|note| notes::note_proposal(note)),
+                    .filter_map(|note| note_scans::proposal_of(note).copied()),
             )
             .find(|proposal| self.owes_finalize(proposal))
     }
