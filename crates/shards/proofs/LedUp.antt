@@ -4,7 +4,7 @@ use Rattle.std.specs.Option.{option_map_or}
 use Rattle.std.proofs.lemmas.Bool.{cases_Bool}
 use Rattle.cw_base.specs.declared.hash.Digest32.{Digest32}
 use Rattle.cw_types.specs.Same.{same_digest}
-use Rattle.shards.proofs.SameLemmas.{same_digest-true, same_digest_self}
+use Rattle.cw_types.proofs.Same.{same_digest-true, same_digest_self}
 
 -- a test that is true exactly where something is the root tests whether it is the same
 pub led_up : (b : Bool) (root : Digest32) (o : Option Digest32) → IsTrue b ↔ (o ≡ Some root) → b ≡ option_map_or (same_digest root) o false

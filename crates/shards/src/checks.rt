@@ -96,7 +96,9 @@ pub(crate) fn checked_all<H: Hasher<Digest = Digest32>, S: Strategy>(
 ) -> Result<Vec<CheckedChunk<H>>, NoMemory>
     requires few { total_of commitment.now.config ≤ 65535 }
     requires under { AreUnder H.digest_of commitment.now (map (λ chunk. chunk.now) chunks.now) }
-    ensures checked { IfOk result (λ checked. checked.items ≡ map (checked_of H.digest_of commitment.now) (map (λ chunk. chunk.now) chunks.now)) }
+    ensures checked { IfOk result
+        (λ checked. checked.items
+        ≡ map (checked_of H.digest_of commitment.now) (map (λ chunk. chunk.now) chunks.now)) }
     ensures bytes { IfOk result (λ _. AreByteChunks (map (λ chunk. chunk.now) chunks.now)) }
 {
     let mut all = Vec::new(alloc);

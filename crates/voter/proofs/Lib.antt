@@ -2,10 +2,8 @@ pub mod Agreeing
 pub mod BestParent
 pub mod Candidates
 pub mod Certified
-pub mod Committees
 pub mod Formed
 pub mod Heights
-pub mod Joined
 pub mod Kept
 pub mod Lists
 pub mod Places

@@ -27,41 +27,57 @@ ghost use Rattle.voter.specs.Standing.{StandsFor, best_from, is_formed, is_signe
 use crate::tally::Tally;
 use cw_types::{Note, Proposal, Vote};
 
-/// What a tally owes is what the rules say that each member owes that it stands for, whatever the rules
-/// stand on and whatever else the member knows. Whether a block fits is the member's to say.
+/// What a tally owes is what the rules say that each member owes that it stands for, whatever the
+/// rules stand on and whatever else the member knows. Whether a block fits is the member's to say.
 pub fn tally_stands()
-    ensures certificates { (hash : List ℕ → Digest32) (t : Known) (r : Rules) (s : State) → StandsFor hash t r s
+    ensures certificates { (hash : List ℕ → Digest32) (t : Known) (r : Rules) (s : State)
+        → StandsFor hash t r s
         → first_some (rule.cert_owed r t.id s) (rule.named_votes s) ≡ owing.cert_owed hash t }
     // of the proposals that aren't certified, the first whose block fits
-    ensures certified { (hash : List ℕ → Digest32) (t : Known) (r : Rules) (s : State) → StandsFor hash t r s
-        → first_some (rule.certified_owed r s) (rule.named_proposals s) ≡ option_map Note.Certified (find (block_fits r t.notes) (owing.uncertified t)) }
-    ensures notarized { (hash : List ℕ → Digest32) (t : Known) (r : Rules) (s : State) → StandsFor hash t r s
-        → first_some (rule.notarize_owed r t.id s) (rule.named_proposals s) ≡ owing.notarize_owed hash t }
-    ensures finalized { (hash : List ℕ → Digest32) (t : Known) (r : Rules) (s : State) → StandsFor hash t r s
-        → first_some (rule.finalize_owed r t.id s) (rule.named_proposals s) ≡ owing.finalize_owed hash t }
+    ensures certified { (hash : List ℕ → Digest32) (t : Known) (r : Rules) (s : State)
+        → StandsFor hash t r s
+        → first_some (rule.certified_owed r s) (rule.named_proposals s)
+        ≡ option_map Note.Certified (find (block_fits r t.notes) (owing.uncertified t)) }
+    ensures notarized { (hash : List ℕ → Digest32) (t : Known) (r : Rules) (s : State)
+        → StandsFor hash t r s
+        → first_some (rule.notarize_owed r t.id s) (rule.named_proposals s)
+        ≡ owing.notarize_owed hash t }
+    ensures finalized { (hash : List ℕ → Digest32) (t : Known) (r : Rules) (s : State)
+        → StandsFor hash t r s
+        → first_some (rule.finalize_owed r t.id s) (rule.named_proposals s)
+        ≡ owing.finalize_owed hash t }
 {}
 
-/// The parents that a tally gives lead to the one over which the rules propose: asked from the member's
-/// view on, and again below each parent whose block isn't held.
+/// The parents that a tally gives lead to the one over which the rules propose: asked from the
+/// member's view on, and again below each parent whose block isn't held.
 pub fn parent_stands()
     // the search begins at the member's view
-    ensures start { (hash : List ℕ → Digest32) (t : Known) (r : Rules) (s : State) → StandsFor hash t r s
-        → (epoch : ℕ) → best_parent r s.notes epoch (view_of s.notes epoch) ≡ best_from r t.notes epoch (view_of t.notes epoch) }
+    ensures start { (hash : List ℕ → Digest32) (t : Known) (r : Rules) (s : State)
+        → StandsFor hash t r s
+        → (epoch : ℕ) → best_parent r s.notes epoch (view_of s.notes epoch)
+        ≡ best_from r t.notes epoch (view_of t.notes epoch) }
     // where no parent is given there is none
-    ensures none { (hash : List ℕ → Digest32) (t : Known) (r : Rules) (s : State) → StandsFor hash t r s
+    ensures none { (hash : List ℕ → Digest32) (t : Known) (r : Rules) (s : State)
+        → StandsFor hash t r s
         → (epoch below : ℕ) → owing.parent_over (genesis_commitment hash) t.notes epoch below ≡ None
         → best_from r t.notes epoch below ≡ None }
     // one whose block is held is it
-    ensures held { (hash : List ℕ → Digest32) (t : Known) (r : Rules) (s : State) → StandsFor hash t r s
-        → (epoch below view : ℕ) (c : Commitment) (b : Block) → owing.parent_over (genesis_commitment hash) t.notes epoch below ≡ Some (view, c)
+    ensures held { (hash : List ℕ → Digest32) (t : Known) (r : Rules) (s : State)
+        → StandsFor hash t r s
+        → (epoch below view : ℕ) (c : Commitment) (b : Block)
+        → owing.parent_over (genesis_commitment hash) t.notes epoch below ≡ Some (view, c)
         → held r t.notes c ≡ Some b → best_from r t.notes epoch below ≡ Some (view, c, b) }
     // over one whose block isn't held the search goes on below it
-    ensures next { (hash : List ℕ → Digest32) (t : Known) (r : Rules) (s : State) → StandsFor hash t r s
-        → (epoch below view : ℕ) (c : Commitment) → owing.parent_over (genesis_commitment hash) t.notes epoch below ≡ Some (view, c)
-        → held r t.notes c ≡ None → best_from r t.notes epoch below ≡ best_from r t.notes epoch view }
+    ensures next { (hash : List ℕ → Digest32) (t : Known) (r : Rules) (s : State)
+        → StandsFor hash t r s
+        → (epoch below view : ℕ) (c : Commitment)
+        → owing.parent_over (genesis_commitment hash) t.notes epoch below ≡ Some (view, c)
+        → held r t.notes c ≡ None
+        → best_from r t.notes epoch below ≡ best_from r t.notes epoch view }
     // which is lower
     ensures falls { (hash : List ℕ → Digest32) (t : Known)
-        → (epoch below view : ℕ) (c : Commitment) → owing.parent_over (genesis_commitment hash) t.notes epoch below ≡ Some (view, c)
+        → (epoch below view : ℕ) (c : Commitment)
+        → owing.parent_over (genesis_commitment hash) t.notes epoch below ≡ Some (view, c)
         → view < below }
 {}
 
@@ -70,22 +86,33 @@ pub fn standing_is_kept()
     // a tally that knows nothing stands for a member that starts with no notes
     ensures start { (hash : List ℕ → Digest32) (r : Rules) (id : ℕ) (given : List ℕ)
         → r.hash ≡ hash → r.block_bytes ≡ block_bytes → r.context_bytes ≡ context_bytes
-        → StandsFor hash (unknowing r.epochs id) r (record { notes = []; came = nothing_came; given = given }) }
-    ensures note { (hash : List ℕ → Digest32) (t : Known) (r : Rules) (s : State) → StandsFor hash t r s
+        → StandsFor hash (unknowing r.epochs id) r
+        (record { notes = []; came = nothing_came; given = given }) }
+    ensures note { (hash : List ℕ → Digest32) (t : Known) (r : Rules) (s : State)
+        → StandsFor hash t r s
         → (note : Note) → StandsFor hash (with_note t note) r (with_notes s (note ∷ [])) }
-    ensures ballot { (hash : List ℕ → Digest32) (t : Known) (r : Rules) (s : State) → StandsFor hash t r s
-        → (x : Ballot) → StandsFor hash (with_ballot t x) r (with_came s (take_ballot s.came true x)) }
-    ensures own_chunk { (hash : List ℕ → Digest32) (t : Known) (r : Rules) (s : State) → StandsFor hash t r s
-        → (c : Commitment) (x : Chunk) → StandsFor hash (with_own t c x.index) r (with_came s (take_part s.came true (Row c x))) }
+    ensures ballot { (hash : List ℕ → Digest32) (t : Known) (r : Rules) (s : State)
+        → StandsFor hash t r s
+        → (x : Ballot) → StandsFor hash (with_ballot t x) r
+        (with_came s (take_ballot s.came true x)) }
+    ensures own_chunk { (hash : List ℕ → Digest32) (t : Known) (r : Rules) (s : State)
+        → StandsFor hash t r s
+        → (c : Commitment) (x : Chunk)
+        → StandsFor hash (with_own t c x.index) r (with_came s (take_part s.came true (Row c x))) }
     // a chunk that stands at the member's place of no epoch
-    ensures other_chunk { (hash : List ℕ → Digest32) (t : Known) (r : Rules) (s : State) → StandsFor hash t r s
-        → (c : Commitment) (x : Chunk) → ((epoch : ℕ) → place t.epochs epoch t.id ≡ Some x.index → ⊥)
+    ensures other_chunk { (hash : List ℕ → Digest32) (t : Known) (r : Rules) (s : State)
+        → StandsFor hash t r s
+        → (c : Commitment) (x : Chunk)
+        → ((epoch : ℕ) → place t.epochs epoch t.id ≡ Some x.index → ⊥)
         → StandsFor hash t r (with_came s (take_part s.came true (Row c x))) }
-    ensures whole_block { (hash : List ℕ → Digest32) (t : Known) (r : Rules) (s : State) → StandsFor hash t r s
+    ensures whole_block { (hash : List ℕ → Digest32) (t : Known) (r : Rules) (s : State)
+        → StandsFor hash t r s
         → (b : Block) → StandsFor hash t r (with_came s (take_part s.came true (Whole b))) }
-    ensures wish { (hash : List ℕ → Digest32) (t : Known) (r : Rules) (s : State) → StandsFor hash t r s
+    ensures wish { (hash : List ℕ → Digest32) (t : Known) (r : Rules) (s : State)
+        → StandsFor hash t r s
         → (c : Commitment) → StandsFor hash t r (with_came s (add_wish s.came c)) }
-    ensures handed { (hash : List ℕ → Digest32) (t : Known) (r : Rules) (s : State) → StandsFor hash t r s
+    ensures handed { (hash : List ℕ → Digest32) (t : Known) (r : Rules) (s : State)
+        → StandsFor hash t r s
         → (out : List Handed) → StandsFor hash t r (with_handed s out) }
 {}
 
@@ -101,12 +128,15 @@ pub fn tally_is_countable<H>(tally: &Tally<H>)
 
 /// What is owed by notes and ballots that may be counted may be counted.
 pub fn owed_is_countable()
-    ensures certificates { (hash : List ℕ → Digest32) (t : Known) (owed : Note) → IsTrue (list_all is_countable t.notes) → IsTrue (list_all is_formed t.ballots)
+    ensures certificates { (hash : List ℕ → Digest32) (t : Known) (owed : Note)
+        → IsTrue (list_all is_countable t.notes) → IsTrue (list_all is_formed t.ballots)
         → owing.cert_owed hash t ≡ Some owed → IsTrue (is_countable owed) }
-    ensures votes { (hash : List ℕ → Digest32) (t : Known) (owed : Note) → IsTrue (list_all is_countable t.notes) → IsTrue (list_all is_formed t.ballots)
+    ensures votes { (hash : List ℕ → Digest32) (t : Known) (owed : Note)
+        → IsTrue (list_all is_countable t.notes) → IsTrue (list_all is_formed t.ballots)
         → owing.vote_owed hash t ≡ Some owed → IsTrue (is_countable owed) }
     // the note that the first proposal is certified whose block fits
     ensures certified { (hash : List ℕ → Digest32) (t : Known) (r : Rules) (p : Proposal)
         → IsTrue (list_all is_countable t.notes) → IsTrue (list_all is_formed t.ballots)
-        → find (block_fits r t.notes) (owing.uncertified t) ≡ Some p → IsTrue (is_countable (Note.Certified p)) }
+        → find (block_fits r t.notes) (owing.uncertified t) ≡ Some p
+        → IsTrue (is_countable (Note.Certified p)) }
 {}

@@ -1,12 +1,11 @@
 //! What a member knows of votes and certificates, and what it owes by it: the tally.
 //!
-//! Each call is a function of what the tally was told. `tally_stands` and `parent_stands` say how its
-//! answers are those of the cluster rules. The bodies scan plain lists.
+//! Each call is a function of what the tally was told. `tally_stands` and `parent_stands` say how
+//! its answers are those of the cluster rules. The bodies scan plain lists.
 #![tactic(auto)]
 
 mod ballot;
 mod certs;
-mod context;
 mod laws;
 mod own;
 mod parents;
@@ -20,6 +19,3 @@ pub use laws::{
 };
 pub use own::OwnChunk;
 pub use tally::Tally;
-
-#[cfg(test)]
-mod tests;

@@ -24,7 +24,8 @@ impl<H> Tally<H> {
 
     // Whether one of the first `at` proposals that are named is the same.
     fn is_named_before(&self, at: usize, proposal: &Proposal) -> bool
-        ensures { result ≡ list_any (same_proposal proposal.now) (take at (rule.named_proposals (state_of self.now))) }
+        ensures { result ≡ list_any (same_proposal proposal.now)
+            (take at (rule.named_proposals (state_of self.now))) }
     {
         self.ballots
             .as_slice()
@@ -40,8 +41,8 @@ impl<H> Tally<H> {
             .any(|other| proposal.is_same(&other))
     }
 
-    // Whether the proposal at that place of those that are named is notarized, not certified, and not
-    // named before.
+    // Whether the proposal at that place of those that are named is notarized, not certified, and
+    // not named before.
     #[tactic(auto, unfolding(crate::specs::Owing::is_candidate))]
     fn is_candidate(&self, at: usize, proposal: &Proposal) -> bool
         ensures { result ≡ owing.is_candidate self.now (at, proposal.now) }
@@ -51,7 +52,9 @@ impl<H> Tally<H> {
 
     // The candidate at this place, with its place among those that are named.
     fn ranked_candidate(&self, index: usize) -> Option<(usize, (usize, Proposal))>
-        ensures { result ≡ find (λ e. e.0 == index) (enumerate_from 0 (filter (owing.is_candidate self.now) (enumerate_from 0 (rule.named_proposals (state_of self.now))))) }
+        ensures { result ≡ find (λ e. e.0 == index)
+            (enumerate_from 0 (filter (owing.is_candidate self.now)
+            (enumerate_from 0 (rule.named_proposals (state_of self.now))))) }
     {
         self.ballots
             .as_slice()
@@ -71,7 +74,8 @@ impl<H> Tally<H> {
 
     // How many votes and certificates that came name a proposal.
     fn count_naming(&self) -> usize
-        ensures { result ≡ length (filter_map (λ x. proposal_of (rule.ballot_vote x)) self.now.ballots) }
+        ensures { result ≡ length
+            (filter_map (λ x. proposal_of (rule.ballot_vote x)) self.now.ballots) }
     {
         self.ballots
             .as_slice()
@@ -82,7 +86,9 @@ impl<H> Tally<H> {
 
     // That at this place of those.
     fn ballot_naming(&self, at: usize) -> Option<&Ballot>
-        ensures { option_map (λ ballot. ballot.now) result ≡ slice_get (filter (λ x. is_some (proposal_of (rule.ballot_vote x))) self.now.ballots) at }
+        ensures { option_map (λ ballot. ballot.now) result
+            ≡ slice_get (filter (λ x. is_some (proposal_of (rule.ballot_vote x))) self.now.ballots)
+            at }
     {
         self.ballots
             .as_slice()
@@ -93,7 +99,8 @@ impl<H> Tally<H> {
 
     // The note at this place of those that name a proposal.
     fn note_naming(&self, at: usize) -> Option<&Note>
-        ensures { option_map (λ note. note.now) result ≡ slice_get (filter (λ note. is_some (rule.note_proposal note)) self.now.notes) at }
+        ensures { option_map (λ note. note.now) result
+            ≡ slice_get (filter (λ note. is_some (rule.note_proposal note)) self.now.notes) at }
     {
         self.notes
             .as_slice()
@@ -104,7 +111,10 @@ impl<H> Tally<H> {
 
     // The proposal that it names.
     fn ballot_proposal(&self, at: usize) -> Option<&Proposal>
-        ensures { option_map (λ proposal. proposal.now) result ≡ option_and_then (λ x. proposal_of (rule.ballot_vote x)) (slice_get (filter (λ x. is_some (proposal_of (rule.ballot_vote x))) self.now.ballots) at) }
+        ensures { option_map (λ proposal. proposal.now) result
+            ≡ option_and_then (λ x. proposal_of (rule.ballot_vote x))
+            (slice_get (filter (λ x. is_some (proposal_of (rule.ballot_vote x))) self.now.ballots)
+            at) }
     {
         match self.ballot_naming(at) {
             Some(ballot) => ballot.proposal(),
@@ -114,7 +124,9 @@ impl<H> Tally<H> {
 
     // The proposal that it names.
     fn note_proposal(&self, at: usize) -> Option<&Proposal>
-        ensures { option_map (λ proposal. proposal.now) result ≡ option_and_then rule.note_proposal (slice_get (filter (λ note. is_some (rule.note_proposal note)) self.now.notes) at) }
+        ensures { option_map (λ proposal. proposal.now) result
+            ≡ option_and_then rule.note_proposal
+            (slice_get (filter (λ note. is_some (rule.note_proposal note)) self.now.notes) at) }
     {
         match self.note_naming(at) {
             Some(note) => note_scans::proposal_of(note),
@@ -124,7 +136,8 @@ impl<H> Tally<H> {
 
     // The proposal at this place of those that are named.
     fn named_at(&self, at: usize) -> Option<&Proposal>
-        ensures { option_map (λ proposal. proposal.now) result ≡ slice_get (rule.named_proposals (state_of self.now)) at }
+        ensures { option_map (λ proposal. proposal.now) result
+            ≡ slice_get (rule.named_proposals (state_of self.now)) at }
     {
         match self.ballot_proposal(at) {
             Some(proposal) => Some(proposal),
@@ -143,9 +156,9 @@ impl<H> Tally<H> {
         }
     }
 
-    /// The proposal at this place, counted from 0, among those with a noted notarization that aren't
-    /// certified: each once, in the order in which what came and then the notes first name them. None
-    /// past the last. Each can be noted as certified. Takes no memory.
+    /// The proposal at this place, counted from 0, among those with a noted notarization that
+    /// aren't certified: each once, in the order in which what came and then the notes first name
+    /// them. None past the last. Each can be noted as certified. Takes no memory.
     pub fn uncertified(&self, index: usize) -> Option<&Proposal>
         ensures value { option_map (λ proposal. proposal.now) result
             ≡ slice_get (owing.uncertified self.now) index }
