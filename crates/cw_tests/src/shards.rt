@@ -1,11 +1,11 @@
 ghost use Rattle.std.specs.Prelude.{◌≡◌, ◌<◌, IfOk, length};
 
-use crate::*;
 use bytes::Bytes;
 use cw_base::{Config, Digest32, Hasher, Items, Sequential, Sha256, SumHasher};
 use cw_coding::Chunk;
 use cw_tree::bmt::{Builder, Tree};
 use cw_types::{ChainBlock, Commitment, Committees, Context, Payload, genesis_commitment};
+use shards::{Shards, Verdict, cut_block};
 use std::alloc::Global;
 use std::num::NonZeroU16;
 use std::test::Fail;

@@ -1,9 +1,8 @@
 ghost use Rattle.std.specs.Prelude.{[], ◌≡◌, ◌<◌, ◌∷◌, ◌-◌, ◌^◌, IfOk};
 ghost use Rattle.cw_types.specs.Epochs.{single};
 ghost use Rattle.cw_types.specs.declared.vote.Vote.TheVariants.{Nullify};
-ghost use Rattle.voter.specs.Known.{is_countable};
+ghost use Rattle.note_scans.specs.Countable.{is_countable};
 
-use crate::*;
 use cw_base::{Config, Digest32, Items, SumHasher};
 use cw_types::{
     Cert, ChainBlock, Commitment, Committees, Context, Note, Payload, Proposal, Vote,
@@ -12,6 +11,7 @@ use cw_types::{
 use std::alloc::Global;
 use std::num::NonZeroU16;
 use std::test::Fail;
+use voter::Tally;
 
 const NULLIFY: Vote = Vote::Nullify { epoch: 0, view: 1 };
 
@@ -90,18 +90,17 @@ fn has_signers(alloc: Global, tally: &Tally<SumHasher>, want: &[u16]) -> Result<
 }
 
 #[test]
-fn two_signers_and_no_third_owe_no_certificate(rt: HostRuntime) -> Result<(), Fail> {
-    let cases: [(&[u16], bool); 3] = [(&[0, 1], false), (&[0, 1, 9], false), (&[0, 0], true)];
-    for (signers, own) in cases {
-        assert!(rt; owes(rt.alloc(), signers, own, &[])?);
+fn three_members_owe_a_certificate_and_two_owe_none(rt: HostRuntime) -> Result<(), Fail> {
+    let cases: [(&[u16], bool, &[u16]); 5] = [
+        (&[0, 1], false, &[]),
+        (&[0, 1, 9], false, &[]),
+        (&[0, 0], true, &[]),
+        (&[3, 1, 0], false, &[0, 1, 3]),
+        (&[0, 1], true, &[0, 1, 2]),
+    ];
+    for (signers, own, want) in cases {
+        assert!(rt; owes(rt.alloc(), signers, own, want)?);
     }
-    Ok(())
-}
-
-#[test]
-fn a_quorum_of_signers_owes_a_certificate(rt: HostRuntime) -> Result<(), Fail> {
-    assert!(rt; owes(rt.alloc(), &[3, 1, 0], false, &[0, 1, 3])?);
-    assert!(rt; owes(rt.alloc(), &[0, 1], true, &[0, 1, 2])?);
     Ok(())
 }
 
@@ -137,8 +136,9 @@ fn first() -> Proposal {
     proposal(1, genesis_commitment::<SumHasher>())
 }
 
-// a proposal of view 2 over the first block, of a payload that is cut in two and two. The bytes of its
-// context are zeros but for a view and a leader of 2, a commitment of 96 bytes of 2, and two of 1
+// a proposal of view 2 over the first block, of a payload that is cut in two and two. The bytes of
+// its context are zeros but for a view and a leader of 2, a commitment of 96 bytes of 2, and two
+// of 1
 fn second() -> Proposal {
     let two = NonZeroU16::MIN.saturating_add(1);
     let payload = Commitment {
@@ -153,8 +153,8 @@ fn second() -> Proposal {
     proposal(2, payload)
 }
 
-// the vote that member 0 owes when a certificate of this vote was noted, the leader of view 2 proposed,
-// and the chunk at place 0 came
+// the vote that member 0 owes when a certificate of this vote was noted, the leader of view 2
+// proposed, and the chunk at place 0 came
 fn vote_after(alloc: Global, vote: Vote) -> Result<Option<Vote>, Fail> {
     let mut tally = tally(alloc, 0)?;
     take_note(&mut tally, cert_note(alloc, vote)?)?;
@@ -270,8 +270,8 @@ fn again() -> Proposal {
     }
 }
 
-// the vote that member 0 owes when a block of that height was certified in view 1, and the leader of
-// view 2 proposed it again
+// the vote that member 0 owes when a block of that height was certified in view 1, and the leader
+// of view 2 proposed it again
 fn vote_again(alloc: Global, height: u64) -> Result<Option<Vote>, Fail>
     requires { height < 2 ^ 64 - 1 }
 {

@@ -1,0 +1,7 @@
+//! Tests of the public calls of the crates below, one module a crate.
+#![tactic(auto)]
+
+#[cfg(test)]
+mod shards;
+#[cfg(test)]
+mod voter;
