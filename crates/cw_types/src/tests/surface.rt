@@ -12,6 +12,7 @@ struct Counter {
 
 impl Automaton for Counter {
     type Context = u64;
+
     type Digest = u64;
 
     ghost use Rattle.std.specs.Prelude.{◌≡◌, Some, nat_lt};
@@ -38,6 +39,7 @@ struct Stager;
 
 impl Automaton for Stager {
     type Context = u64;
+
     type Digest = u64;
 
     ghost use Rattle.std.specs.Prelude.{◌≡◌, None, false};
@@ -76,9 +78,7 @@ fn is_made_ready<A: CertifiableAutomaton<Context = u64, Digest = u64>>(automaton
 }
 
 #[test]
-fn an_automaton_waits_and_certifies_unless_it_says_otherwise(
-    rt: HostRuntime,
-) -> Result<(), Fail> {
+fn an_automaton_waits_and_certifies_unless_it_says_otherwise(rt: HostRuntime) -> Result<(), Fail> {
     let mut counter = Counter { last: 0 };
     assert_eq!(rt; counter.propose(rt.alloc(), 7)?, Some(7));
     assert_eq!(rt; counter.last, 7);
@@ -112,7 +112,9 @@ impl Inbox {
 
 impl Relay for Inbox {
     type Digest = u64;
+
     type PublicKey = u16;
+
     type Plan = To;
 
     fn broadcast(&mut self, _payload: u64, _plan: To) -> Feedback {
@@ -138,8 +140,13 @@ impl Monitor for Inbox {
     }
 }
 
-fn told<R: Relay<Digest = u64, Plan = To> + Reporter<Activity = Vote>>(all: &mut R) -> [Feedback; 2] {
-    [all.broadcast(1, To::All), all.report(Vote::Nullify { epoch: 0, view: 1 })]
+fn told<R: Relay<Digest = u64, Plan = To> + Reporter<Activity = Vote>>(
+    all: &mut R,
+) -> [Feedback; 2] {
+    [
+        all.broadcast(1, To::All),
+        all.report(Vote::Nullify { epoch: 0, view: 1 }),
+    ]
 }
 
 #[test]
