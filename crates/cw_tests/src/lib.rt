@@ -1,0 +1,9 @@
+//! Tests of the public calls of the crates below, one module a crate.
+#![tactic(auto)]
+
+#[cfg(test)]
+mod code;
+#[cfg(test)]
+mod coding;
+#[cfg(test)]
+mod gate;
