@@ -2,6 +2,12 @@
 #![tactic(auto)]
 
 #[cfg(test)]
+mod code;
+#[cfg(test)]
+mod coding;
+#[cfg(test)]
+mod gate;
+#[cfg(test)]
 mod shards;
 #[cfg(test)]
 mod voter;

@@ -4,7 +4,7 @@ ghost use Rattle.std.specs.Prelude.{◌≡◌, ◌<◌, ◌≤◌, length, IfOk}
 
 use super::*;
 use bytes::Bytes;
-use cw_base::{Digest32, Reader};
+use cw_base::{Digest32, Reader, Strategy};
 use cw_tree::bmt::{Builder, Tree};
 
 // The tree over the digests of shards.
@@ -95,11 +95,12 @@ fn many_widths(alloc: Global) -> Result<Vec<Vec<u8>>, Fail> {
 }
 
 // Whether many chunks check at once as each of them did alone.
-fn check_at_once<R: Threads + Sync>(
+fn check_at_once<R: Threads + Sync, S: Strategy>(
     rt: &R,
     alloc: Global,
     coded: &Coded<Sha256>,
     indices: &[u16],
+    strategy: &S,
 ) -> Result<bool, ReedSolomonError> {
     if indices.len() != coded.chunks.len() {
         return Ok(false);
@@ -111,7 +112,7 @@ fn check_at_once<R: Threads + Sync>(
         &coded.root,
         indices,
         &coded.chunks,
-        &Sequential,
+        strategy,
     )?;
     let mut pairs = answers.iter().zip(coded.checked.iter());
     Ok(answers.len() == 64 && pairs.all(|(answer, alone)| answer.as_ref().ok() == Some(alone)))
@@ -123,7 +124,10 @@ fn shards_of_many_widths_check_and_do_not_decode(rt: HostRuntime) -> Result<(), 
     let many = put_under_a_tree(rt.alloc(), config(32, 32), &shards, 262_140)?;
     let mut indices = downwards(rt.alloc(), 64)?;
     indices.reverse();
-    assert!(rt; check_at_once(&rt, rt.alloc(), &many, &indices)?);
+    assert!(rt; check_at_once(&rt, rt.alloc(), &many, &indices, &Sequential)?);
+    let gate = Gate::new();
+    assert!(rt; check_at_once(&rt, rt.alloc(), &many, &indices, &gate)?);
+    assert_eq!(rt; gate.passed(), 1);
     let answer = decoded(&rt, rt.alloc(), &many, &indices);
     assert_eq!(rt; answer.err(), Some(ReedSolomonError::Inconsistent));
     Ok(())

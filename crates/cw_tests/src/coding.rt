@@ -1,11 +1,17 @@
+//! Tests of cw_coding.
+
 mod clashes;
 mod planted;
 mod refusals;
 mod roots;
 mod written;
 
-use super::*;
+use crate::gate::Gate;
 use cw_base::{Hasher, Sequential, Sha256};
+use cw_coding::{
+    CheckedChunk, Chunk, Config, ReedSolomon, ReedSolomonError, RsError, Scheme, find_clash,
+    max_shard_size_fits,
+};
 use std::alloc::Global;
 use std::num::NonZeroU16;
 use std::test::Fail;
@@ -146,12 +152,17 @@ fn an_empty_input_is_decoded(rt: HostRuntime) -> Result<(), Fail> {
     Ok(())
 }
 
+// Originals among recoveries, and recoveries alone, in two orders.
+const PICKED: [[u16; 3]; 4] = [[0, 4, 6], [3, 4, 5], [7, 6, 3], [2, 1, 0]];
+
 #[test]
 fn any_chunks_recover_the_input(rt: HostRuntime) -> Result<(), Fail> {
     let text = b"Testing recovery pieces";
     assert_eq!(rt; shape(&rt, rt.alloc(), config(3, 5), text)?, (8, 10));
-    let back = back_from(&rt, rt.alloc(), config(3, 5), text, &[0, 4, 6])?;
-    assert!(rt; back.as_slice() == text.as_slice());
+    for indices in &PICKED {
+        let back = back_from(&rt, rt.alloc(), config(3, 5), text, indices)?;
+        assert!(rt; back.as_slice() == text.as_slice());
+    }
     Ok(())
 }
 
