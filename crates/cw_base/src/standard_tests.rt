@@ -31,7 +31,7 @@ fn a_reader_fails_once_in_mid_stream(rt: HostRuntime) -> Result<(), Fail> {
     assert_eq!(rt; source.take(&mut room), Ok(3));
     assert_eq!(rt; source.take(&mut room), Err(Failed));
     assert_eq!(rt; source.take(&mut room), Ok(1));
-    assert_eq!(rt; room[..3], [4, 2, 3]);
+    assert!(rt; &room[..3] == [4, 2, 3].as_slice());
     assert_eq!(rt; source.take(&mut room), Ok(0));
     Ok(())
 }

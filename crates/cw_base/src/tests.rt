@@ -185,7 +185,7 @@ fn items_are_taken_from_the_end(rt: HostRuntime) -> Result<(), Fail> {
     let mut items = Items::from_vec([1u8, 2, 3].to_vec(rt.alloc())?);
     assert_eq!(rt; items.pop(), Some(3));
     items.truncate(1);
-    assert_eq!(rt; items.as_slice(), [1].as_slice());
+    assert!(rt; items.as_slice() == [1].as_slice());
     items.truncate(4);
     assert_eq!(rt; items.pop(), Some(1));
     assert_eq!(rt; items.pop(), None);
