@@ -3,6 +3,7 @@ use Rattle.std.proofs.Common.{◌≡◌, ◌⊎◌, inl, inr, ℕ, zero, suc, �
 use Rattle.std.specs.List.{filter_map, last_or}
 use Rattle.std.specs.Option.{option_map_or}
 use Rattle.std.proofs.lemmas.Bool.{and_from, cases_Bool, cond-false, cond-true, eqb-true, le-leb}
+use Rattle.std.proofs.lemmas.List.Elements.{filter-append}
 use Rattle.std.proofs.lemmas.Option.{same_Some}
 use Rattle.cw_types.specs.Block.{Block}
 use Rattle.cw_types.specs.Epochs.{rises_from}
@@ -18,8 +19,8 @@ use Rattle.cw_rules.proofs.Lists.{and_then_some, map_some, rises_lower}
 use Rattle.marshal.specs.Bare.{reached_by}
 use Rattle.marshal.specs.Promises.{IsReached}
 use Rattle.marshal.proofs.Growing.{first_in}
-use Rattle.marshal.proofs.Handing.{counted, next_given}
-use Rattle.marshal.proofs.Reached.{at_is_at}
+use Rattle.cw_rules.proofs.Deliveries.{next_given}
+use Rattle.cw_rules.proofs.Heights.{at_is_at}
 
 no_some : {Y : Type 0} (y : Y) → ◌≡◌ {A = Option Y} None (Some y) → ⊥
 no_some y e = cc
@@ -128,15 +129,20 @@ module _ (r : Rules) where
 
   -- ---- no more are pending than may be
 
+  -- the test of a height that is pending
+  abbrev is_pending : State → ℕ → Bool
+  is_pending s h = option_map_or (λ a. nat_lt a h) (last_ack s.notes) true && nat_le (greatest_floor s.notes) h
+
   one_at_most : (s : State) (h : ℕ) → length (pending (with_given s h)) ≤ length (pending s) + 1
   one_at_most s h = go (cases_Bool (is_pending s h))
     where
-      is_pending : State → ℕ → Bool
-      is_pending s h = option_map_or (λ a. nat_lt a h) (last_ack s.notes) true && nat_le (greatest_floor s.notes) h
+      counted : (b : Bool) → is_pending s h ≡ b → length (pending (with_given s h)) ≡ length (pending s) + length (cond b (h ∷ []) [])
+      counted b e =
+          ap length (filter-append (is_pending s) s.given (h ∷ [])) ∙ (length-append (filter (is_pending s) s.given) (filter (is_pending s) (h ∷ [])) ∙ ap (λ t. length (pending s) + length (cond t (h ∷ []) [])) e)
 
       go : (is_pending s h ≡ true) ⊎ (is_pending s h ≡ false) → length (pending (with_given s h)) ≤ length (pending s) + 1
-      go (inl t) = omega (arith, counted r s h true t)
-      go (inr f) = omega (arith, counted r s h false f)
+      go (inl t) = omega (arith, counted true t)
+      go (inr f) = omega (arith, counted false f)
 
   within_backlog : (steps : ℕ) (s : State) → length (pending s) ≤ r.backlog → length (pending (with_handed s (deliveries_within r steps s))) ≤ r.backlog
   within_backlog zero s few = subst (λ (g : List ℕ). length (pending (record s { given = g })) ≤ r.backlog) (sym (append-nil s.given)) few
