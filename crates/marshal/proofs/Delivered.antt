@@ -1,10 +1,9 @@
 -- What is handed out: each block is held and reached, the heights rise, and no more are pending than may be.
-use Rattle.std.proofs.Common.{◌≡◌, ◌⊎◌, inl, inr, ℕ, zero, suc, ◌+◌, ◌-◌, ◌<◌, ◌≤◌, ◌==◌, ◌&&◌, Bool, true, false, cond, max, nat_lt, nat_le, List, [], ◌∷◌, ◌++◌, length, map, filter, Option, Some, None, option_and_then, option_map, refl, sym, ◌∙◌, ap, subst, arith, append_assoc, append-nil, ltb-true, length-append}
+use Rattle.std.proofs.Common.{◌≡◌, ◌⊎◌, inl, inr, ℕ, zero, suc, ◌+◌, ◌<◌, ◌≤◌, ◌==◌, ◌&&◌, Bool, true, false, cond, max, nat_lt, nat_le, List, [], ◌∷◌, length, map, filter, Option, Some, None, option_and_then, option_map, refl, sym, ◌∙◌, ap, subst, arith, append_assoc, append-nil, ltb-true, length-append}
 use Rattle.std.specs.List.{filter_map, last_or}
 use Rattle.std.specs.Option.{option_map_or}
 use Rattle.std.proofs.lemmas.Bool.{and_from, cases_Bool, cond-false, cond-true, eqb-true, le-leb}
 use Rattle.std.proofs.lemmas.List.Elements.{filter-append}
-use Rattle.std.proofs.lemmas.Option.{same_Some}
 use Rattle.cw_types.specs.Block.{Block}
 use Rattle.cw_types.specs.Epochs.{rises_from}
 use Rattle.cw_types.specs.declared.commitment.Commitment.{Commitment}

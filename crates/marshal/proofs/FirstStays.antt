@@ -1,10 +1,9 @@
 -- The first finalization of a height stays, and where none is noted nothing is the latest.
-use Rattle.std.proofs.Common.{◌≡◌, ◌⊎◌, inl, inr, ℕ, ◌≤◌, ◌==◌, Bool, true, false, if◌then◌else◌, List, [], ◌∷◌, ◌++◌, Option, Some, None, option_and_then, refl, sym, ◌∙◌, ap, subst}
+use Rattle.std.proofs.Common.{◌≡◌, ◌⊎◌, inl, inr, ℕ, ◌==◌, true, false, if◌then◌else◌, List, [], ◌∷◌, ◌++◌, Option, Some, None, option_and_then, refl, sym, ◌∙◌, ap, subst}
 use Rattle.std.specs.List.{cons_option, filter_map}
 use Rattle.std.proofs.lemmas.Bool.{cases_Bool, cond-false, cond-true, eqb-true}
 use Rattle.std.proofs.lemmas.Option.{same_Some}
 use Rattle.cw_types.specs.Block.{Block}
-use Rattle.cw_types.specs.Votes.{finalized}
 use Rattle.cw_types.specs.declared.commitment.Commitment.{Commitment}
 use Rattle.cw_types.specs.declared.note.Note.{Note}
 use Rattle.cw_types.specs.declared.vote.Cert.{Cert}

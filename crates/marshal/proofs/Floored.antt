@@ -1,15 +1,15 @@
 -- A floor hands out its own block next, and nothing below it.
-use Rattle.std.proofs.Common.{◌≡◌, ◌⊎◌, inl, inr, ℕ, ◌+◌, ◌<◌, ◌≤◌, ◌==◌, ◌&&◌, Bool, true, false, max, nat_lt, nat_le, List, [], ◌∷◌, ◌++◌, map, Option, Some, None, option_and_then, refl, sym, ◌∙◌, ap, subst, arith, ltb-true, leb-true, eq-eqb, append-nil}
+use Rattle.std.proofs.Common.{◌≡◌, ◌⊎◌, inl, inr, ℕ, ◌+◌, ◌<◌, ◌≤◌, ◌==◌, ◌&&◌, true, false, max, nat_lt, nat_le, List, [], ◌∷◌, ◌++◌, map, Option, Some, None, option_and_then, refl, sym, ◌∙◌, ap, subst, arith, ltb-true, leb-true, eq-eqb, append-nil}
 use Rattle.std.specs.List.{filter_map, last_or, list_all}
 use Rattle.std.specs.Option.{option_map_or, option_or}
-use Rattle.std.proofs.lemmas.Bool.{and_parts, cases_Bool, cond-false, cond-true, eqb-true}
+use Rattle.std.proofs.lemmas.Bool.{and_parts, cases_Bool, cond-false, eqb-true}
 use Rattle.cw_types.specs.Block.{Block}
 use Rattle.cw_types.specs.Epochs.{rises_from}
 use Rattle.cw_types.specs.declared.commitment.Commitment.{Commitment}
 use Rattle.cw_types.specs.declared.note.Note.{Note}
 use Rattle.cw_types.specs.declared.vote.Proposal.{Proposal}
 use Rattle.cw_rules.specs.Accepted.{State, first_some}
-use Rattle.cw_rules.specs.Held.{acked_height, at_height, finalization_of, floor_height, greatest_floor, held, last_ack, next, reached, resume}
+use Rattle.cw_rules.specs.Held.{acked_height, at_height, finalization_of, floor_height, greatest_floor, held, last_ack, next, reached}
 use Rattle.cw_rules.specs.Notes.{greatest}
 use Rattle.cw_rules.specs.Owed.{floor_owed, when}
 use Rattle.cw_rules.specs.Reached.{In}

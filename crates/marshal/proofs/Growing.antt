@@ -1,6 +1,6 @@
 -- What was held and reached stays so while notes are added, until it is pruned.
-use Rattle.std.proofs.Common.{◌≡◌, ◌⊎◌, inl, inr, ℕ, zero, suc, ◌+◌, ◌<◌, ◌≤◌, ◌==◌, ◌&&◌, Bool, true, false, cond, if◌then◌else◌, nat_lt, List, [], ◌∷◌, ◌++◌, Option, Some, None, option_and_then, unwrap_or, refl, sym, ◌∙◌, ap, subst, arith, ltb-true, append_assoc, eq-eqb}
-use Rattle.std.specs.List.{filter_map, list_any}
+use Rattle.std.proofs.Common.{◌≡◌, ◌⊎◌, inl, inr, ℕ, zero, suc, ◌+◌, ◌≤◌, ◌==◌, ◌&&◌, Bool, true, false, if◌then◌else◌, nat_lt, List, [], ◌∷◌, ◌++◌, Option, Some, None, option_and_then, refl, sym, ◌∙◌, ap, subst, arith, ltb-true, eq-eqb}
+use Rattle.std.specs.List.{filter_map}
 use Rattle.std.specs.Option.{option_or}
 use Rattle.std.proofs.lemmas.Bool.{and_parts, cases_Bool, cond-false, cond-true, eqb-true}
 use Rattle.std.proofs.lemmas.Option.{same_Some}
@@ -10,12 +10,11 @@ use Rattle.cw_types.specs.declared.commitment.Commitment.{Commitment}
 use Rattle.cw_types.specs.declared.note.Note.{Note}
 use Rattle.cw_types.specs.declared.vote.Proposal.{Proposal}
 use Rattle.cw_rules.specs.Accepted.{first_some}
-use Rattle.cw_rules.specs.Held.{at_height, finalization_of, greatest_prune, held, noted_block_of, parent_of, reached}
-use Rattle.cw_rules.specs.Notes.{has_block, is_block}
+use Rattle.cw_rules.specs.Held.{finalization_of, greatest_prune, held, noted_block_of, parent_of, reached}
+use Rattle.cw_rules.specs.Notes.{has_block}
 use Rattle.cw_rules.specs.Reached.{In}
 use Rattle.cw_rules.specs.Rules.{Rules, genesis, genesis_commitment}
 use Rattle.cw_rules.proofs.Lists.{and_then_some, in_left}
-use Rattle.cw_rules.proofs.SameLemmas.{same_commitment_self}
 use Rattle.marshal.specs.Bare.{reached_by}
 use Rattle.marshal.specs.Promises.{IsReached, IsUnpruned}
 

@@ -1,4 +1,4 @@
-use Rattle.std.proofs.Common.{◌≡◌, ◌∙◌, true, false, rules, ap, Err, List, ℕ, length, map}
+use Rattle.std.proofs.Common.{◌≡◌, ◌∙◌, true, false, rules, ap, Err, length, map}
 use Rattle.marshal.proofs.Loading.{begins, goes_on, refuses}
 use Rattle.marshal.proofs.frames.read_frames.Goals as goal
 
