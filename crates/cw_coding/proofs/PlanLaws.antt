@@ -1,6 +1,7 @@
 -- Why a plan is refused.
-use Rattle.std.proofs.Common.{◌≡◌, ℕ, ◌+◌, ◌≤◌, List, length, refl, arith}
-use Rattle.rs_code.specs.Plans.{AreSound, IsRefusal}
+use Rattle.std.proofs.Common.{◌≡◌, ℕ, ◌+◌, ◌<◌, ◌≤◌, List, length, get_or, refl, ap, ◌∙◌, arith}
+use Rattle.std.proofs.lemmas.List.{get_or_default}
+use Rattle.rs_code.specs.Plans.{AreSound, IsRefusal, Shape}
 use Rattle.rs_code.specs.declared.plan.PlanError.{PlanError}
 use Rattle.rs_code.specs.declared.plan.PlanError.TheVariants.{TooFew, OutOfRange, Duplicate, NoMemory}
 use Rattle.cw_coding.proofs.IndexLaws.{sound_range}
@@ -17,3 +18,12 @@ only_memory k m present enough sound (Duplicate i) h =
     let first = h.1 in
     absurd (before_other (k + m) present h.0 i sound first.within first.item h.3)
 only_memory k m present enough sound NoMemory h = refl
+
+-- the first k indices are those of rows of the plan's codeword
+pub first_targets : (plan : Shape) (xs ys points : List ℕ) (k m : ℕ) → plan ≡ record { k = k; m = m; points = points } → xs ≡ ys → length ys ≡ k →
+    ((s : ℕ) → s < k → get_or ys s 0 ≡ s) → (i d : ℕ) → i < length xs → get_or xs i d < plan.k + plan.m
+first_targets plan xs ys points k m is same count each i d within =
+    let below : i < k = omega (arith, within, ap length same, count) in
+    let value : get_or xs i d ≡ i = get_or_default xs i d 0 within ∙ ap (λ (zs : List ℕ). get_or zs i 0) same ∙ each i below in
+    let size : plan.k ≡ k = ap (λ (p : Shape). p.k) is in
+    omega (arith, value, below, size)

@@ -1,6 +1,12 @@
 use Rattle.std.proofs.Common.{◌≡◌, ℕ, ◌<◌, get_or, length, ◌∙◌, ap}
 use Rattle.cw_coding.proofs.DecodingLaws.{rebuilt_long, rebuilt_value, front_of}
+use Rattle.cw_coding.proofs.PlanLaws.{first_targets}
 use Rattle.cw_coding.proofs.recovering.rebuilt.Goals as goal
+
+pub rebuild-requires-clause-targets : goal.rebuild-requires-clause-targets
+rebuild-requires-clause-targets g c = λ κs h i d within.
+    first_targets c.in_ok-plan.plan c.deref.result.now c.in_ok-targets.targets.items _ c.args.k c.args.m c.in_ok-plan.ensures
+    c.deref.ensures.value c.in_ok-targets.ensures.count c.in_ok-targets.ensures.each i d within
 
 pub returns-in-Ok-clause-long : goal.returns-in-Ok-clause-long
 returns-in-Ok-clause-long g c =
