@@ -1,9 +1,10 @@
-//! Reads a script from standard input, runs it, and prints the report. The words after the program's
-//! name are to be none; the exit status is that of the answer.
+//! Reads a script from standard input, runs it, and prints the report; with the words `storm N` runs
+//! the script of that storm, and prints a summary. Chunks are coded on four threads. The exit status
+//! is that of the answer.
 #![tactic(auto)]
 
-use cw_base::{Sequential, Sha256, StdSink, StdSource};
-use first_storm::run_program;
+use cw_base::{NoGate, Sha256, StdSink, StdSource, Threads};
+use hailstorm::run_program;
 use std::process::ExitCode;
 use std::{env, io};
 
@@ -19,7 +20,7 @@ fn main(rt: HostRuntime) -> ExitCode {
         &words,
         &mut input,
         &mut output,
-        &Sequential,
+        &Threads::new(4, NoGate),
     );
     ExitCode::from(exit.status())
 }

@@ -1,9 +1,0 @@
-pub mod FirstCommit
-pub mod FirstSetting
-pub mod FirstNotes
-pub mod FirstAccepting
-pub mod FirstOwing
-pub mod FirstSending
-pub mod FirstStep
-pub mod State
-pub mod Refusal

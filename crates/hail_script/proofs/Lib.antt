@@ -1,0 +1,9 @@
+pub mod Numbers
+pub mod Ends
+pub mod Sequences
+pub mod Marks
+pub mod Sized
+pub mod Admitting
+pub mod Clusters
+pub mod Causes
+pub mod Fitting

@@ -1,0 +1,9 @@
+use Rattle.hail_script.proofs.Causes as causes
+use Rattle.hail_script.proofs.Fitting as fitting
+use Rattle.hail_script.proofs.laws.script_laws.Goals as goal
+
+pub returns-clause-early : goal.returns-clause-early
+returns-clause-early c = causes.early
+
+pub returns-clause-fits : goal.returns-clause-fits
+returns-clause-fits c = fitting.fits

@@ -1,0 +1,29 @@
+use Rattle.std.proofs.Common.{◌≡◌, ◌&&◌, ℕ, true, map, List, sym, ◌∙◌, inr, Some, nat_le, nat_lt, length, ◌^◌}
+use Rattle.std.specs.List.{list_all}
+use Rattle.hail_script.specs.Events.{line_of}
+use Rattle.hail_script.specs.Grammar as grammar
+use Rattle.hail_script.specs.Scenario.{Scenario}
+use Rattle.hail_script.proofs.Admitting.{unsized, strange}
+use Rattle.hail_script.proofs.Sized.{and_right, committees}
+use Rattle.hail_script.proofs.script.Script.admit_epochs.Goals as goal
+
+pub returns-then-not-are_sized-clause-err : goal.returns-then-not-are_sized-clause-err
+returns-then-not-are_sized-clause-err c =
+    let s : Scenario = record { committees = record { total = c.args.members; span = Some c.args.span; lists = c.args.lists }; backlog = c.args.backlog; lines = map line_of c.args.events } in
+    let sized = sym (rw c.as_slice.ensures at c.are_sized.ensures) ∙ c.if-not-are_sized.true in
+    inr (unsized s sized)
+
+pub returns-in-Some-clause-err : goal.returns-in-Some-clause-err
+returns-in-Some-clause-err c =
+    let s : Scenario = record { committees = record { total = c.args.members; span = Some c.args.span; lists = c.args.lists }; backlog = c.args.backlog; lines = map line_of c.args.events } in
+    let sized = sym (rw c.as_slice.ensures at c.are_sized.ensures) ∙ c.if-not-are_sized.false in
+    let first = sym (rw c.as_slice-2.ensures at c.first_strange.ensures) ∙ c.in-Some.is in
+    inr (strange s c.in-Some.line sized first)
+
+pub committees_of-requires-clause-committees : goal.committees_of-requires-clause-committees
+committees_of-requires-clause-committees c =
+    let lists = c.args.lists in
+    let sized = sym (rw c.as_slice.ensures at c.are_sized.ensures) ∙ c.if-not-are_sized.false in
+    let long = and_right (nat_lt c.args.members (2 ^ 16)) _ (and_right (nat_le 4 c.args.members) _ sized) in
+    let first = sym (rw c.as_slice-2.ensures at c.first_strange.ensures) ∙ c.in_default.is in
+    rw c.as_slice-3.ensures (committees c.args.members lists long c.requires.rise first)

@@ -1,0 +1,47 @@
+-- A place after its member took an event.
+use Rattle.std.proofs.Common.{◌≡◌, ℕ, Bool, true, false, List, Some, None, Option, refl, sym, ap, subst, ◌∙◌}
+use Rattle.std.specs.Prelude.{option_and_then}
+use Rattle.cw_types.specs.declared.event.Event.{Event}
+use Rattle.cw_types.specs.declared.event.StepOut.{StepOut}
+use Rattle.cw_types.specs.declared.vote.Vote.{Vote}
+use Rattle.cw_rules.specs.Rules.{Rules}
+use Rattle.cw_rules.specs.Step.{Member, Stepped, cut_step, start, step}
+use Rattle.cw_rules.specs.World.{Ask, World, event_of}
+use Rattle.hailstorm.specs.declared.place.Place.{Place}
+use Rattle.hailstorm.specs.declared.place.Place.TheVariants as place
+use Rattle.hailstorm.specs.Places.{IsMember, IsSound, Makes, did, did_cut, starts_again}
+use Rattle.cw_types.specs.declared.note.Note.{Note}
+use Rattle.node_disk.specs.Memory.{MemoryState, memory_state}
+use Rattle.marshal.specs.Frames.{FindsNotes}
+use Rattle.hailstorm.specs.Seats.{HasStepped, Seat, out_of, rules_by}
+
+-- a step by these rules
+stepped : (r : Rules) (i : ℕ) (signed : ℕ → Vote → Bool) (x : Member) (e : Event) (s new : Seat) (out : StepOut) → HasStepped (rules_by r.hash s) signed e s new out → rules_by r.hash s ≡ r → s.id ≡ i → s.member ≡ x
+    → (new.member ≡ (step r i signed x e).member) × (out ≡ out_of (step r i signed x e))
+stepped r i signed x e s new out h rules id who = rw (rules, id, who) at (h.member, h.gives)
+
+pub took : (r : Rules) (i : ℕ) (signed : ℕ → Vote → Bool) (w : World) (ask : Ask) (e : Event) (m new : Seat) (out : StepOut) (o : Option Member) → IsSound r i (place.Live m) → event_of w i ask ≡ Some e
+    → HasStepped (rules_by r.hash m) signed e m new out → IsMember (place.Live m) o → Makes o (option_and_then (did r signed w i ask) o) (place.Live new) (Some out)
+took r i signed w ask e m new out None sound asks h who = absurd who
+took r i signed w ask e m new out (Some x) sound asks h who =
+    let live : x.live ≡ true = ap (λ (y : Member). y.live) (sym who) ∙ sound.2.live in
+    let done = stepped r i signed x e m new out h sound.0 sound.1 who in
+    rw (live, asks) (done.0, ap Some done.1)
+
+-- a step with a stop
+pub cut_took : (r : Rules) (i : ℕ) (signed : ℕ → Vote → Bool) (w : World) (a c x : ℕ) (ask : Ask) (e : Event) (m : Seat) (p : Place Seat) (out : StepOut) (o : Option Member) → IsSound r i (place.Live m) → event_of w i ask ≡ Some e
+    → IsMember p (Some (cut_step (rules_by r.hash m) m.id signed m.member a c x e).member) → out ≡ out_of (cut_step (rules_by r.hash m) m.id signed m.member a c x e)
+    → IsMember (place.Live m) o → Makes o (option_and_then (did_cut r signed w i a c x ask) o) p (Some out)
+cut_took r i signed w a c x ask e m p out None sound asks there gives who = absurd who
+cut_took r i signed w a c x ask e m p out (Some y) sound asks there gives who =
+    let live : y.live ≡ true = ap (λ (z : Member). z.live) (sym who) ∙ sound.2.live in
+    rw (live, asks) (rw (sound.0, sound.1, who) at there, ap Some (rw (sound.0, sound.1, who) at gives))
+
+-- a start where a member was stopped
+pub began : (r : Rules) (i : ℕ) (disk : MemoryState) (notes : List Note) (p : Place Seat) (out : StepOut) (o : Option Member)
+    → ((frames : List (List Note)) → FindsNotes frames (memory_state disk).now.seen → IsMember p (Some (start r i frames).member) × (out ≡ out_of (start r i frames)))
+    → IsMember (place.Stopped disk notes) o → Makes o (option_and_then (starts_again r i) o) p (Some out)
+began r i disk notes p out None starts who = absurd who
+began r i disk notes p out (Some x) starts who =
+    let done = starts x.frames who.1 in
+    rw who.0 (done.0, ap Some done.1)

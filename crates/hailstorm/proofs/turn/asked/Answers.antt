@@ -1,0 +1,17 @@
+use Rattle.std.proofs.Common.{◌≡◌, sym, subst, ◌∙◌}
+use Rattle.hail_script.specs.Events.{ask_of}
+use Rattle.hailstorm.specs.Places.{IsMember, IsSound, over, rules_of, table}
+use Rattle.hailstorm.specs.declared.place.Place.{Place}
+use Rattle.hailstorm.specs.Pool.{sent_in}
+use Rattle.hailstorm.proofs.Taking.{took}
+use Rattle.hailstorm.proofs.turn.asked.Goals as goal
+
+pub returns-in_ok-out-in-Some-clause-makes : goal.returns-in_ok-out-in-Some-clause-makes
+returns-in_ok-out-in-Some-clause-makes g c o who =
+    let r = rules_of g.H.Hasher.digest_of c.args.script.now in
+    let signed = table c.args.votes.now.faulty.now (sent_in c.args.votes.now.pool.now) in
+    let w = over (sent_in c.args.votes.now.pool.now) in
+    let sound = rw c.in-Live.is at c.requires.sound in
+    let there = rw c.in-Live.is at who in
+    let asks = sym c.in_ok-event_for-in-Live.ensures ∙ c.in-Some.is in
+    took r c.args.id signed w (ask_of c.args.ask.now) c.in-Some.event c.in-Live.node c.take_event.new.node c.in_ok-out-in-Some.out o sound asks c.in_ok-out-in-Some.ensures.steps there

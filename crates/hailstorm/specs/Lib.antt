@@ -1,0 +1,12 @@
+pub mod Seats
+pub mod Pool
+pub mod Places
+pub mod Offers
+pub mod Honest
+pub mod Reports
+pub mod Runs
+pub mod Storm
+pub mod Reading
+pub mod Writing
+pub mod Text
+pub mod Headline

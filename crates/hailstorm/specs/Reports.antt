@@ -1,0 +1,85 @@
+-- When a report is that of a text, and why there is none.
+use Rattle.std.specs.Prelude.{[], ℕ, ◌<◌, ◌∷◌, ◌≡◌, ◌⊎◌, Err, List, None, Ok, Option, Some, false, filter, filter_map, length, map, not, true}
+use Rattle.std.specs.List.{range_with_len}
+use Rattle.cw_base.specs.declared.hash.Digest32.{Digest32}
+use Rattle.cw_types.specs.Block.{Block}
+use Rattle.cw_rules.specs.Chains.{Clashes, Ends, outcome}
+use Rattle.cw_rules.specs.Reached.{IsClash, IsReported, Reaches}
+use Rattle.cw_rules.specs.Report.{Entry, Report as Reported, handed_in, report_of}
+use Rattle.cw_rules.specs.Step.{Member}
+use Rattle.cw_rules.specs.World.{World, opening}
+use Rattle.hail_script.specs.declared.error.RunError.{RunError}
+use Rattle.hail_script.specs.declared.error.RunError.TheVariants as error
+use Rattle.hail_script.specs.Grammar.{is_faulty_in, script_of}
+use Rattle.hail_script.specs.Scenario.{Scenario}
+use Rattle.hailstorm.specs.declared.report.Report.{Report}
+use Rattle.marshal.specs.Frames.{FindsNotes}
+use Rattle.hailstorm.specs.Places.{rules_of}
+use Rattle.hailstorm.specs.Seats.{Seat}
+
+-- what a report tells of the rules
+abbrev pub shown_report : {H : Type 0} → Report H → Reported
+shown_report r = record { opening = r.opening; steps = r.steps; acked = r.acked; chain = r.chain }
+
+-- the honest members of a world, by number
+abbrev pub honest : World → List Member
+honest w = filter_map (λ o. o) w.members
+
+-- each disk holds its member's frames of notes
+abbrev pub HoldNotes : List Member → List (List ℕ) → Type 0
+HoldNotes [] [] = Unit {0}
+HoldNotes (m ∷ ms) (disk ∷ disks) = (FindsNotes m.frames disk) × HoldNotes ms disks
+HoldNotes _ _ = ⊥
+
+-- the node is the member, and there is none exactly for a stopped one
+abbrev pub IsNodeOf : Member → Option Seat → Type 0
+IsNodeOf m None = m.live ≡ false
+IsNodeOf m (Some node) = (m.live ≡ true) × (node.member ≡ m)
+
+-- so for each
+abbrev pub AreNodesOf : List Member → List (Option Seat) → Type 0
+AreNodesOf [] [] = Unit {0}
+AreNodesOf (m ∷ ms) (node ∷ nodes) = IsNodeOf m node × AreNodesOf ms nodes
+AreNodesOf _ _ = ⊥
+
+-- The report of a script's run: the script ends without a clash in this world, and what is told is the rules' report of it. The disks and nodes are those of the honest members as the world leaves them.
+pub record IsRun {H : Type 0} (hash : List ℕ → Digest32) (script : Scenario) (report : Report H) : Type 0 where
+  pub world : World
+  pub ends : outcome (rules_of hash script) (opening (rules_of hash script) script.lines) script.lines ≡ Ends world
+  pub told : shown_report report ≡ report_of (rules_of hash script) script.lines world
+  pub disks : HoldNotes (honest world) report.disks
+  pub nodes : AreNodesOf (honest world) report.nodes
+
+-- the members that no line makes faulty, by number
+abbrev pub honest_numbers : Scenario → List ℕ
+honest_numbers s = filter (λ i. not (is_faulty_in s.lines i)) (range_with_len 0 s.committees.total)
+
+-- The text spells a script that is run, and this is the report of its run: an entry for each honest member and for each event line, and each block that is handed out is the link of its height in one chain from genesis.
+pub record IsReport {H : Type 0} (hash : List ℕ → Digest32) (text : List ℕ) (report : Report H) : Type 0 where
+  pub script : Scenario
+  pub in_grammar : script_of text ≡ Ok script
+  pub run : IsRun hash script report
+  pub opened : map (λ e. e.member) report.opening ≡ map Some (honest_numbers script)
+  pub stepped : length report.steps ≡ length script.lines
+  pub chain : IsReported (rules_of hash script) run.world (handed_in (rules_of hash script) script.lines) report.chain
+
+-- the run of the script ends in this clash, and these are the encodings of two different blocks of one digest, each genesis or noted by an honest member
+pub record IsClashOf (hash : List ℕ → Digest32) (script : Scenario) (earlier later : List ℕ) : Type 0 where
+  pub ends : outcome (rules_of hash script) (opening (rules_of hash script) script.lines) script.lines ≡ Clashes earlier later
+  pub world : World
+  pub reached : Reaches (rules_of hash script) script.lines world
+  pub shown : IsClash (rules_of hash script) world earlier later
+
+-- the text spells a script that ends in this clash
+abbrev pub Clashing : (List ℕ → Digest32) → List ℕ → List ℕ → List ℕ → Type 0
+Clashing hash text earlier later = (script : Scenario) × (script_of text ≡ Ok script) × IsClashOf hash script earlier later
+
+-- why there is no report
+abbrev pub IsCause : (List ℕ → Digest32) → List ℕ → RunError → Type 0
+IsCause hash text error.NoMemory = Unit {0}
+IsCause hash text (error.HashClash earlier later) = Clashing hash text earlier later
+IsCause hash text error.BadCommittee = script_of text ≡ Err error.BadCommittee
+IsCause hash text error.TooManyFaulty = script_of text ≡ Err error.TooManyFaulty
+IsCause hash text (error.Syntax line) = script_of text ≡ Err (error.Syntax line)
+IsCause hash text (error.UnknownMember line) = script_of text ≡ Err (error.UnknownMember line)
+IsCause hash text (error.OversizeBlock line) = script_of text ≡ Err (error.OversizeBlock line)

@@ -1,0 +1,25 @@
+//! The cluster that a script runs, what is reported of the run, and the program from bytes to bytes.
+#![tactic(auto)]
+
+mod chain;
+mod clash;
+mod entry;
+mod event;
+mod fault;
+mod place;
+mod play;
+mod pool;
+mod program;
+mod reading;
+mod report;
+mod seat;
+mod storm;
+mod text;
+mod turn;
+mod world;
+
+pub use program::{Exit, run_program};
+pub use report::{Acked, Entry, Report, Sent};
+pub use storm::storm_script;
+pub use text::report_text;
+pub use world::World;

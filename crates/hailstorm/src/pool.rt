@@ -1,0 +1,140 @@
+//! The entries of the lines so far, and the messages in them by number.
+
+ghost use Rattle.std.specs.Prelude.{◌≡◌, ◌+◌, ◌<◌, ◌++◌, ◌∷◌, [], length, map, slice_get, IfOk, OnOk};
+ghost use Rattle.std.specs.List.{list_any, range_with_len};
+ghost use Rattle.std.specs.Option.{option_map};
+ghost use Rattle.cw_rules.specs.World as rule;
+ghost use Rattle.hailstorm.specs.Pool.{sent_at, sent_in};
+
+use crate::report::{Entry, Sent};
+use cw_base::{Items, NoMemory};
+use cw_types::{Message, Vote};
+use std::alloc::Global;
+use std::marker::Model;
+
+/// The entries of the lines so far. Each message stands in its entry alone, and is found by its number
+/// without a search. Contracts see the entries.
+#[derive(Drop)]
+pub(crate) struct Pool {
+    entries: Items<Entry>,
+    // of each message, the number of its entry and its place there
+    places: Vec<(usize, usize)>,
+}
+
+impl Model for Pool {
+    ghost use Rattle.std.specs.Prelude.{◌≡◌, List};
+    ghost use Rattle.cw_rules.specs.Report.{Entry};
+    ghost use Rattle.hailstorm.specs.Pool.{StandAt};
+
+    ghost Value = { List Entry };
+
+    ghost view = { λ p. p.entries };
+
+    ghost invariant = { λ p. StandAt p.entries p.places.items };
+}
+
+impl Pool {
+    /// No entries.
+    pub(crate) fn new(alloc: Global) -> Pool
+        ensures { result ≡ [] }
+    {
+        Pool {
+            entries: Items::new(alloc),
+            places: Vec::new(alloc),
+        }
+    }
+
+    /// How many messages were sent.
+    #[tactic(auto, using(crate::proofs::Numbered::counted))]
+    pub(crate) fn count(&self) -> usize
+        ensures { result ≡ length (sent_in self.now) }
+    {
+        self.places.len()
+    }
+
+    /// The message of a number.
+    pub(crate) fn get(&self, number: u64) -> Option<&Sent>
+        ensures { option_map (λ sent. sent.now) result ≡ slice_get (sent_in self.now) number }
+    {
+        match self.places.get(number as usize) {
+            None => None,
+            Some((entry, place)) => self.at(*entry, *place),
+        }
+    }
+
+    // The message at a place of an entry.
+    fn at(&self, entry: usize, place: usize) -> Option<&Sent>
+        ensures { option_map (λ sent. sent.now) result ≡ sent_at self.now (entry, place) }
+    {
+        match self.entries.as_slice().get(entry) {
+            None => None,
+            Some(entry) => entry.sent.as_slice().get(place),
+        }
+    }
+
+    /// Whether a member sent a vote.
+    pub(crate) fn has_vote(&self, member: u16, vote: &Vote) -> bool
+        ensures { result ≡ list_any (rule.is_sent_vote member vote.now) (sent_in self.now) }
+    {
+        self.entries
+            .as_slice()
+            .iter()
+            .any(|entry| sends_vote(entry, member, vote))
+    }
+
+    /// One entry more.
+    pub(crate) fn with(self, entry: Entry) -> Result<Pool, NoMemory>
+        ensures { IfOk result (λ pool. pool ≡ self ++ entry ∷ []) }
+    {
+        let Pool {
+            mut entries,
+            mut places,
+        } = self;
+        put_places(&mut places, entries.len(), entry.sent.len())?;
+        entries.push(entry)?;
+        Ok(Pool { entries, places })
+    }
+
+    /// The entries.
+    pub(crate) fn into_entries(self) -> Items<Entry>
+        ensures { result ≡ self }
+    {
+        let Pool { entries, places: _ } = self;
+        entries
+    }
+}
+
+// The places of an entry's messages.
+fn put_places(places: &mut Vec<(usize, usize)>, entry: usize, count: usize) -> Result<(), NoMemory>
+    ensures { OnOk result (places.new.items ≡ places.old.items ++ map (λ place. (entry, place)) (range_with_len 0 count)) }
+{
+    for place in 0..count {
+        places.push((entry, place))?;
+    }
+    Ok(())
+}
+
+fn is_vote_of(message: &Message, member: u16, vote: &Vote) -> bool
+    ensures { result ≡ rule.is_vote_of member vote.now message.now }
+{
+    match message {
+        Message::Vote(signer, other) => *signer == member && vote.is_same(other),
+        _ => false,
+    }
+}
+
+fn is_sent_vote(sent: &Sent, member: u16, vote: &Vote) -> bool
+    ensures { result ≡ rule.is_sent_vote member vote.now sent.now }
+{
+    sent.from == member && is_vote_of(&sent.message, member, vote)
+}
+
+fn sends_vote(entry: &Entry, member: u16, vote: &Vote) -> bool
+    ensures { result ≡ list_any (rule.is_sent_vote member vote.now) entry.now.sent }
+{
+    entry
+        .sent
+        .as_slice()
+        .iter()
+        .any(|sent| is_sent_vote(sent, member, vote))
+}

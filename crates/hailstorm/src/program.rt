@@ -1,0 +1,223 @@
+//! The program: from the bytes that come in to the bytes that go out.
+
+ghost use Rattle.std.specs.Prelude.{◌≡◌, ◌≢◌, List, ℕ, None, Some, IfOk, map, string_bytes, option_map};
+ghost use Rattle.hailstorm.specs.Headline as headline;
+ghost use Rattle.hailstorm.specs.Headline.{status_of, Means, MeansUsage, Answers, HasFault, IsSilent, Finishes};
+ghost use Rattle.hailstorm.specs.Reports.{shown_report};
+ghost use Rattle.hailstorm.specs.Storm as spec;
+
+use crate::reading::{Reading, read_script, write_all};
+use crate::report::Report;
+use crate::seat::Seat;
+use crate::storm::{storm_script, summary_text};
+use crate::text::{error_text, report_text};
+use crate::world::World;
+use cw_base::{Digest32, Failed, Hasher, Items, NoMemory, Sink, Source, Strategy};
+use hail_script::{RunError, number_of};
+use std::alloc::Global;
+use std::thread::Threads;
+
+/// How the program ends. Each end but want of memory and a fault has written one text, whole.
+#[derive(Drop)]
+pub enum Exit<R> {
+    /// The text of the report was written, or the summary of a storm.
+    Done(R),
+    /// The words were neither none nor `storm` and a number.
+    Usage,
+    /// The source gave more than 16,777,216 bytes.
+    TooLong,
+    /// The text isn't run.
+    Refused(RunError),
+    /// The run ends in two blocks of one digest. Their encodings, the earlier first.
+    Clash(Items<u8>, Items<u8>),
+    /// The source failed. Nothing was written.
+    ReadFault,
+    /// The sink failed. What it took is a front of the text.
+    WriteFault,
+    /// Memory is short. Nothing was written.
+    NoMemory,
+}
+
+impl<R> Exit<R> {
+    /// The exit status: 0, 2, 3, 3, 4, 5, 6 and 7, in the order of the variants.
+    pub fn status(&self) -> u8
+        ensures { result ≡ status_of self.now }
+    {
+        match self {
+            Exit::Done(_) => 0,
+            Exit::Usage => 2,
+            Exit::TooLong => 3,
+            Exit::Refused(_) => 3,
+            Exit::Clash(..) => 4,
+            Exit::ReadFault => 5,
+            Exit::WriteFault => 6,
+            Exit::NoMemory => 7,
+        }
+    }
+}
+
+const USAGE: &[u8] = b"usage: hail_run [storm N]\n";
+
+const TOO_LONG: &[u8] = b"error TooLong\n";
+
+/// Without words reads a script to its end, runs it, and writes its report; with `storm N` runs the
+/// script of that storm and writes a summary. All text is made before the first byte is written. The
+/// words are those after the program's name.
+pub fn run_program<
+    H: Hasher<Digest = Digest32>,
+    R: Threads + Sync,
+    I: Source,
+    O: Sink,
+    S: Strategy,
+>(
+    rt: &R,
+    alloc: Global,
+    words: &[String],
+    input: &mut I,
+    output: &mut O,
+    strategy: &S,
+) -> Exit<Report<H>>
+    // With other words nothing is read, and the usage is written.
+    ensures usage { headline.asked_of (map string_bytes words.now) ≡ None
+        → (input.new ≡ input.old) × MeansUsage (O.held output.old) (O.held output.new) result }
+
+    // Under `storm N` nothing is read, and each answer has its meaning for the storm's script.
+    ensures storm { (number : ℕ) → headline.asked_of (map string_bytes words.now) ≡ Some (Some number)
+        → (input.new ≡ input.old) × Answers H.digest_of (Some number) (spec.storm_script number) (O.held output.old) (O.held output.new) result }
+
+    // Without words each answer has its meaning for the bytes that the source had left.
+    ensures answer { (text : List ℕ) → headline.asked_of (map string_bytes words.now) ≡ Some None → I.left input.old ≡ Some text
+        → Means H.digest_of text (I.left input.new) (O.held output.old) (O.held output.new) result }
+
+    // A fault is told only where the source or the sink has failed in this call.
+    ensures fault { HasFault (I.faults input.old) (I.faults input.new) (O.faults output.old) (O.faults output.new) result }
+
+    // Where the source failed, or memory is short, nothing is written, whether or not the source tells its bytes.
+    ensures silent { IsSilent (O.held output.old) (O.held output.new) result }
+{
+    match asked_of(words) {
+        None => finish(output, USAGE, Exit::Usage),
+        Some(None) => run_input(rt, alloc, input, output, strategy),
+        Some(Some(number)) => run_storm(rt, alloc, number, output, strategy),
+    }
+}
+
+// What the words ask for: none, a script that is read; `storm` and a number, that storm.
+fn asked_of(words: &[String]) -> Option<Option<u64>>
+    ensures { result ≡ headline.asked_of (map string_bytes words.now) }
+{
+    match words {
+        [] => Some(None),
+        [word, field] => asked_storm(word.as_bytes(), field.as_bytes()),
+        _ => None,
+    }
+}
+
+fn asked_storm(word: &[u8], field: &[u8]) -> Option<Option<u64>>
+    ensures { result ≡ headline.asked_storm word.now field.now }
+{
+    if word != b"storm".as_slice() {
+        return None;
+    }
+    let number = number_of(field)?;
+    Some(Some(number))
+}
+
+// Reads a script, runs it, and writes its report or why there is none.
+fn run_input<H: Hasher<Digest = Digest32>, R: Threads + Sync, I: Source, O: Sink, S: Strategy>(
+    rt: &R,
+    alloc: Global,
+    input: &mut I,
+    output: &mut O,
+    strategy: &S,
+) -> Exit<Report<H>>
+    ensures answer { (text : List ℕ) → I.left input.old ≡ Some text
+        → Means H.digest_of text (I.left input.new) (O.held output.old) (O.held output.new) result }
+    ensures fault { HasFault (I.faults input.old) (I.faults input.new) (O.faults output.old) (O.faults output.new) result }
+    ensures silent { IsSilent (O.held output.old) (O.held output.new) result }
+{
+    match read_script(alloc, input) {
+        Reading::Whole(text) => { run_text::<H, R, O, S>(rt, alloc, &text, None, output, strategy) }
+        Reading::TooLong => finish(output, TOO_LONG, Exit::TooLong),
+        Reading::Fault => Exit::ReadFault,
+        Reading::NoMemory => Exit::NoMemory,
+    }
+}
+
+// Runs the script of a storm, and writes a summary.
+fn run_storm<H: Hasher<Digest = Digest32>, R: Threads + Sync, O: Sink, S: Strategy>(
+    rt: &R,
+    alloc: Global,
+    number: u64,
+    output: &mut O,
+    strategy: &S,
+) -> Exit<Report<H>>
+    ensures answer { Answers H.digest_of (Some number) (spec.storm_script number) (O.held output.old) (O.held output.new) result }
+    ensures fault { HasFault 0 0 (O.faults output.old) (O.faults output.new) result }
+    ensures silent { IsSilent (O.held output.old) (O.held output.new) result }
+{
+    match storm_script(alloc, number) {
+        Ok(script) => run_text::<H, R, O, S>(rt, alloc, &script, Some(number), output, strategy),
+        Err(_) => Exit::NoMemory,
+    }
+}
+
+// Runs a script, and writes the text of its report or why there is none.
+fn run_text<H: Hasher<Digest = Digest32>, R: Threads + Sync, O: Sink, S: Strategy>(
+    rt: &R,
+    alloc: Global,
+    script: &[u8],
+    storm: Option<u64>,
+    output: &mut O,
+    strategy: &S,
+) -> Exit<Report<H>>
+    ensures answer { Answers H.digest_of storm script.now (O.held output.old) (O.held output.new) result }
+    ensures fault { HasFault 0 0 (O.faults output.old) (O.faults output.new) result }
+    ensures silent { IsSilent (O.held output.old) (O.held output.new) result }
+{
+    match World::run::<H, R, S>(rt, alloc, script, strategy) {
+        Ok(report) => match text_of::<H>(alloc, storm, &report) {
+            Ok(text) => finish(output, &text, Exit::Done(report)),
+            Err(_) => Exit::NoMemory,
+        },
+        Err(error) => match error_text(alloc, &error) {
+            Ok(text) => end_with(output, &text, error),
+            Err(_) => Exit::NoMemory,
+        },
+    }
+}
+
+// The text of a report, or its summary.
+fn text_of<H: Hasher<Digest = Digest32>>(
+    alloc: Global,
+    storm: Option<u64>,
+    report: &Report<H>,
+) -> Result<Vec<u8>, NoMemory>
+    ensures { IfOk result (λ text. text.items ≡ headline.text_of H.digest_of storm (shown_report report.now)) }
+{
+    match storm {
+        None => report_text::<H>(alloc, report),
+        Some(number) => summary_text::<H>(alloc, number, report),
+    }
+}
+
+// Writes why there is no report, and ends so.
+fn end_with<R: Drop, O: Sink>(output: &mut O, text: &[u8], error: RunError) -> Exit<R>
+    ensures { headline.EndsWith (O.held output.old) (O.held output.new) (O.faults output.old) (O.faults output.new) text.now error result }
+{
+    match error {
+        RunError::NoMemory => Exit::NoMemory,
+        RunError::HashClash(earlier, later) => finish(output, text, Exit::Clash(earlier, later)),
+        other => finish(output, text, Exit::Refused(other)),
+    }
+}
+
+// Writes a text, and then ends so.
+fn finish<R: Drop, O: Sink>(output: &mut O, text: &[u8], exit: Exit<R>) -> Exit<R>
+    ensures { Finishes (O.held output.old) (O.held output.new) (O.faults output.old) (O.faults output.new) text.now exit result }
+{
+    match write_all(output, text) {
+        Ok(()) => exit,
+        Err(Failed) => Exit::WriteFault,
+    }
+}

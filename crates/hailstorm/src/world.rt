@@ -1,0 +1,336 @@
+//! The cluster that a script runs.
+
+ghost use Rattle.std.specs.Prelude.{◌≡◌, ◌<◌, ◌^◌, ◌++◌, [], Some, filter_map, is_none, length, map, slice_get, IfOk, IfErr, OnOk, Option};
+ghost use Rattle.std.specs.List.{enumerate_from};
+ghost use Rattle.cw_rules.specs.Held.{last_ack};
+ghost use Rattle.cw_rules.specs.Report.{acked_at, opening_entries, opening_entry};
+ghost use Rattle.cw_rules.specs.Rules.{Rules};
+ghost use Rattle.cw_rules.specs.Step.{Member};
+ghost use Rattle.hailstorm.specs.Offers.{some_of};
+ghost use Rattle.cw_rules.specs.World.{World as RulesWorld};
+ghost use Rattle.hail_script.specs.Grammar.{marks};
+ghost use Rattle.hailstorm.specs.Places.{AreMembers, AreSound, IsMember, IsSound, notes_at as notes_in, rules_of};
+ghost use Rattle.hailstorm.specs.declared.place.Place.{Place as PlaceValue};
+ghost use Rattle.hailstorm.specs.Reports.{AreNodesOf, HoldNotes, IsCause, IsReport, IsRun, honest};
+ghost use Rattle.hailstorm.specs.Seats.{Seat as SeatValue};
+ghost use Rattle.hailstorm.specs.Runs.{ArePlayed, IsClosed, IsStopped, acked_with, opened, seat_of};
+
+use crate::chain::chain_of;
+use crate::clash::find_clash;
+use crate::event::is_faulty;
+use crate::place::Place;
+use crate::play::{member_of, play};
+use crate::pool::Pool;
+use crate::report::{Acked, Entry, Report};
+use crate::seat::Seat;
+use crate::turn::{notes_at, restart};
+use cw_base::{Digest32, Hasher, Items, NoMemory, Strategy};
+use cw_rules::{clash_laws, cluster_laws, report_laws};
+use cw_types::{AcceptAll, Note};
+use hail_script::{RunError, Script};
+use node::Node;
+use node_disk::MemoryDisk;
+use std::alloc::Global;
+use std::thread::Threads;
+
+/// A cluster of members.
+pub struct World;
+
+impl World {
+    /// Runs a script: each honest member starts, by number, and each line has its turn, until a clash.
+    pub fn run<H: Hasher<Digest = Digest32>, R: Threads + Sync, S: Strategy>(
+        rt: &R,
+        alloc: Global,
+        script: &[u8],
+        strategy: &S,
+    ) -> Result<Report<H>, RunError>
+        ensures ok { IfOk result (λ report. IsReport H.digest_of script.now report) }
+        ensures err { IfErr result (λ e. IsCause H.digest_of script.now e) }
+    {
+        report_laws();
+        clash_laws();
+        let script = match Script::parse(alloc, script) {
+            Ok(script) => script,
+            Err(error) => return Err(error),
+        };
+        script.is_cluster();
+        let _backlog = script.backlog();
+        match run_script(rt, alloc, &script, strategy) {
+            Ok(report) => Ok(report),
+            Err(error) => Err(error),
+        }
+    }
+}
+
+fn run_script<H: Hasher<Digest = Digest32>, R: Threads + Sync, S: Strategy>(
+    rt: &R,
+    alloc: Global,
+    script: &Script,
+    strategy: &S,
+) -> Result<Report<H>, RunError>
+    ensures ok { IfOk result (λ report. IsRun H.digest_of script.now report) }
+    ensures err { IfErr result (λ e. IsStopped (rules_of H.digest_of script.now) (opened H.digest_of script.now) script.now.lines e) }
+{
+    let _lines = script.lines();
+    let faulty = script.faulty(alloc)?;
+    let (opening, mut places) = open_all::<H, R, S>(rt, alloc, script, &faulty, strategy)?;
+    let steps = match play_all::<H, R, S>(rt, alloc, script, &faulty, &mut places, strategy) {
+        Ok(steps) => steps,
+        Err(error) => return Err(error),
+    };
+    let acked = standings::<H>(alloc, &places)?;
+    let chain = chain_of::<H>(alloc, &places, opening.as_slice(), steps.as_slice())?;
+    let (disks, nodes) = close_all::<H>(alloc, places)?;
+    Ok(Report {
+        opening,
+        steps,
+        acked,
+        disks,
+        nodes,
+        chain,
+    })
+}
+
+// A member's place, and its entry where no line makes it faulty.
+fn open_one<H: Hasher<Digest = Digest32>, R: Threads + Sync, S: Strategy>(
+    rt: &R,
+    alloc: Global,
+    script: &Script,
+    faulty: &[bool],
+    id: u16,
+    strategy: &S,
+) -> Result<(Place<Seat<H>>, Option<Entry>), NoMemory>
+    requires marks { faulty.now ≡ marks script.now.lines script.now.committees.total }
+    requires known { id < script.now.committees.total }
+    ensures entry { IfOk result (λ made. made.1 ≡ opening_entry (rules_of H.digest_of script.now) script.now.lines id) }
+    ensures member { IfOk result (λ made. IsMember made.0 (seat_of (rules_of H.digest_of script.now) script.now.lines id)) }
+    ensures sound { IfOk result (λ made. IsSound (rules_of H.digest_of script.now) id made.0) }
+{
+    if is_faulty(faulty, id) {
+        return Ok((Place::Faulty, None));
+    }
+    let disk = MemoryDisk::new(alloc, Vec::new(alloc));
+    let (place, out) = restart::<H, R, S>(rt, alloc, script, id, disk, strategy)?;
+    let entry = Entry {
+        line: 0,
+        member: Some(id),
+        found: None,
+        sent: Items::new(alloc),
+        handed: out.handed,
+    };
+    Ok((place, Some(entry)))
+}
+
+fn push_entry(entries: &mut Items<Entry>, one: Option<Entry>) -> Result<(), NoMemory>
+    ensures { OnOk result (entries.new ≡ entries.old ++ some_of one) }
+{
+    match one {
+        None => Ok(()),
+        Some(one) => {
+            entries.push(one)?;
+            Ok(())
+        }
+    }
+}
+
+// Each honest member's start, by number.
+fn open_all<H: Hasher<Digest = Digest32>, R: Threads + Sync, S: Strategy>(
+    rt: &R,
+    alloc: Global,
+    script: &Script,
+    faulty: &[bool],
+    strategy: &S,
+) -> Result<(Items<Entry>, Vec<Place<Seat<H>>>), NoMemory>
+    requires { faulty.now ≡ marks script.now.lines script.now.committees.total }
+    ensures opening { IfOk result (λ r. r.0 ≡ opening_entries (rules_of H.digest_of script.now) script.now.lines) }
+    ensures members { IfOk result (λ r. AreMembers r.1.items (opened H.digest_of script.now).members) }
+    ensures sound { IfOk result (λ r. AreSound (rules_of H.digest_of script.now) 0 r.1.items) }
+    ensures count { IfOk result (λ r. length r.1.items ≡ script.now.committees.total) }
+{
+    let mut opening = Items::new(alloc);
+    let mut places = Vec::new(alloc);
+    for id in 0..script.members() {
+        let (place, entry) = open_one::<H, R, S>(rt, alloc, script, faulty, id, strategy)?;
+        places.push(place)?;
+        push_entry(&mut opening, entry)?;
+    }
+    Ok((opening, places))
+}
+
+// Each line's turn, in order, until a clash.
+fn play_all<H: Hasher<Digest = Digest32>, R: Threads + Sync, S: Strategy>(
+    rt: &R,
+    alloc: Global,
+    script: &Script,
+    faulty: &[bool],
+    places: &mut [Place<Seat<H>>],
+    strategy: &S,
+) -> Result<Items<Entry>, RunError>
+    requires members { AreMembers places.old (opened H.digest_of script.now).members }
+    requires flags { faulty.now ≡ map is_none (opened H.digest_of script.now).members }
+    requires sound { AreSound (rules_of H.digest_of script.now) 0 places.old }
+    requires count { length places.old ≡ script.now.committees.total }
+    ensures ok { IfOk result (λ steps. ArePlayed (rules_of H.digest_of script.now) (opened H.digest_of script.now) script.now.lines steps places.new) }
+    ensures sound { IfOk result (λ _. AreSound (rules_of H.digest_of script.now) 0 places.new) }
+    ensures err { IfErr result (λ e. IsStopped (rules_of H.digest_of script.now) (opened H.digest_of script.now) script.now.lines e) }
+{
+    cluster_laws();
+    script.is_cluster();
+    let mut pool = Pool::new(alloc);
+    let first = script.first_event();
+    for (index, line) in script.lines().iter().enumerate() {
+        let id = member_of(line) as usize;
+        let old = notes_before::<H>(places, id);
+        let number = first + index as u64;
+        let entry = play(
+            rt, alloc, script, faulty, places, &pool, number, line, strategy,
+        )?;
+        if let Some((earlier, later)) = find_clash::<H>(alloc, places, id, old)? {
+            return Err(RunError::HashClash(earlier, later));
+        }
+        pool = pool.with(entry)?;
+    }
+    Ok(pool.into_entries())
+}
+
+// How many notes who sits there has.
+fn notes_before<H: Hasher<Digest = Digest32>>(places: &[Place<Seat<H>>], id: usize) -> usize
+    ensures { (p : PlaceValue SeatValue) → slice_get places.now id ≡ Some p → result ≡ length (notes_in p) }
+{
+    match places.get(id) {
+        None => 0,
+        Some(place) => notes_at::<H>(place).len(),
+    }
+}
+
+// Where each honest member stands.
+fn standings<H: Hasher<Digest = Digest32>>(
+    alloc: Global,
+    places: &[Place<Seat<H>>],
+) -> Result<Items<Acked>, NoMemory>
+    requires { length places.now < 2 ^ 16 }
+    ensures { (r : Rules) (w : RulesWorld) → AreSound r 0 places.now → AreMembers places.now w.members
+        → IfOk result (λ acked. acked ≡ filter_map acked_at (enumerate_from 0 w.members)) }
+{
+    let mut acked = Items::new(alloc);
+    for (index, place) in places.iter().enumerate() {
+        push_some(&mut acked, standing_of::<H>(index as u16, place))?;
+    }
+    Ok(acked)
+}
+
+fn push_some(acked: &mut Items<Acked>, one: Option<Acked>) -> Result<(), NoMemory>
+    ensures { OnOk result (acked.new ≡ acked.old ++ some_of one) }
+{
+    match one {
+        None => Ok(()),
+        Some(one) => {
+            acked.push(one)?;
+            Ok(())
+        }
+    }
+}
+
+fn standing_of<H: Hasher<Digest = Digest32>>(member: u16, place: &Place<Seat<H>>) -> Option<Acked>
+    ensures { (r : Rules) (o : Option Member) → IsSound r member place.now → IsMember place.now o → result ≡ acked_at (member, o) }
+{
+    match place {
+        Place::Faulty => None,
+        Place::Live(seat) => Some(standing(member, true, seat.node.notes())),
+        Place::Stopped(_, notes) => Some(standing(member, false, notes.as_slice())),
+    }
+}
+
+fn standing(member: u16, live: bool, notes: &[Note]) -> Acked
+    ensures { result ≡ record { member = member; live = live; height = last_ack notes.now; notes = length notes.now } }
+{
+    Acked {
+        member,
+        live,
+        height: last_ack(notes),
+        notes: notes.len() as u64,
+    }
+}
+
+fn last_ack(notes: &[Note]) -> Option<u64>
+    ensures { result ≡ last_ack notes.now }
+{
+    let mut last = None;
+    for note in notes {
+        last = acked(note, last);
+    }
+    last
+}
+
+// The height that a note acknowledges, else the one before.
+fn acked(note: &Note, last: Option<u64>) -> Option<u64>
+    ensures { result ≡ acked_with last note.now }
+{
+    match note {
+        Note::Ack(height) => Some(*height),
+        _ => last,
+    }
+}
+
+fn copy_bytes(alloc: Global, bytes: &[u8]) -> Result<Items<u8>, NoMemory>
+    ensures { IfOk result (λ copy. copy ≡ bytes.now) }
+{
+    Ok(Items::from_vec(Vec::from_slice(alloc, bytes)?))
+}
+
+// The bytes of the disks, and the nodes.
+fn close_all<H: Hasher<Digest = Digest32>>(
+    alloc: Global,
+    places: Vec<Place<Seat<H>>>,
+) -> Result<
+    (
+        Items<Items<u8>>,
+        Items<Option<Node<H, MemoryDisk, AcceptAll>>>,
+    ),
+    NoMemory,
+>
+    ensures { (r : Rules) (w : RulesWorld) → AreSound r 0 places.items → AreMembers places.items w.members
+        → IfOk result (λ closed. HoldNotes (honest w) closed.0 × AreNodesOf (honest w) closed.1) }
+{
+    let mut disks = Items::new(alloc);
+    let mut nodes = Items::new(alloc);
+    for place in places {
+        push_closed(&mut disks, &mut nodes, close(alloc, place)?)?;
+    }
+    Ok((disks, nodes))
+}
+
+fn push_closed<H: Hasher<Digest = Digest32>>(
+    disks: &mut Items<Items<u8>>,
+    nodes: &mut Items<Option<Node<H, MemoryDisk, AcceptAll>>>,
+    closed: Option<(Items<u8>, Option<Node<H, MemoryDisk, AcceptAll>>)>,
+) -> Result<(), NoMemory>
+    ensures disks { OnOk result (disks.new ≡ disks.old ++ map (λ c. c.0) (some_of closed)) }
+    ensures nodes { OnOk result (nodes.new ≡ nodes.old ++ map (λ c. c.1) (some_of closed)) }
+{
+    match closed {
+        None => Ok(()),
+        Some((bytes, node)) => {
+            disks.push(bytes)?;
+            nodes.push(node)?;
+            Ok(())
+        }
+    }
+}
+
+// The bytes of a member's disk, and its node where it is live.
+fn close<H: Hasher<Digest = Digest32>>(
+    alloc: Global,
+    place: Place<Seat<H>>,
+) -> Result<Option<(Items<u8>, Option<Node<H, MemoryDisk, AcceptAll>>)>, NoMemory>
+    ensures { IfOk result (λ closed. IsClosed place closed) }
+{
+    match place {
+        Place::Faulty => Ok(None),
+        Place::Live(Seat { node }) => {
+            let bytes = copy_bytes(alloc, node.bytes())?;
+            Ok(Some((bytes, Some(node))))
+        }
+        Place::Stopped(disk, _) => Ok(Some((copy_bytes(alloc, disk.bytes())?, None))),
+    }
+}

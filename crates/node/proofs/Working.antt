@@ -1,0 +1,54 @@
+-- A node that isn't refused is at work.
+use Rattle.std.proofs.Common.{◌≡◌, ◌∙◌, Bool, false, true, inr, ⊎_elim, List, [], map, ℕ, refl, subst, sym}
+use Rattle.std.specs.Prelude.{not}
+use Rattle.cw_base.specs.declared.hash.Digest32.{Digest32}
+use Rattle.cw_types.specs.Block.{Block}
+use Rattle.marshal.specs.Frames.{FindsAllOrNone, ReadBack, frame_bytes}
+use Rattle.node_disk.specs.Disk.{DiskState, LeavesOnly}
+use Rattle.node_disk.specs.Log.{IsSettled, LogState}
+use Rattle.node_disk.proofs.AtRest.{finds_at_rest}
+use Rattle.node.specs.Holding.{Holding, node_of}
+use Rattle.node.specs.Standing.{IsReady, Stands}
+use Rattle.node.specs.State.{IsAtWork}
+
+pub at_work : {D A : Type 0} (state : D → DiskState) (h : Holding D A) → h.store.failed ≡ false
+    → h.log.failed ≡ h.store.failed
+    → h.log.frames ≡ map frame_bytes h.store.frames
+    → ReadBack h.store.frames
+    → IsSettled h.log.frames h.log.gate (state h.log.disk).now
+    → LeavesOnly (state h.log.disk) (state h.log.disk) (FindsAllOrNone h.store.frames [])
+    → IsAtWork state (node_of true h)
+at_work state h running failed frames readable settled still = record {
+  live = refl;
+  running = failed ∙ running;
+  frames = frames;
+  readable = readable;
+  settled = settled;
+  found = finds_at_rest h.log.frames h.log.gate (state h.log.disk).now.seen settled.file;
+  on_disk = λ image is. ⊎_elim (λ e. e) (λ e. e) (still.left image (inr is));
+}
+
+pub not_live : (failed : Bool) → not failed ≡ true → failed ≡ false
+not_live false e = refl
+not_live true e = cc
+
+-- another log is nothing that a node stands on
+stands_logged : {D A : Type 0} (hash : List ℕ → Digest32) (accepts : A → Block → Block → Bool) (h : Holding D A) (log : LogState D) → Stands hash accepts h → Stands hash accepts (record h { log = log })
+stands_logged hash accepts h log s = record {
+  epochs = s.epochs;
+  backlog = s.backlog;
+  running = s.running;
+  id = s.id;
+  tally = s.tally;
+  shards = record { rules = s.shards.rules; rows = s.shards.rows };
+  rows = s.rows;
+  named = s.named;
+  shown = s.shown;
+}
+
+-- so it is ready with a stop on its disk, or without
+pub ready_logged : {D A : Type 0} (hash : List ℕ → Digest32) (accepts : A → Block → Block → Bool) (stopped : Bool) (old new : Holding D A) (log : LogState D)
+    → (stopped ≡ false → new ≡ record old { log = log }) → (stopped ≡ true → new ≡ old) → IsReady hash accepts old → IsReady hash accepts new
+ready_logged hash accepts true old new log armed same ready = subst (λ h. IsReady hash accepts h) (sym (same refl)) ready
+ready_logged hash accepts false old new log armed same ready =
+    subst (λ h. IsReady hash accepts h) (sym (armed refl)) (record { stands = stands_logged hash accepts old log ready.stands; quiet = ready.quiet })

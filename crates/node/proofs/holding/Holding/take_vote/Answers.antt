@@ -1,0 +1,16 @@
+use Rattle.std.proofs.Common.{◌∙◌, ap}
+use Rattle.cw_rules.specs.Accepted.{Single}
+use Rattle.voter.specs.Known.{with_ballot}
+use Rattle.node.proofs.Accepting.{came_ballot}
+use Rattle.node.specs.Holding.{Holding, rules_of, state_of}
+use Rattle.node.proofs.holding.Holding.take_vote.Goals as goal
+
+pub returns-clause-ok : goal.returns-clause-ok
+returns-clause-ok g c =
+    let h = c.args.self.now in
+    let hash = g.H.Hasher.digest_of in
+    let e = c.self.view_is in
+    let t = c.in_ok-take_vote.ensures.ok ∙ ap (λ (k : Holding g.row.D.Denot g.row.A.Denot). with_ballot k.tally (Single c.args.signer c.args.vote.now)) e in
+    came_ballot hash g.A.Application.accepts h _ (Single c.args.signer c.args.vote.now) c.requires.stands
+    (c.standing_is_kept.ensures.ballot hash h.tally (rules_of hash g.A.Application.accepts h) (state_of h) c.requires.stands.tally (Single c.args.signer c.args.vote.now))
+    (λ i. record (e i) { tally = t i })

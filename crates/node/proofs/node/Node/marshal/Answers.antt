@@ -1,0 +1,24 @@
+use Rattle.std.proofs.Common.{◌≡◌, ◌∙◌, ap, true}
+use Rattle.std.specs.Prelude.{not}
+use Rattle.node.proofs.Working.{not_live}
+use Rattle.node.specs.State.{NodeState}
+use Rattle.node.specs.Store.{Store}
+use Rattle.node.proofs.node.Node.marshal.Goals as goal
+
+pub returns : goal.returns
+returns g c = record {
+  value = λ alive.
+      let e = c.self.view_is in
+      let live : not c.self.inside.failed ≡ true = ap (λ (n : NodeState g.row.D.Denot g.row.A.Denot). n.member.live) e ∙ alive in
+      let ready = c.self.invariant (not_live c.self.inside.failed live) in
+      let store = c.marshal.ensures.store in
+      record {
+        epochs = ap (λ (s : Store). s.epochs) store ∙ (ready.stands.epochs ∙ ap (λ (n : NodeState g.row.D.Denot g.row.A.Denot). n.epochs) e);
+        backlog = ap (λ (s : Store). s.backlog) store ∙ (ready.stands.backlog ∙ ap (λ (n : NodeState g.row.D.Denot g.row.A.Denot). n.backlog) e);
+        frames = ap (λ (s : Store). s.frames) store ∙ ap (λ (n : NodeState g.row.D.Denot g.row.A.Denot). n.member.frames) e;
+        staged = ap (λ (s : Store). s.staged) store ∙ ready.quiet;
+        given = ap (λ (s : Store). s.given) store ∙ ap (λ (n : NodeState g.row.D.Denot g.row.A.Denot). n.member.given) e;
+        tickets = ap (λ (s : Store). s.tickets) store ∙ ap (λ (n : NodeState g.row.D.Denot g.row.A.Denot). n.member.tickets) e;
+        log = c.marshal.ensures.log ∙ ap (λ (n : NodeState g.row.D.Denot g.row.A.Denot). n.log) e;
+      };
+}

@@ -1,0 +1,45 @@
+-- What the phases of a step leave.
+use Rattle.std.specs.Prelude.{◌≡◌, ℕ, Bool, List, length}
+use Rattle.cw_base.specs.declared.hash.Digest32.{Digest32}
+use Rattle.cw_types.specs.Block.{Block}
+use Rattle.cw_types.specs.declared.event.Event.{Event}
+use Rattle.cw_types.specs.declared.note.Note.{Note}
+use Rattle.cw_types.specs.declared.vote.Vote.{Vote}
+use Rattle.cw_rules.specs.Accepted.{State}
+use Rattle.cw_rules.specs.Notes.{epoch_of}
+use Rattle.cw_rules.specs.Rules.{Rules}
+use Rattle.cw_rules.specs.Sends.{missing}
+use Rattle.cw_rules.specs.Step.{step_notes, taken, with_notes}
+use Rattle.node.specs.Accepting.{brings_row}
+use Rattle.node.specs.Holding.{Holding, rules_of, state_of}
+use Rattle.node.specs.Noting.{with_all_staged}
+use Rattle.node.specs.Standing.{Stands}
+use Rattle.node.specs.declared.act.Before.{Before}
+
+-- who the node is
+pub record IsSameHolder {D A : Type 0} (old new : Holding D A) : Type 0 where
+  pub id : new.id ≡ old.id
+  pub epochs : new.epochs ≡ old.epochs
+  pub backlog : new.backlog ≡ old.backlog
+  pub app : new.app ≡ old.app
+
+-- the notes of a step
+abbrev pub notes_of_event : {D A : Type 0} → Rules → (ℕ → Vote → Bool) → Event → Holding D A
+    → List Note
+notes_of_event r signed e h = step_notes r h.id (taken r signed (state_of h) e) e
+
+-- what the event brought is accepted, and the notes of the step wait for a commit
+pub record HasActed {D A : Type 0} (hash : List ℕ → Digest32) (accepts : A → Block → Block → Bool)
+    (signed : ℕ → Vote → Bool) (e : Event) (old new : Holding D A) : Type 0 where
+  pub stands : Stands hash accepts new
+  pub state : state_of new ≡ with_notes (taken (rules_of hash accepts old) signed (state_of old) e)
+      (notes_of_event (rules_of hash accepts old) signed e old)
+  pub store : new.store ≡ with_all_staged old.store
+      (notes_of_event (rules_of hash accepts old) signed e old)
+
+-- what a step has to know of the member before it
+pub record IsBefore (r : Rules) (e : Event) (old : State) (before : Before) : Type 0 where
+  pub notes : before.notes ≡ length old.notes
+  pub epoch : before.epoch ≡ epoch_of old.notes
+  pub missing : before.missing ≡ missing r old
+  pub brought : before.brought ≡ brings_row r old.came e

@@ -1,0 +1,12 @@
+pub mod Store
+pub mod Disks
+pub mod State
+pub mod Holding
+pub mod Standing
+pub mod Accepting
+pub mod Noting
+pub mod Proposing
+pub mod Asking
+pub mod Acting
+pub mod Answering
+pub mod Lives

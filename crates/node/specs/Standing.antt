@@ -1,0 +1,54 @@
+-- When what a node holds stands for a member of the rules.
+use Rattle.std.specs.Prelude.{◌≡◌, ℕ, ◌<◌, Bool, List, false, length, map, []}
+use Rattle.cw_base.specs.declared.hash.Digest32.{Digest32}
+use Rattle.cw_types.specs.Block.{Block}
+use Rattle.cw_types.specs.declared.commitment.Commitment.{Commitment}
+use Rattle.cw_rules.specs.Accepted.{Came, first_some}
+use Rattle.cw_rules.specs.Held.{shown}
+use Rattle.cw_rules.specs.Owed.{named_commitments}
+use Rattle.shards.specs.Kept as kept
+use Rattle.shards.specs.Standing as shards
+use Rattle.voter.specs.Standing as voter
+use Rattle.node.specs.Holding.{Holding, came_of, count_rows, rules_of, shown_under, state_of}
+
+-- The tally and the chunks that are kept stand for one member, whose notes are those of the store;
+-- each arrival has the
+-- commitment of its part, and as many chunks came as are kept; and what chunks showed is what those
+-- that are kept show.
+pub record Stands {D A : Type 0} (hash : List ℕ → Digest32) (accepts : A → Block → Block → Bool)
+    (h : Holding D A) : Type 0 where
+  pub epochs : h.store.epochs ≡ h.epochs
+  pub backlog : h.store.backlog ≡ h.backlog
+  pub running : h.store.failed ≡ false
+  pub id : h.tally.id ≡ h.id
+  pub tally : voter.StandsFor hash h.tally (rules_of hash accepts h) (state_of h)
+  pub shards : shards.StandsFor hash h.shards (rules_of hash accepts h) (came_of h)
+  pub rows : count_rows h.arrivals ≡ length h.shards.kept
+  pub named : named_commitments (rules_of hash accepts h) (state_of h)
+      ≡ map (λ a. a.commitment) h.arrivals
+  pub shown : (c : Commitment) → 0 < c.config.minimum
+      → shown (kept.rules_of hash h.shards.epochs) (kept.came_of h.shards.kept) c
+      ≡ first_some (shown_under c) h.shown
+
+-- What a node holds between its calls, unless a step was refused: it stands for its member, and
+-- nothing waits for a commit.
+pub record IsReady {D A : Type 0} (hash : List ℕ → Digest32) (accepts : A → Block → Block → Bool)
+    (h : Holding D A) : Type 0 where
+  pub stands : Stands hash accepts h
+  pub quiet : h.store.staged ≡ []
+
+-- what else there is beside what came and how it is kept
+pub record IsSameBeside {D A : Type 0} (old new : Holding D A) : Type 0 where
+  pub id : new.id ≡ old.id
+  pub epochs : new.epochs ≡ old.epochs
+  pub backlog : new.backlog ≡ old.backlog
+  pub app : new.app ≡ old.app
+  pub store : new.store ≡ old.store
+  pub log : new.log ≡ old.log
+
+-- so much has come then, and nothing else changed
+pub record HasCome {D A : Type 0} (hash : List ℕ → Digest32) (accepts : A → Block → Block → Bool)
+    (came : Came) (old new : Holding D A) : Type 0 where
+  pub stands : Stands hash accepts new
+  pub taken : came_of new ≡ came
+  pub same : IsSameBeside old new

@@ -1,0 +1,151 @@
+//! The blocks that a member is shown, and the note that is owed of one.
+
+ghost use Rattle.std.specs.Prelude.{◌≡◌, ◌&&◌, ◌<◌, ◌-◌, ◌*◌, IfOk, IfSome, IsTrue, max, nat_le};
+ghost use Rattle.std.specs.Option.{option_map};
+ghost use Rattle.cw_types.specs.NoteLaws.{is_storable};
+ghost use Rattle.cw_types.specs.declared.note.Note.{Note as NoteValue};
+ghost use Rattle.cw_rules.specs.Accepted.{first_some};
+ghost use Rattle.cw_rules.specs.Held as held_rule;
+ghost use Rattle.cw_rules.specs.Owed as rule;
+ghost use Rattle.node.specs.Noting.{arrival_owed};
+ghost use Rattle.node.specs.Holding.{came_of, rules_of, shown_under, state_of, whole_under};
+ghost use Rattle.node.specs.Standing.{Stands};
+ghost use Rattle.node.specs.Store.{stored_notes};
+
+use crate::arrival::{Arrival, Shown};
+use crate::holding::Holding;
+use cw_base::{Digest32, Hasher, NoMemory};
+use cw_types::laws::commitment_fits;
+use cw_types::{Application, ChainBlock, Commitment, Note};
+use node_disk::Disk;
+use shards::shown_by_kept;
+use std::alloc::Global;
+
+impl<H: Hasher<Digest = Digest32>, D: Disk, A: Application> Holding<H, D, A> {
+    // The block that came whole under a commitment.
+    fn whole(&self, commitment: &Commitment) -> Option<&ChainBlock>
+        requires { Stands H.digest_of A.accepts self.now }
+        ensures { option_map (λ block. block.now) result
+            ≡ first_some (held_rule.whole_of (rules_of H.digest_of A.accepts self.now)
+            commitment.now) (came_of self.now).parts }
+    {
+        whole_in(self.arrivals.as_slice(), commitment)
+    }
+
+    // The block as which a commitment is shown.
+    fn shown(&self, commitment: &Commitment) -> Option<&ChainBlock>
+        requires { Stands H.digest_of A.accepts self.now }
+        ensures { option_map (λ block. block.now) result
+            ≡ held_rule.shown (rules_of H.digest_of A.accepts self.now) (came_of self.now)
+            commitment.now }
+    {
+        shown_by_kept();
+        commitment_fits(*commitment);
+        match self.whole(commitment) {
+            Some(block) => Some(block),
+            None => shown_in(self.shown.as_slice(), commitment),
+        }
+    }
+
+    // Whether the height isn't below what was given up.
+    fn is_kept(&self, height: u64) -> bool
+        ensures { result ≡ nat_le
+            (max (held_rule.greatest_floor (stored_notes self.now.store))
+            (held_rule.greatest_prune (stored_notes self.now.store))) height }
+    {
+        let floor = self.store.greatest_floor().unwrap_or(0);
+        let prune = self.store.greatest_prune().unwrap_or(0);
+        floor.max(prune) <= height
+    }
+
+    // The block of which a note is owed under a commitment.
+    fn unnoted(&self, commitment: &Commitment) -> Option<&ChainBlock>
+        requires { Stands H.digest_of A.accepts self.now }
+        ensures { option_map (λ block. NoteValue.Block commitment.now block.now) result
+            ≡ rule.block_owed (rules_of H.digest_of A.accepts self.now) (state_of self.now)
+            commitment.now }
+    {
+        match self.shown(commitment) {
+            Some(block) => {
+                if !self.store.has_block(commitment) && self.is_kept(block.height()) {
+                    Some(block)
+                } else {
+                    None
+                }
+            }
+            None => None,
+        }
+    }
+
+    // The first of these under which a note of a block is owed, with the block.
+    fn first_unnoted<'a>(&'a self, arrivals: &'a [Arrival]) -> Option<(Commitment, &'a ChainBlock)>
+        requires { Stands H.digest_of A.accepts self.now }
+        ensures { option_map (λ found. NoteValue.Block found.0 found.1.now) result
+            ≡ first_some (arrival_owed (rules_of H.digest_of A.accepts self.now)
+            (state_of self.now)) arrivals.now }
+    {
+        for arrival in arrivals {
+            if let Some(block) = self.unnoted(&arrival.commitment) {
+                return Some((arrival.commitment, block));
+            }
+        }
+        None
+    }
+
+    // 1. A block that is shown, isn't noted and isn't below what was given up.
+    pub(crate) fn owed_block(&self, alloc: Global) -> Result<Option<Note>, NoMemory>
+        requires { Stands H.digest_of A.accepts self.now }
+        ensures value { IfOk result
+            (λ note. note ≡ first_some
+            (arrival_owed (rules_of H.digest_of A.accepts self.now) (state_of self.now))
+            self.now.arrivals) }
+        ensures storable { IfOk result (λ note. IfSome note (λ note. IsTrue (is_storable note))) }
+    {
+        match self.first_unnoted(self.arrivals.as_slice()) {
+            Some((commitment, block)) => Ok(Some(Note::Block(commitment, block.copy(alloc)?))),
+            None => Ok(None),
+        }
+    }
+}
+
+// The block of an arrival, where it came whole under that commitment.
+fn whole_of<'a>(arrival: &'a Arrival, commitment: &Commitment) -> Option<&'a ChainBlock>
+    ensures { option_map (λ block. block.now) result ≡ whole_under commitment.now arrival.now }
+{
+    match &arrival.block {
+        Some(block) => {
+            if arrival.commitment.is_same(commitment) {
+                Some(block)
+            } else {
+                None
+            }
+        }
+        None => None,
+    }
+}
+
+// The first of these that came whole under a commitment.
+fn whole_in<'a>(arrivals: &'a [Arrival], commitment: &Commitment) -> Option<&'a ChainBlock>
+    ensures { option_map (λ block. block.now) result
+        ≡ first_some (whole_under commitment.now) arrivals.now }
+{
+    for arrival in arrivals {
+        if let Some(block) = whole_of(arrival, commitment) {
+            return Some(block);
+        }
+    }
+    None
+}
+
+// The first of these that was shown under a commitment.
+fn shown_in<'a>(shown: &'a [Shown], commitment: &Commitment) -> Option<&'a ChainBlock>
+    ensures { option_map (λ block. block.now) result
+        ≡ first_some (shown_under commitment.now) shown.now }
+{
+    for one in shown {
+        if commitment.is_same(&one.commitment) {
+            return Some(&one.block);
+        }
+    }
+    None
+}

@@ -1,0 +1,23 @@
+//! One member of a cluster, step by step, by the full rules.
+#![tactic(auto)]
+
+mod accept;
+mod act;
+mod answers;
+mod arrival;
+mod blocks;
+mod direct;
+mod fits;
+mod holding;
+mod laws;
+mod missing;
+mod node;
+mod owed;
+mod sends;
+mod start;
+mod store;
+mod write;
+
+pub use arrival::{Arrival, Shown};
+pub use laws::life_laws;
+pub use node::{Node, NodeError};
