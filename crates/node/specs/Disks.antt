@@ -10,8 +10,8 @@ use Rattle.node_disk.specs.declared.log.StoreError.{StoreError}
 use Rattle.node_disk.specs.declared.log.StoreError.TheVariants as store
 
 -- A start that found these frames of notes on this disk: a crash at any moment of it left what
--- could be left before, or
--- bytes on which a start finds the same; and the device calls are those of the start of a log.
+-- could be left before, or bytes on which a start finds the same; and the device calls are those of
+-- the start of a log.
 pub record HasFound {D : Type 0} (state : D → DiskState) (continues : D → D → Type 0)
     (frames : List (List Note)) (old new : D) : Type 0 where
   pub found : FindsNotes frames (state old).now.seen
@@ -21,10 +21,8 @@ pub record HasFound {D : Type 0} (state : D → DiskState) (continues : D → D 
   pub goes_on : continues old new
 
 -- A start on this disk that was refused, and what it hands back: a crash at any moment of it left
--- what could be left
--- before, or bytes on which a start finds the same; it is foreign where the bytes aren't frames of
--- notes, and stays so;
--- and a fault is told only where the disk counted it.
+-- what could be left before, or bytes on which a start finds the same; it is foreign where the
+-- bytes aren't frames of notes, and stays so; and a fault is told only where the disk counted it.
 pub record WasRefused {D : Type 0} (state : D → DiskState) (continues : D → D → Type 0)
     (error : StoreError) (old new : D) : Type 0 where
   pub any_moment : LeavesOnly (state old) (state new) (IsBeforeOrFound (state old).now)
@@ -37,12 +35,10 @@ pub record WasRefused {D : Type 0} (state : D → DiskState) (continues : D → 
   pub goes_on : continues old new
 
 -- What a call that was to append these notes to these frames did, whatever it answered: a crash at
--- any moment of it left
--- the frames from before it, with these notes as one frame more or without; the device calls were
--- those of one append, up
--- to one that failed, or up to where memory was refused; the notes that were written read back; and
--- a fault is told only
--- where the disk counted it.
+-- any moment of it left the frames from before it, with these notes as one frame more or without;
+-- the device calls were those of one append, up to one that failed, or up to where memory was
+-- refused; the notes that were written read back; and a fault is told only where the disk counted
+-- it.
 pub record HasTried {D : Type 0} {X : Type 0} (state : D → DiskState) (continues : D → D → Type 0)
     (frames : List (List Note)) (notes : List Note) (result : Result X StoreError)
     (old new : LogState D) : Type 0 where

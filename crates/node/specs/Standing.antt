@@ -12,9 +12,8 @@ use Rattle.voter.specs.Standing as voter
 use Rattle.node.specs.Holding.{Holding, came_of, count_rows, rules_of, shown_under, state_of}
 
 -- The tally and the chunks that are kept stand for one member, whose notes are those of the store;
--- each arrival has the
--- commitment of its part, and as many chunks came as are kept; and what chunks showed is what those
--- that are kept show.
+-- each arrival has the commitment of its part, and as many chunks came as are kept; and what chunks
+-- showed is what those that are kept show.
 pub record Stands {D A : Type 0} (hash : List ℕ → Digest32) (accepts : A → Block → Block → Bool)
     (h : Holding D A) : Type 0 where
   pub epochs : h.store.epochs ≡ h.epochs

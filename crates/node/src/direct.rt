@@ -147,8 +147,7 @@ impl<H: Hasher<Digest = Digest32>, D: Disk, A: Application> Holding<H, D, A> {
     }
 
     // What the leader of a view proposes over the best parent: that again, where it is the last of
-    // the
-    // epoch, else a new block.
+    // the epoch, else a new block.
     fn proposal_over(
         &self,
         alloc: Global,

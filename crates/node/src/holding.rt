@@ -48,8 +48,8 @@ impl<H: Hasher<Digest = Digest32>, D: Disk, A> Model for Holding<H, D, A> {
 
 impl<H: Hasher<Digest = Digest32>, D: Disk, A: Application> Holding<H, D, A> {
     /// A law, of what every node holds: its log is that of its frames, which read back; and unless
-    /// the
-    /// disk is in doubt it is at rest, so that a crash where no device is called leaves the frames.
+    /// the disk is in doubt it is at rest, so that a crash where no device is called leaves the
+    /// frames.
     pub(crate) fn rests(&self)
         ensures running { self.now.log.failed ≡ self.now.store.failed }
         ensures frames { self.now.log.frames ≡ map frame_bytes self.now.store.frames }

@@ -14,14 +14,11 @@ ghost use Rattle.node.specs.Lives.{GoUp, Life, Turn, VotesOnce, after_lives, sin
 use cw_rules::member_laws;
 
 /// What holds of a member over any lives, each from a start to a crash. A node goes by the rules'
-/// start
-/// and steps, and a crash leaves all of a step's notes or none, so its disk holds the frames after
-/// some
-/// lives.
+/// start and steps, and a crash leaves all of a step's notes or none, so its disk holds the frames
+/// after some lives.
 pub fn life_laws()
     // where its first disk held no two votes to notarize of one epoch and view, and no votes to
-    // nullify
-    // a view and to finalize in it, no later disk does
+    // nullify a view and to finalize in it, no later disk does
     ensures own_votes { (id : ℕ) (frames : List (List Note)) (lives : List Life)
         → AllByRecursion (λ (life : Life). IsRising life.rules) lives
         → VotesOnce (join_frames frames) → VotesOnce (join_frames (after_lives id frames lives)) }

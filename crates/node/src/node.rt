@@ -70,11 +70,9 @@ fn copies(
 
 impl<H: Hasher<Digest = Digest32>, D: Disk, A: Application + Drop> Node<H, D, A> {
     /// Starts a member on a disk: the notes of its last frame send again what they sent, each
-    /// missing
-    /// block is asked for, and what can be is handed out. Refused, it hands the disk back:
-    /// `Foreign`
-    /// where its bytes aren't frames of notes, `Disk` where the disk failed, else for want of
-    /// memory.
+    /// missing block is asked for, and what can be is handed out. Refused, it hands the disk back:
+    /// `Foreign` where its bytes aren't frames of notes, `Disk` where the disk failed, else for
+    /// want of memory.
     pub fn start<R: Threads + Sync, S: Strategy>(
         rt: &R,
         alloc: Global,
@@ -136,11 +134,9 @@ impl<H: Hasher<Digest = Digest32>, D: Disk, A: Application + Drop> Node<H, D, A>
     }
 
     /// Takes an event: accepts, notes, sends and hands out as the rules say. The notes of the step
-    /// lie
-    /// on the disk before it answers. Where the disk or memory fails, this and each later step are
-    /// refused until the node is started again on its disk; the disk then has the notes of the
-    /// steps
-    /// before, with all or none of this one's.
+    /// lie on the disk before it answers. Where the disk or memory fails, this and each later step
+    /// are refused until the node is started again on its disk; the disk then has the notes of the
+    /// steps before, with all or none of this one's.
     pub fn step<R: Threads + Sync, V: Verifier, S: Strategy>(
         &mut self,
         rt: &R,
@@ -195,8 +191,7 @@ impl<H: Hasher<Digest = Digest32>, D: Disk, A: Application + Drop> Node<H, D, A>
     }
 
     /// Its marshal, which answers from its notes. Once a step was refused, some of that step's may
-    /// be
-    /// staged in it.
+    /// be staged in it.
     pub fn marshal(&self) -> &Marshal<H, D>
         ensures value { self.now.member.live ≡ true → IsMarshalOf self.now result.now }
     {

@@ -123,8 +123,7 @@ impl<H: Hasher<Digest = Digest32>, D: Disk, A: Application + Drop> Holding<H, D,
     }
 
     /// What a node holds over a store that was started: its tally knows the notes. Where memory is
-    /// short
-    /// it hands the disk back.
+    /// short it hands the disk back.
     pub(crate) fn begin(
         setup: Setup<A>,
         alloc: Global,

@@ -27,8 +27,7 @@ use node_disk::{Disk, StoreError};
 use std::alloc::Global;
 
 /// The marshal of a node, as the node knows it: by the member's notes and what was handed out since
-/// the
-/// start. Each call is the marshal's own.
+/// the start. Each call is the marshal's own.
 #[derive(Drop)]
 pub(crate) struct Store<H: Hasher<Digest = Digest32>, D: Disk> {
     pub(crate) marshal: Marshal<H, D>,
@@ -68,8 +67,7 @@ impl<H: Hasher<Digest = Digest32>, D: Disk> Store<H, D> {
     }
 
     /// A law, of every store: its log is that of its frames, which read back; and unless the disk
-    /// is in
-    /// doubt it is at rest, so that a crash where no device is called leaves the frames.
+    /// is in doubt it is at rest, so that a crash where no device is called leaves the frames.
     pub(crate) fn rests(&self)
         ensures running { (log_of self.now.marshal).failed ≡ (store_of self.now.marshal).failed }
         ensures frames { (log_of self.now.marshal).frames
