@@ -8,6 +8,6 @@ mod coding;
 #[cfg(test)]
 mod gate;
 #[cfg(test)]
-mod shards;
+mod shards_tests;
 #[cfg(test)]
-mod voter;
+mod voter_tests;

@@ -3,7 +3,7 @@ use Rattle.cw_types.specs.Epochs.{Epochs, single}
 use Rattle.cw_types.specs.declared.vote.Cert.{Cert}
 use Rattle.cw_types.specs.declared.vote.Vote.TheVariants.{Nullify}
 use Rattle.voter.specs.Standing.{are_signers}
-use Rattle.cw_tests.proofs.voter.take_cert.Goals as goal
+use Rattle.cw_tests.proofs.voter_tests.take_cert.Goals as goal
 
 -- members 1, 2 and 3 of a cluster of four may sign
 three_sign : (x : Epochs) (c : Cert) → x ≡ single 4 → c ≡ record { vote = Nullify 0 1; signers = 1 ∷ 2 ∷ 3 ∷ [] } → are_signers x c.vote c.signers ≡ true
