@@ -3,9 +3,9 @@
 mod blocks;
 mod store;
 
-use blocks::{Made, block_in, chain, disk_of, finalization};
-use cw_base::{Sha256, SumHasher};
-use cw_types::{Commitment, Height, Note, Vote, genesis, genesis_commitment};
+use blocks::{Made, at, block_in, chain, disk_of, finalization};
+use cw_base::SumHasher;
+use cw_types::{Height, Note, Vote, genesis, genesis_commitment};
 use marshal::{Identifier, MarshalError, notes_on};
 use node_disk::{MemoryDisk, StoreError};
 use std::alloc::Global;
@@ -378,7 +378,7 @@ fn get_block_by_height_and_latest(rt: HostRuntime) -> Result<(), Fail> {
     }
     assert_eq!(rt;
         store.get().get_block(Identifier::Latest),
-        Some(&blocks[2].block)
+        Some(&at(&blocks, 2)?.block)
     );
     assert_eq!(rt;
         store.get().get_block(Identifier::Height(4)).is_none(),
@@ -392,13 +392,11 @@ fn get_block_by_commitment_from_sources_and_missing(rt: HostRuntime) -> Result<(
     let alloc = rt.alloc();
     let blocks = chain(&rt, alloc, 1, 3)?;
     let mut store = Store::new(alloc, 3)?;
-    store.verify(&rt, &blocks[0])?;
-    store.certify(&rt, &blocks[1], 2)?;
-    assert_eq!(rt;
-        (store.has(&blocks[0]), store.has(&blocks[1])),
-        (true, true)
-    );
-    assert_eq!(rt; store.has(&blocks[2]), false);
+    store.verify(&rt, at(&blocks, 0)?)?;
+    store.certify(&rt, at(&blocks, 1)?, 2)?;
+    for (place, found) in [(0, true), (1, true), (2, false)] {
+        assert_eq!(rt; store.has(at(&blocks, place)?), found, "at {place}");
+    }
     Ok(())
 }
 
@@ -432,17 +430,18 @@ fn a_floor_jumps_over_heights(rt: HostRuntime) -> Result<(), Fail> {
     let alloc = rt.alloc();
     let blocks = chain(&rt, alloc, 100, 160)?;
     let mut store = Store::new(alloc, 100)?;
-    let floor = finalization(alloc, &blocks[0], 100)?;
+    let floor = finalization(alloc, at(&blocks, 0)?, 100)?;
     assert_eq!(rt; store.deliver(alloc)?.as_slice(), [0].as_slice());
     assert_eq!(rt; store.set_floor(&floor)?, false);
     assert_eq!(rt; store.get().greatest_floor(), None);
-    store.report(&finalization(alloc, &blocks[60], 160)?)?;
+    store.report(&finalization(alloc, at(&blocks, 60)?, 160)?)?;
     for made in &blocks {
         assert_eq!(rt; store.verify(&rt, made)?, true);
     }
     assert_eq!(rt; store.get().greatest_floor(), Some(Height::new(100)));
     let heights = store.deliver(alloc)?;
-    assert_eq!(rt; (heights.len(), heights[0], heights[60]), (61, 100, 160));
+    assert_eq!(rt; (heights.first(), heights.last()), (Some(&100), Some(&160)));
+    assert_eq!(rt; heights.len(), 61);
     for height in 1..100 {
         assert_eq!(rt;
             store.get().get_block(Identifier::Height(height)).is_none(),
@@ -483,7 +482,10 @@ fn pruned_blocks_are_gone(rt: HostRuntime) -> Result<(), Fail> {
     }
     store = store.restart(alloc, 4)?;
     assert_eq!(rt;
-        (count_final(&store, &blocks), store.is_final(&blocks[19])),
+        (
+            count_final(&store, &blocks),
+            store.is_final(at(&blocks, 19)?)
+        ),
         (1, true)
     );
     assert_eq!(rt; store.get().get_processed(), Some(Height::new(20)));
@@ -497,7 +499,7 @@ fn ancestry_goes_down_to_genesis(rt: HostRuntime) -> Result<(), Fail> {
     let mut store = Store::new(alloc, 3)?;
     grow(&rt, alloc, &mut store, &blocks)?;
     let mut heights = Vec::new(alloc);
-    for block in store.get().ancestry(&blocks[4].commitment) {
+    for block in store.get().ancestry(&at(&blocks, 4)?.commitment) {
         heights.push(block.height())?;
     }
     assert_eq!(rt; heights.as_slice(), [5, 4, 3, 2, 1, 0].as_slice());
@@ -524,25 +526,18 @@ fn subscribe_basic_block_delivery(rt: HostRuntime) -> Result<(), Fail> {
 fn subscribe_multiple_subscriptions(rt: HostRuntime) -> Result<(), Fail> {
     let alloc = rt.alloc();
     let blocks = chain(&rt, alloc, 1, 2)?;
-    let (one, two) = (blocks[0].commitment, blocks[1].commitment);
+    let (one, two) = (at(&blocks, 0)?, at(&blocks, 1)?);
     let mut store = Store::new(alloc, 3)?;
-    assert_eq!(rt;
-        (
-            store.watch_digest(&blocks[0])?,
-            store.watch_digest(&blocks[1])?
-        ),
-        (0, 1)
-    );
-    assert_eq!(rt; store.watch_commitment(&blocks[0])?, 2);
-    store.verify(&rt, &blocks[0])?;
+    assert_eq!(rt; store.watch_digest(one)?, 0);
+    assert_eq!(rt; store.watch_digest(two)?, 1);
+    assert_eq!(rt; store.watch_commitment(one)?, 2);
+    store.verify(&rt, one)?;
+    let served = [(0, one.commitment), (2, one.commitment)];
+    assert_eq!(rt; store.take_tickets(alloc)?.as_slice(), served.as_slice());
+    store.verify(&rt, two)?;
     assert_eq!(rt;
         store.take_tickets(alloc)?.as_slice(),
-        [(0, one), (2, one)].as_slice()
-    );
-    store.verify(&rt, &blocks[1])?;
-    assert_eq!(rt;
-        store.take_tickets(alloc)?.as_slice(),
-        [(1, two)].as_slice()
+        [(1, two.commitment)].as_slice()
     );
     Ok(())
 }
@@ -551,19 +546,15 @@ fn subscribe_multiple_subscriptions(rt: HostRuntime) -> Result<(), Fail> {
 fn subscribe_canceled_subscriptions(rt: HostRuntime) -> Result<(), Fail> {
     let alloc = rt.alloc();
     let blocks = chain(&rt, alloc, 1, 2)?;
+    let (one, two) = (at(&blocks, 0)?, at(&blocks, 1)?);
     let mut store = Store::new(alloc, 3)?;
-    assert_eq!(rt;
-        (
-            store.watch_digest(&blocks[0])?,
-            store.watch_digest(&blocks[1])?
-        ),
-        (0, 1)
-    );
+    assert_eq!(rt; store.watch_digest(one)?, 0);
+    assert_eq!(rt; store.watch_digest(two)?, 1);
     assert_eq!(rt; (store.cancel(1), store.cancel(1)), (true, false));
     grow(&rt, alloc, &mut store, &blocks)?;
     assert_eq!(rt;
         store.take_tickets(alloc)?.as_slice(),
-        [(0, blocks[0].commitment)].as_slice()
+        [(0, one.commitment)].as_slice()
     );
     assert_eq!(rt; store.cancel(0), false);
     Ok(())
@@ -573,13 +564,14 @@ fn subscribe_canceled_subscriptions(rt: HostRuntime) -> Result<(), Fail> {
 fn subscribe_blocks_from_different_sources(rt: HostRuntime) -> Result<(), Fail> {
     let alloc = rt.alloc();
     let blocks = chain(&rt, alloc, 1, 3)?;
+    let (one, three) = (at(&blocks, 0)?, at(&blocks, 2)?);
     let mut store = Store::new(alloc, 3)?;
     for made in &blocks {
         store.watch_commitment(made)?;
     }
-    store.verify(&rt, &blocks[0])?;
-    store.certify(&rt, &blocks[2], 3)?;
-    let served = [(0, blocks[0].commitment), (2, blocks[2].commitment)];
+    store.verify(&rt, one)?;
+    store.certify(&rt, three, 3)?;
+    let served = [(0, one.commitment), (2, three.commitment)];
     assert_eq!(rt; store.take_tickets(alloc)?.as_slice(), served.as_slice());
     Ok(())
 }

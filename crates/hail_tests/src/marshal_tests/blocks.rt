@@ -53,12 +53,20 @@ pub(crate) fn chain<R: Threads + Sync>(
 ) -> Result<Vec<Made>, Fail> {
     let mut blocks = Vec::new(alloc);
     let mut below = genesis_commitment::<SumHasher>();
-    for height in first..last + 1 {
-        let made = block_in(rt, alloc, height, height, &below, height as u8)?;
+    for height in first..=last {
+        let made = block_in(rt, alloc, height, height, &below, (height % 256) as u8)?;
         below = made.commitment;
         blocks.push(made)?;
     }
     Ok(blocks)
+}
+
+/// The block at a place of a chain.
+pub(crate) fn at(blocks: &[Made], place: usize) -> Result<&Made, Fail> {
+    match blocks.get(place) {
+        Some(made) => Ok(made),
+        None => Err("a block at that place".into()),
+    }
 }
 
 /// The finalization of a block in a view, by members 0, 1 and 2.

@@ -1,6 +1,8 @@
 //! A store with nothing staged, as a user of the writing calls has it.
 
-ghost use Rattle.std.specs.Prelude.{◌≡◌, []};
+ghost use Rattle.std.specs.Prelude.{◌≡◌, [], IfOk};
+ghost use Rattle.cw_types.specs.NoteLaws as note_laws;
+ghost use Rattle.cw_types.specs.declared.note.Note.{Note};
 
 use super::blocks::Made;
 use cw_base::{Sequential, SumHasher};
@@ -67,7 +69,7 @@ impl Store {
 
     /// Notes a certificate.
     pub(crate) fn report(&mut self, cert: &Cert) -> Result<bool, Fail> {
-        if !well_formed(&cert.vote) || cert.signers.len() > 65535 {
+        if !is_storable(cert) {
             return Err("a certificate that can be noted".into());
         }
         Ok(self.marshal.report(cert)?)
@@ -75,7 +77,7 @@ impl Store {
 
     /// Asks for a floor.
     pub(crate) fn set_floor(&mut self, cert: &Cert) -> Result<bool, Fail> {
-        if !well_formed(&cert.vote) || cert.signers.len() > 65535 {
+        if !is_storable(cert) {
             return Err("a certificate that can be noted".into());
         }
         match cert.vote {
@@ -151,12 +153,21 @@ impl Store {
     }
 }
 
+// Whether a certificate has a form on the disk.
+fn is_storable(cert: &Cert) -> bool
+    ensures { result ≡ note_laws.is_storable (Note.Cert cert.now) }
+{
+    well_formed(&cert.vote) && cert.signers.len() < 65536
+}
+
 /// What a start answers on a disk.
 pub(crate) fn open(
     alloc: Global,
     backlog: u64,
     disk: MemoryDisk,
-) -> Result<Result<Marshal<SumHasher, MemoryDisk>, MarshalError>, Fail> {
+) -> Result<Result<Marshal<SumHasher, MemoryDisk>, MarshalError>, Fail>
+    ensures { IfOk result (λ started. IfOk started (λ marshal. marshal.staged ≡ [])) }
+{
     if backlog == 0 {
         return Err("a backlog".into());
     }
