@@ -1,17 +1,23 @@
 //! Tests of a store: its disk, the contracts of the harness, and the worked rows.
 
 mod blocks;
+mod calls;
 mod store;
 
-use blocks::{Made, at, block_in, chain, disk_of, finalization};
+use blocks::{block_in, chain, disk_of, rivals};
+use calls::StoreCall::{
+    Acknowledge, Ancestry, At, Cancel, Certify, Deliver, Final, Finalization, Floor, Has, Latest,
+    Of, Process, Prune, Report, ReportTo, Restart, SetFloor, Tickets, Verify, VerifyTo,
+    WatchCommitment, WatchDigest,
+};
+use calls::first_wrong;
 use cw_base::SumHasher;
-use cw_types::{Height, Note, Vote, genesis, genesis_commitment};
-use marshal::{Identifier, MarshalError, notes_on};
+use cw_types::{Note, Vote, genesis_commitment};
+use marshal::{MarshalError, notes_on};
 use node_disk::{MemoryDisk, StoreError};
 use std::alloc::Global;
 use std::test::Fail;
-use std::thread::Threads;
-use store::{Store, open};
+use store::open;
 
 // The disk after a step that notes a Nullify vote of view 1.
 const ONE_NOTE: [u8; 20] = [1, 0, 0, 0, 0, 0, 0, 0, 10, 3, 1, 0, 0, 0, 0, 0, 0, 0, 1, 0];
@@ -181,34 +187,18 @@ fn a_stop_leaves_the_frame_or_none(rt: HostRuntime) -> Result<(), Fail> {
     Ok(())
 }
 
-// Verifies and finalizes blocks, each in the view of its height.
-fn grow<R: Threads + Sync>(
-    rt: &R,
-    alloc: Global,
-    store: &mut Store,
-    blocks: &[Made],
-) -> Result<(), Fail> {
-    for made in blocks {
-        store.verify(rt, made)?;
-        store.report(&finalization(alloc, made, made.block.context().view)?)?;
-    }
-    Ok(())
-}
-
-// How many of the blocks are at their heights.
-fn count_final(store: &Store, blocks: &[Made]) -> usize {
-    blocks.iter().filter(|made| store.is_final(made)).count()
-}
-
 #[test]
 fn proposed_success_implies_recoverable_after_restart(rt: HostRuntime) -> Result<(), Fail> {
     let alloc = rt.alloc();
-    let mut store = Store::new(alloc, 3)?;
-    let made = block_in(&rt, alloc, 1, 1, &genesis_commitment::<SumHasher>(), 7)?;
-    assert_eq!(rt; store.has(&made), false);
-    assert_eq!(rt; store.verify(&rt, &made)?, true);
-    assert_eq!(rt; store.has(&made), true);
-    assert_eq!(rt; store.restart(alloc, 3)?.has(&made), true);
+    let blocks = chain(&rt, alloc, 1, 1)?;
+    let table = [
+        (Has(1), "false"),
+        (Verify(1), "true"),
+        (Has(1), "true"),
+        (Restart, "None"),
+        (Has(1), "true"),
+    ];
+    assert_eq!(rt; first_wrong(&rt, alloc, 3, &blocks, &table)?, None);
     Ok(())
 }
 
@@ -216,12 +206,18 @@ fn proposed_success_implies_recoverable_after_restart(rt: HostRuntime) -> Result
 fn verified_success_implies_recoverable_after_restart(rt: HostRuntime) -> Result<(), Fail> {
     let alloc = rt.alloc();
     let blocks = chain(&rt, alloc, 1, 3)?;
-    let mut store = Store::new(alloc, 3)?;
-    for made in &blocks {
-        assert_eq!(rt; store.verify(&rt, made)?, true);
-        store = store.restart(alloc, 3)?;
-        assert_eq!(rt; store.has(made), true);
-    }
+    let table = [
+        (Verify(1), "true"),
+        (Restart, "None"),
+        (Has(1), "true"),
+        (Verify(2), "true"),
+        (Restart, "None"),
+        (Has(2), "true"),
+        (Verify(3), "true"),
+        (Restart, "None"),
+        (Has(3), "true"),
+    ];
+    assert_eq!(rt; first_wrong(&rt, alloc, 3, &blocks, &table)?, None);
     Ok(())
 }
 
@@ -229,12 +225,18 @@ fn verified_success_implies_recoverable_after_restart(rt: HostRuntime) -> Result
 fn certified_success_implies_recoverable_after_restart(rt: HostRuntime) -> Result<(), Fail> {
     let alloc = rt.alloc();
     let blocks = chain(&rt, alloc, 1, 3)?;
-    let mut store = Store::new(alloc, 3)?;
-    for made in &blocks {
-        assert_eq!(rt; store.certify(&rt, made, 5)?, true);
-        store = store.restart(alloc, 3)?;
-        assert_eq!(rt; store.has(made), true);
-    }
+    let table = [
+        (Certify(1, 5), "true"),
+        (Restart, "None"),
+        (Has(1), "true"),
+        (Certify(2, 5), "true"),
+        (Restart, "None"),
+        (Has(2), "true"),
+        (Certify(3, 5), "true"),
+        (Restart, "None"),
+        (Has(3), "true"),
+    ];
+    assert_eq!(rt; first_wrong(&rt, alloc, 3, &blocks, &table)?, None);
     Ok(())
 }
 
@@ -243,15 +245,21 @@ fn verified_after_restart_reverify_same_round_implies_recoverable(
     rt: HostRuntime,
 ) -> Result<(), Fail> {
     let alloc = rt.alloc();
-    let genesis = genesis_commitment::<SumHasher>();
-    let first = block_in(&rt, alloc, 1, 1, &genesis, 7)?;
-    let second = block_in(&rt, alloc, 1, 1, &genesis, 8)?;
-    let mut store = Store::new(alloc, 3)?;
-    for made in [&first, &second, &first] {
-        assert_eq!(rt; store.verify(&rt, made)?, true);
-        store = store.restart(alloc, 3)?;
-        assert_eq!(rt; (store.has(made), store.has(&first)), (true, true));
-    }
+    let blocks = rivals(&rt, alloc)?;
+    let table = [
+        (Verify(1), "true"),
+        (Restart, "None"),
+        (Has(1), "true"),
+        (Verify(2), "true"),
+        (Restart, "None"),
+        (Has(2), "true"),
+        (Has(1), "true"),
+        (Verify(1), "true"),
+        (Restart, "None"),
+        (Has(1), "true"),
+        (Has(2), "true"),
+    ];
+    assert_eq!(rt; first_wrong(&rt, alloc, 3, &blocks, &table)?, None);
     Ok(())
 }
 
@@ -260,15 +268,16 @@ fn certify_after_restart_reverify_same_round_implies_recoverable(
     rt: HostRuntime,
 ) -> Result<(), Fail> {
     let alloc = rt.alloc();
-    let genesis = genesis_commitment::<SumHasher>();
-    let verified = block_in(&rt, alloc, 1, 1, &genesis, 7)?;
-    let certified = block_in(&rt, alloc, 1, 1, &genesis, 8)?;
-    let mut store = Store::new(alloc, 3)?;
-    store.verify(&rt, &verified)?;
-    store = store.restart(alloc, 3)?;
-    store.certify(&rt, &certified, 1)?;
-    store = store.restart(alloc, 3)?;
-    assert_eq!(rt; (store.has(&verified), store.has(&certified)), (true, true));
+    let blocks = rivals(&rt, alloc)?;
+    let table = [
+        (Verify(1), "true"),
+        (Restart, "None"),
+        (Certify(2, 1), "true"),
+        (Restart, "None"),
+        (Has(1), "true"),
+        (Has(2), "true"),
+    ];
+    assert_eq!(rt; first_wrong(&rt, alloc, 3, &blocks, &table)?, None);
     Ok(())
 }
 
@@ -276,88 +285,82 @@ fn certify_after_restart_reverify_same_round_implies_recoverable(
 fn delivery_visibility_implies_recoverable_after_restart(rt: HostRuntime) -> Result<(), Fail> {
     let alloc = rt.alloc();
     let blocks = chain(&rt, alloc, 1, 5)?;
-    let mut store = Store::new(alloc, 10)?;
-    grow(&rt, alloc, &mut store, &blocks)?;
-    let heights = store.deliver(alloc)?;
-    assert_eq!(rt; heights.as_slice(), [0, 1, 2, 3, 4, 5].as_slice());
-    store = store.restart(alloc, 10)?;
-    assert_eq!(rt; count_final(&store, &blocks), 5);
+    let table = [
+        (VerifyTo(5), "5"),
+        (ReportTo(5), "5"),
+        (Deliver, "[0, 1, 2, 3, 4, 5]"),
+        (Restart, "None"),
+        (Final, "5"),
+    ];
+    assert_eq!(rt; first_wrong(&rt, alloc, 10, &blocks, &table)?, None);
     Ok(())
-}
-
-// Hands out these heights and acknowledges the least pending one.
-fn step(
-    alloc: Global,
-    store: &mut Store,
-    heights: &[u64],
-    acked: Option<u64>,
-) -> Result<bool, Fail> {
-    Ok(store.deliver(alloc)?.as_slice() == heights && store.acknowledge()? == acked)
 }
 
 #[test]
 fn ack_pipeline_backlog_persists_on_restart(rt: HostRuntime) -> Result<(), Fail> {
     let alloc = rt.alloc();
     let blocks = chain(&rt, alloc, 1, 5)?;
-    let mut store = Store::new(alloc, 3)?;
-    assert_eq!(rt; step(alloc, &mut store, &[0], Some(0))?, true);
-    grow(&rt, alloc, &mut store, &blocks)?;
-    assert_eq!(rt; step(alloc, &mut store, &[1, 2, 3], Some(1))?, true);
-    assert_eq!(rt; step(alloc, &mut store, &[4], Some(2))?, true);
-    assert_eq!(rt; step(alloc, &mut store, &[5], Some(3))?, true);
-    store = store.restart(alloc, 3)?;
-    assert_eq!(rt; store.get().get_processed(), Some(Height::new(3)));
-    assert_eq!(rt; step(alloc, &mut store, &[4, 5], Some(4))?, true);
-    assert_eq!(rt; step(alloc, &mut store, &[], Some(5))?, true);
-    assert_eq!(rt; step(alloc, &mut store, &[], None)?, true);
+    let table = [
+        (Deliver, "[0]"),
+        (Acknowledge, "Some(0)"),
+        (VerifyTo(5), "5"),
+        (ReportTo(5), "5"),
+        (Deliver, "[1, 2, 3]"),
+        (Acknowledge, "Some(1)"),
+        (Deliver, "[4]"),
+        (Acknowledge, "Some(2)"),
+        (Deliver, "[5]"),
+        (Acknowledge, "Some(3)"),
+        (Restart, "Some(3)"),
+        (Deliver, "[4, 5]"),
+        (Acknowledge, "Some(4)"),
+        (Deliver, "[]"),
+        (Acknowledge, "Some(5)"),
+        (Acknowledge, "None"),
+    ];
+    assert_eq!(rt; first_wrong(&rt, alloc, 3, &blocks, &table)?, None);
     Ok(())
 }
 
 #[test]
 fn get_info_basic_queries_present_and_missing(rt: HostRuntime) -> Result<(), Fail> {
     let alloc = rt.alloc();
-    let first = genesis_commitment::<SumHasher>();
-    let made = block_in(&rt, alloc, 1, 1, &first, 7)?;
-    let mut store = Store::new(alloc, 3)?;
-    let genesis = Some((Height::new(0), first.block));
-    assert_eq!(rt; store.get().get_info(Identifier::Latest), None);
-    assert_eq!(rt; store.get().get_info(Identifier::Height(0)), genesis);
-    assert_eq!(rt;
-        store.get().get_info(Identifier::Digest(first.block)),
-        genesis
-    );
-    assert_eq!(rt; store.get().get_info(Identifier::Height(1)), None);
-    assert_eq!(rt;
-        store
-            .get()
-            .get_info(Identifier::Digest(made.commitment.block)),
-        None
-    );
-    store.verify(&rt, &made)?;
-    let block = Some((Height::new(1), made.commitment.block));
-    assert_eq!(rt;
-        store
-            .get()
-            .get_info(Identifier::Digest(made.commitment.block)),
-        block
-    );
-    assert_eq!(rt; store.get().get_info(Identifier::Height(1)), None);
-    store.report(&finalization(alloc, &made, 1)?)?;
-    assert_eq!(rt; store.get().get_info(Identifier::Height(1)), block);
+    let blocks = chain(&rt, alloc, 1, 1)?;
+    let table = [
+        (Latest, "None"),
+        (At(0), "Some(0)"),
+        (Of(0), "Some(0)"),
+        (At(1), "None"),
+        (Of(1), "None"),
+        (Verify(1), "true"),
+        (Of(1), "Some(1)"),
+        (At(1), "None"),
+        (Report(1, 1), "true"),
+        (At(1), "Some(1)"),
+    ];
+    assert_eq!(rt; first_wrong(&rt, alloc, 3, &blocks, &table)?, None);
     Ok(())
 }
 
 #[test]
 fn get_info_latest_progression_multiple_finalizations(rt: HostRuntime) -> Result<(), Fail> {
     let alloc = rt.alloc();
-    let mut store = Store::new(alloc, 3)?;
-    for made in &chain(&rt, alloc, 1, 4)? {
-        store.verify(&rt, made)?;
-        let view = made.block.context().view;
-        assert_eq!(rt; store.report(&finalization(alloc, made, view)?)?, true);
-        let latest = Some((Height::new(made.block.height()), made.commitment.block));
-        assert_eq!(rt; store.get().get_info(Identifier::Latest), latest);
-    }
+    let blocks = chain(&rt, alloc, 1, 4)?;
+    let table = [
+        (Verify(1), "true"),
+        (Report(1, 1), "true"),
+        (Latest, "Some(1)"),
+        (Verify(2), "true"),
+        (Report(2, 2), "true"),
+        (Latest, "Some(2)"),
+        (Verify(3), "true"),
+        (Report(3, 3), "true"),
+        (Latest, "Some(3)"),
+        (Verify(4), "true"),
+        (Report(4, 4), "true"),
+        (Latest, "Some(4)"),
+    ];
+    assert_eq!(rt; first_wrong(&rt, alloc, 3, &blocks, &table)?, None);
     Ok(())
 }
 
@@ -365,25 +368,18 @@ fn get_info_latest_progression_multiple_finalizations(rt: HostRuntime) -> Result
 fn get_block_by_height_and_latest(rt: HostRuntime) -> Result<(), Fail> {
     let alloc = rt.alloc();
     let blocks = chain(&rt, alloc, 1, 3)?;
-    let mut store = Store::new(alloc, 3)?;
-    assert_eq!(rt; store.get().get_block(Identifier::Latest).is_none(), true);
-    assert_eq!(rt;
-        store.get().get_block(Identifier::Height(0)),
-        Some(&genesis::<SumHasher>(alloc))
-    );
-    grow(&rt, alloc, &mut store, &blocks)?;
-    for made in &blocks {
-        let height = Identifier::Height(made.block.height());
-        assert_eq!(rt; store.get().get_block(height), Some(&made.block));
-    }
-    assert_eq!(rt;
-        store.get().get_block(Identifier::Latest),
-        Some(&at(&blocks, 2)?.block)
-    );
-    assert_eq!(rt;
-        store.get().get_block(Identifier::Height(4)).is_none(),
-        true
-    );
+    let table = [
+        (Latest, "None"),
+        (At(0), "Some(0)"),
+        (VerifyTo(3), "3"),
+        (ReportTo(3), "3"),
+        (At(1), "Some(1)"),
+        (At(2), "Some(2)"),
+        (At(3), "Some(3)"),
+        (At(4), "None"),
+        (Latest, "Some(3)"),
+    ];
+    assert_eq!(rt; first_wrong(&rt, alloc, 3, &blocks, &table)?, None);
     Ok(())
 }
 
@@ -391,76 +387,57 @@ fn get_block_by_height_and_latest(rt: HostRuntime) -> Result<(), Fail> {
 fn get_block_by_commitment_from_sources_and_missing(rt: HostRuntime) -> Result<(), Fail> {
     let alloc = rt.alloc();
     let blocks = chain(&rt, alloc, 1, 3)?;
-    let mut store = Store::new(alloc, 3)?;
-    store.verify(&rt, at(&blocks, 0)?)?;
-    store.certify(&rt, at(&blocks, 1)?, 2)?;
-    for (place, found) in [(0, true), (1, true), (2, false)] {
-        assert_eq!(rt; store.has(at(&blocks, place)?), found, "at {place}");
-    }
+    let table = [
+        (Verify(1), "true"),
+        (Certify(2, 2), "true"),
+        (Has(1), "true"),
+        (Has(2), "true"),
+        (Has(3), "false"),
+    ];
+    assert_eq!(rt; first_wrong(&rt, alloc, 3, &blocks, &table)?, None);
     Ok(())
 }
 
+// Of two finalizations of one block the first stays.
 #[test]
 fn a_round_has_a_verified_and_a_certified_block(rt: HostRuntime) -> Result<(), Fail> {
     let alloc = rt.alloc();
-    let first = genesis_commitment::<SumHasher>();
-    let one = block_in(&rt, alloc, 1, 1, &first, 7)?;
-    let two = block_in(&rt, alloc, 1, 1, &first, 8)?;
-    let mut store = Store::new(alloc, 3)?;
-    store.verify(&rt, &one)?;
-    store.certify(&rt, &two, 1)?;
-    assert_eq!(rt; (store.has(&one), store.has(&two)), (true, true));
-    // Of two finalizations of one block the first stays.
-    let early = finalization(alloc, &one, 1)?;
-    let late = finalization(alloc, &one, 2)?;
-    assert_eq!(rt;
-        (
-            store.report(&early)?,
-            store.report(&late)?,
-            store.report(&late)?
-        ),
-        (true, true, false)
-    );
-    assert_eq!(rt; store.get().get_finalization(1), Some(&early));
+    let blocks = rivals(&rt, alloc)?;
+    let table = [
+        (Verify(1), "true"),
+        (Certify(2, 1), "true"),
+        (Has(1), "true"),
+        (Has(2), "true"),
+        (Report(1, 1), "true"),
+        (Report(1, 2), "true"),
+        (Report(1, 2), "false"),
+        (Finalization(1), "Some(1)"),
+    ];
+    assert_eq!(rt; first_wrong(&rt, alloc, 3, &blocks, &table)?, None);
     Ok(())
 }
 
+// Behind the chain from height 100 stands a block of height 5.
 #[test]
 fn a_floor_jumps_over_heights(rt: HostRuntime) -> Result<(), Fail> {
     let alloc = rt.alloc();
-    let blocks = chain(&rt, alloc, 100, 160)?;
-    let mut store = Store::new(alloc, 100)?;
-    let floor = finalization(alloc, at(&blocks, 0)?, 100)?;
-    assert_eq!(rt; store.deliver(alloc)?.as_slice(), [0].as_slice());
-    assert_eq!(rt; store.set_floor(&floor)?, false);
-    assert_eq!(rt; store.get().greatest_floor(), None);
-    store.report(&finalization(alloc, at(&blocks, 60)?, 160)?)?;
-    for made in &blocks {
-        assert_eq!(rt; store.verify(&rt, made)?, true);
-    }
-    assert_eq!(rt; store.get().greatest_floor(), Some(Height::new(100)));
-    let heights = store.deliver(alloc)?;
-    assert_eq!(rt; (heights.first(), heights.last()), (Some(&100), Some(&160)));
-    assert_eq!(rt; heights.len(), 61);
-    for height in 1..100 {
-        assert_eq!(rt;
-            store.get().get_block(Identifier::Height(height)).is_none(),
-            true
-        );
-    }
-    let low = block_in(&rt, alloc, 5, 5, &genesis_commitment::<SumHasher>(), 7)?;
-    assert_eq!(rt; (store.verify(&rt, &low)?, store.has(&low)), (false, false));
-    Ok(())
-}
-
-// Hands out and acknowledges all heights.
-fn process_all(alloc: Global, store: &mut Store) -> Result<(), Fail> {
-    for _ in 0..100 {
-        store.deliver(alloc)?;
-        if store.acknowledge()?.is_none() {
-            return Ok(());
-        }
-    }
+    let mut blocks = chain(&rt, alloc, 100, 104)?;
+    blocks.push(block_in(&rt, alloc, 5, 5, &genesis_commitment::<SumHasher>(), 7)?)?;
+    let table = [
+        (Deliver, "[0]"),
+        (SetFloor(1, 100), "false"),
+        (Floor, "None"),
+        (Report(5, 104), "true"),
+        (VerifyTo(5), "5"),
+        (Floor, "Some(100)"),
+        (Deliver, "[100, 101, 102, 103, 104]"),
+        (At(1), "None"),
+        (At(99), "None"),
+        (At(100), "Some(1)"),
+        (Verify(6), "false"),
+        (Has(6), "false"),
+    ];
+    assert_eq!(rt; first_wrong(&rt, alloc, 100, &blocks, &table)?, None);
     Ok(())
 }
 
@@ -468,27 +445,23 @@ fn process_all(alloc: Global, store: &mut Store) -> Result<(), Fail> {
 fn pruned_blocks_are_gone(rt: HostRuntime) -> Result<(), Fail> {
     let alloc = rt.alloc();
     let blocks = chain(&rt, alloc, 1, 20)?;
-    let mut store = Store::new(alloc, 4)?;
-    grow(&rt, alloc, &mut store, &blocks)?;
-    process_all(alloc, &mut store)?;
-    for (height, done, left) in [
-        (25, false, 20),
-        (10, true, 11),
-        (10, false, 11),
-        (20, true, 1),
-    ] {
-        assert_eq!(rt; store.prune(height)?, done);
-        assert_eq!(rt; count_final(&store, &blocks), left);
-    }
-    store = store.restart(alloc, 4)?;
-    assert_eq!(rt;
-        (
-            count_final(&store, &blocks),
-            store.is_final(at(&blocks, 19)?)
-        ),
-        (1, true)
-    );
-    assert_eq!(rt; store.get().get_processed(), Some(Height::new(20)));
+    let table = [
+        (VerifyTo(20), "20"),
+        (ReportTo(20), "20"),
+        (Process, "21"),
+        (Prune(25), "false"),
+        (Final, "20"),
+        (Prune(10), "true"),
+        (Final, "11"),
+        (Prune(10), "false"),
+        (Final, "11"),
+        (Prune(20), "true"),
+        (Final, "1"),
+        (Restart, "Some(20)"),
+        (Final, "1"),
+        (At(20), "Some(20)"),
+    ];
+    assert_eq!(rt; first_wrong(&rt, alloc, 4, &blocks, &table)?, None);
     Ok(())
 }
 
@@ -496,29 +469,28 @@ fn pruned_blocks_are_gone(rt: HostRuntime) -> Result<(), Fail> {
 fn ancestry_goes_down_to_genesis(rt: HostRuntime) -> Result<(), Fail> {
     let alloc = rt.alloc();
     let blocks = chain(&rt, alloc, 1, 5)?;
-    let mut store = Store::new(alloc, 3)?;
-    grow(&rt, alloc, &mut store, &blocks)?;
-    let mut heights = Vec::new(alloc);
-    for block in store.get().ancestry(&at(&blocks, 4)?.commitment) {
-        heights.push(block.height())?;
-    }
-    assert_eq!(rt; heights.as_slice(), [5, 4, 3, 2, 1, 0].as_slice());
+    let table = [
+        (Ancestry(5), "[]"),
+        (VerifyTo(5), "5"),
+        (ReportTo(5), "5"),
+        (Ancestry(5), "[5, 4, 3, 2, 1, 0]"),
+    ];
+    assert_eq!(rt; first_wrong(&rt, alloc, 3, &blocks, &table)?, None);
     Ok(())
 }
 
 #[test]
 fn subscribe_basic_block_delivery(rt: HostRuntime) -> Result<(), Fail> {
     let alloc = rt.alloc();
-    let made = block_in(&rt, alloc, 1, 1, &genesis_commitment::<SumHasher>(), 7)?;
-    let mut store = Store::new(alloc, 3)?;
-    assert_eq!(rt; store.watch_digest(&made)?, 0);
-    assert_eq!(rt; store.take_tickets(alloc)?.len(), 0);
-    store.verify(&rt, &made)?;
-    assert_eq!(rt;
-        store.take_tickets(alloc)?.as_slice(),
-        [(0, made.commitment)].as_slice()
-    );
-    assert_eq!(rt; store.take_tickets(alloc)?.len(), 0);
+    let blocks = chain(&rt, alloc, 1, 1)?;
+    let table = [
+        (WatchDigest(1), "0"),
+        (Tickets, "[]"),
+        (Verify(1), "true"),
+        (Tickets, "[(0, 1)]"),
+        (Tickets, "[]"),
+    ];
+    assert_eq!(rt; first_wrong(&rt, alloc, 3, &blocks, &table)?, None);
     Ok(())
 }
 
@@ -526,19 +498,16 @@ fn subscribe_basic_block_delivery(rt: HostRuntime) -> Result<(), Fail> {
 fn subscribe_multiple_subscriptions(rt: HostRuntime) -> Result<(), Fail> {
     let alloc = rt.alloc();
     let blocks = chain(&rt, alloc, 1, 2)?;
-    let (one, two) = (at(&blocks, 0)?, at(&blocks, 1)?);
-    let mut store = Store::new(alloc, 3)?;
-    assert_eq!(rt; store.watch_digest(one)?, 0);
-    assert_eq!(rt; store.watch_digest(two)?, 1);
-    assert_eq!(rt; store.watch_commitment(one)?, 2);
-    store.verify(&rt, one)?;
-    let served = [(0, one.commitment), (2, one.commitment)];
-    assert_eq!(rt; store.take_tickets(alloc)?.as_slice(), served.as_slice());
-    store.verify(&rt, two)?;
-    assert_eq!(rt;
-        store.take_tickets(alloc)?.as_slice(),
-        [(1, two.commitment)].as_slice()
-    );
+    let table = [
+        (WatchDigest(1), "0"),
+        (WatchDigest(2), "1"),
+        (WatchCommitment(1), "2"),
+        (Verify(1), "true"),
+        (Tickets, "[(0, 1), (2, 1)]"),
+        (Verify(2), "true"),
+        (Tickets, "[(1, 2)]"),
+    ];
+    assert_eq!(rt; first_wrong(&rt, alloc, 3, &blocks, &table)?, None);
     Ok(())
 }
 
@@ -546,17 +515,17 @@ fn subscribe_multiple_subscriptions(rt: HostRuntime) -> Result<(), Fail> {
 fn subscribe_canceled_subscriptions(rt: HostRuntime) -> Result<(), Fail> {
     let alloc = rt.alloc();
     let blocks = chain(&rt, alloc, 1, 2)?;
-    let (one, two) = (at(&blocks, 0)?, at(&blocks, 1)?);
-    let mut store = Store::new(alloc, 3)?;
-    assert_eq!(rt; store.watch_digest(one)?, 0);
-    assert_eq!(rt; store.watch_digest(two)?, 1);
-    assert_eq!(rt; (store.cancel(1), store.cancel(1)), (true, false));
-    grow(&rt, alloc, &mut store, &blocks)?;
-    assert_eq!(rt;
-        store.take_tickets(alloc)?.as_slice(),
-        [(0, one.commitment)].as_slice()
-    );
-    assert_eq!(rt; store.cancel(0), false);
+    let table = [
+        (WatchDigest(1), "0"),
+        (WatchDigest(2), "1"),
+        (Cancel(1), "true"),
+        (Cancel(1), "false"),
+        (VerifyTo(2), "2"),
+        (ReportTo(2), "2"),
+        (Tickets, "[(0, 1)]"),
+        (Cancel(0), "false"),
+    ];
+    assert_eq!(rt; first_wrong(&rt, alloc, 3, &blocks, &table)?, None);
     Ok(())
 }
 
@@ -564,14 +533,14 @@ fn subscribe_canceled_subscriptions(rt: HostRuntime) -> Result<(), Fail> {
 fn subscribe_blocks_from_different_sources(rt: HostRuntime) -> Result<(), Fail> {
     let alloc = rt.alloc();
     let blocks = chain(&rt, alloc, 1, 3)?;
-    let (one, three) = (at(&blocks, 0)?, at(&blocks, 2)?);
-    let mut store = Store::new(alloc, 3)?;
-    for made in &blocks {
-        store.watch_commitment(made)?;
-    }
-    store.verify(&rt, one)?;
-    store.certify(&rt, three, 3)?;
-    let served = [(0, one.commitment), (2, three.commitment)];
-    assert_eq!(rt; store.take_tickets(alloc)?.as_slice(), served.as_slice());
+    let table = [
+        (WatchCommitment(1), "0"),
+        (WatchCommitment(2), "1"),
+        (WatchCommitment(3), "2"),
+        (Verify(1), "true"),
+        (Certify(3, 3), "true"),
+        (Tickets, "[(0, 1), (2, 3)]"),
+    ];
+    assert_eq!(rt; first_wrong(&rt, alloc, 3, &blocks, &table)?, None);
     Ok(())
 }

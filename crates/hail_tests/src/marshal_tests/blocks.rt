@@ -2,7 +2,8 @@
 
 use cw_base::{Items, Sequential, SumHasher};
 use cw_types::{
-    Cert, ChainBlock, Commitment, Context, Payload, Proposal, Vote, commit, genesis_commitment,
+    Cert, ChainBlock, Commitment, Context, Payload, Proposal, Vote, commit, genesis,
+    genesis_commitment,
 };
 use node_disk::{Disk, MemoryDisk};
 use std::alloc::Global;
@@ -43,8 +44,8 @@ pub(crate) fn block_in<R: Threads + Sync>(
     Ok(Made { block, commitment })
 }
 
-/// The blocks of these heights, each in the view of its number and over the one before it, the first
-/// over genesis.
+/// The first block, and the blocks of these heights, each in the view of its number and over the
+/// one before it.
 pub(crate) fn chain<R: Threads + Sync>(
     rt: &R,
     alloc: Global,
@@ -52,6 +53,7 @@ pub(crate) fn chain<R: Threads + Sync>(
     last: u64,
 ) -> Result<Vec<Made>, Fail> {
     let mut blocks = Vec::new(alloc);
+    blocks.push(first_block(alloc))?;
     let mut below = genesis_commitment::<SumHasher>();
     for height in first..=last {
         let made = block_in(rt, alloc, height, height, &below, (height % 256) as u8)?;
@@ -59,6 +61,23 @@ pub(crate) fn chain<R: Threads + Sync>(
         blocks.push(made)?;
     }
     Ok(blocks)
+}
+
+/// The first block, and two of height 1 and view 1.
+pub(crate) fn rivals<R: Threads + Sync>(rt: &R, alloc: Global) -> Result<Vec<Made>, Fail> {
+    let mut blocks = Vec::new(alloc);
+    blocks.push(first_block(alloc))?;
+    for byte in 7..9u8 {
+        blocks.push(block_in(rt, alloc, 1, 1, &genesis_commitment::<SumHasher>(), byte)?)?;
+    }
+    Ok(blocks)
+}
+
+fn first_block(alloc: Global) -> Made {
+    Made {
+        block: genesis::<SumHasher>(alloc),
+        commitment: genesis_commitment::<SumHasher>(),
+    }
 }
 
 /// The block at a place of a chain.

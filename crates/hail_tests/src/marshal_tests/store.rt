@@ -128,6 +128,30 @@ impl Store {
         Ok(self.marshal.take_tickets(alloc)?)
     }
 
+    /// The height that was acknowledged last.
+    pub(crate) fn processed(&self) -> Option<u64> {
+        match self.marshal.get_processed() {
+            Some(height) => Some(height.get()),
+            None => None,
+        }
+    }
+
+    /// The floor.
+    pub(crate) fn floor(&self) -> Option<u64> {
+        match self.marshal.greatest_floor() {
+            Some(height) => Some(height.get()),
+            None => None,
+        }
+    }
+
+    /// The view of the finalization of a height.
+    pub(crate) fn finalized_in(&self, height: u64) -> Option<u64> {
+        match self.marshal.get_finalization(height)?.vote {
+            Vote::Finalize(proposal) => Some(proposal.view),
+            _ => None,
+        }
+    }
+
     /// Whether the block is found under its commitment and, as the first of it, by its digest.
     pub(crate) fn has(&self, made: &Made) -> bool {
         let by_name = self

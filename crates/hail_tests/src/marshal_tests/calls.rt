@@ -1,0 +1,246 @@
+//! Calls of a store on blocks by their places in a list, and what each answers, as text.
+
+use super::blocks::{Made, at, finalization};
+use super::store::Store;
+use cw_base::Digest32;
+use cw_types::{ChainBlock, Commitment, Height};
+use marshal::Identifier;
+use std::alloc::Global;
+use std::fmt::Debug;
+use std::test::Fail;
+use std::thread::Threads;
+
+/// A call of a store.
+#[derive(Clone, Copy)]
+pub(crate) enum StoreCall {
+    /// Notes a block as verified: whether it did.
+    Verify(usize),
+    /// Notes the blocks at 1 to a place as verified: how many of them it did.
+    VerifyTo(usize),
+    /// Notes a block as certified in a view: whether it did.
+    Certify(usize, u64),
+    /// Notes the finalization of a block in a view: whether it did.
+    Report(usize, u64),
+    /// Notes the finalizations of the blocks at 1 to a place, each in its block's view: how many.
+    ReportTo(usize),
+    /// Asks for the floor of a block's finalization in a view: whether it stands at once.
+    SetFloor(usize, u64),
+    /// Acknowledges the least pending height: which.
+    Acknowledge,
+    /// Hands out and acknowledges all heights: how many.
+    Process,
+    /// Lets blocks below a height go: whether it did.
+    Prune(u64),
+    /// The heights that are handed out next.
+    Deliver,
+    /// A ticket for the block of a digest.
+    WatchDigest(usize),
+    /// A ticket for the block under a commitment.
+    WatchCommitment(usize),
+    /// Lets a ticket go: whether it waited.
+    Cancel(u64),
+    /// The tickets that are served, each with the place of its block.
+    Tickets,
+    /// Starts anew on the disk: the height that was acknowledged last.
+    Restart,
+    /// The block of the greatest finalized height.
+    Latest,
+    /// The block at a height.
+    At(u64),
+    /// The block of the digest of a block of the list.
+    Of(usize),
+    /// Whether a block is found by its commitment and by its digest.
+    Has(usize),
+    /// How many of the blocks are at their heights.
+    Final,
+    /// The view of the finalization of a height.
+    Finalization(u64),
+    /// The floor.
+    Floor,
+    /// The heights from a block down.
+    Ancestry(usize),
+}
+
+/// The place of the first call of a table that answers otherwise on a new store; none where all
+/// answer so.
+pub(crate) fn first_wrong<R: Threads + Sync>(
+    rt: &R,
+    alloc: Global,
+    backlog: u64,
+    blocks: &[Made],
+    table: &[(StoreCall, &str)],
+) -> Result<Option<usize>, Fail> {
+    let mut store = Store::new(alloc, backlog)?;
+    for (place, (call, want)) in table.iter().enumerate() {
+        if matches!(call, StoreCall::Restart) {
+            store = store.restart(alloc, backlog)?;
+        }
+        let said = answer(rt, alloc, &mut store, blocks, *call)?;
+        if said.as_str() != *want {
+            return Ok(Some(place));
+        }
+    }
+    Ok(None)
+}
+
+// What a call answers.
+fn answer<R: Threads + Sync>(
+    rt: &R,
+    alloc: Global,
+    store: &mut Store,
+    blocks: &[Made],
+    call: StoreCall,
+) -> Result<String, Fail> {
+    match call {
+        StoreCall::Verify(place) => text(alloc, store.verify(rt, at(blocks, place)?)?),
+        StoreCall::VerifyTo(last) => text(alloc, verify_to(rt, store, blocks, last)?),
+        StoreCall::Certify(place, view) => text(
+            alloc,
+            store.certify(rt, at(blocks, place)?, view)?,
+        ),
+        StoreCall::Report(place, view) => {
+            let cert = finalization(alloc, at(blocks, place)?, view)?;
+            text(alloc, store.report(&cert)?)
+        }
+        StoreCall::ReportTo(last) => text(alloc, report_to(alloc, store, blocks, last)?),
+        StoreCall::SetFloor(place, view) => {
+            let cert = finalization(alloc, at(blocks, place)?, view)?;
+            text(alloc, store.set_floor(&cert)?)
+        }
+        StoreCall::Acknowledge => text(alloc, store.acknowledge()?),
+        StoreCall::Process => text(alloc, process(alloc, store)?),
+        StoreCall::Prune(height) => text(alloc, store.prune(height)?),
+        _ => given(alloc, store, blocks, call),
+    }
+}
+
+// What it answers where it writes no note.
+fn given(
+    alloc: Global,
+    store: &mut Store,
+    blocks: &[Made],
+    call: StoreCall,
+) -> Result<String, Fail> {
+    match call {
+        StoreCall::Deliver => text(alloc, store.deliver(alloc)?),
+        StoreCall::WatchDigest(place) => text(alloc, store.watch_digest(at(blocks, place)?)?),
+        StoreCall::WatchCommitment(place) => text(
+            alloc,
+            store.watch_commitment(at(blocks, place)?)?,
+        ),
+        StoreCall::Cancel(ticket) => text(alloc, store.cancel(ticket)),
+        StoreCall::Tickets => text(alloc, served(alloc, store, blocks)?),
+        _ => known(alloc, store, blocks, call),
+    }
+}
+
+// What it answers where it only reads, and a store that was just started.
+fn known(alloc: Global, store: &Store, blocks: &[Made], call: StoreCall) -> Result<String, Fail> {
+    match call {
+        StoreCall::Latest => text(alloc, block_found(store, blocks, Identifier::Latest)?),
+        StoreCall::At(height) => text(
+            alloc,
+            block_found(store, blocks, Identifier::Height(height))?,
+        ),
+        StoreCall::Of(place) => {
+            let id = Identifier::Digest(at(blocks, place)?.commitment.block);
+            text(alloc, block_found(store, blocks, id)?)
+        }
+        StoreCall::Has(place) => text(alloc, store.has(at(blocks, place)?)),
+        StoreCall::Final => text(alloc, count_final(store, blocks)),
+        StoreCall::Finalization(height) => text(alloc, store.finalized_in(height)),
+        StoreCall::Floor => text(alloc, store.floor()),
+        StoreCall::Ancestry(place) => text(alloc, heights_down(alloc, store, at(blocks, place)?)?),
+        _ => text(alloc, store.processed()),
+    }
+}
+
+fn text<D: Debug + Drop>(alloc: Global, answer: D) -> Result<String, Fail> {
+    Ok(format!(in alloc; "{answer:?}")?)
+}
+
+fn verify_to<R: Threads + Sync>(
+    rt: &R,
+    store: &mut Store,
+    blocks: &[Made],
+    last: usize,
+) -> Result<u64, Fail> {
+    let mut count = 0u64;
+    for place in 1..=last {
+        if store.verify(rt, at(blocks, place)?)? {
+            count = count.saturating_add(1);
+        }
+    }
+    Ok(count)
+}
+
+fn report_to(alloc: Global, store: &mut Store, blocks: &[Made], last: usize) -> Result<u64, Fail> {
+    let mut count = 0u64;
+    for place in 1..=last {
+        let made = at(blocks, place)?;
+        if store.report(&finalization(alloc, made, made.block.context().view)?)? {
+            count = count.saturating_add(1);
+        }
+    }
+    Ok(count)
+}
+
+// At most a hundred heights.
+fn process(alloc: Global, store: &mut Store) -> Result<u64, Fail> {
+    for count in 0..100u64 {
+        store.deliver(alloc)?;
+        if store.acknowledge()?.is_none() {
+            return Ok(count);
+        }
+    }
+    Ok(100)
+}
+
+fn served(alloc: Global, store: &mut Store, blocks: &[Made]) -> Result<Vec<(u64, usize)>, Fail> {
+    let mut served = Vec::new(alloc);
+    for (ticket, commitment) in &store.take_tickets(alloc)? {
+        served.push((*ticket, named(blocks, commitment)?))?;
+    }
+    Ok(served)
+}
+
+// The place of a block under its commitment.
+fn named(blocks: &[Made], commitment: &Commitment) -> Result<usize, Fail> {
+    for (place, made) in blocks.iter().enumerate() {
+        if made.commitment == *commitment {
+            return Ok(place);
+        }
+    }
+    Err("a commitment of the list".into())
+}
+
+// The place of the block that is found, by its height, its digest and itself.
+fn block_found(store: &Store, blocks: &[Made], id: Identifier) -> Result<Option<usize>, Fail> {
+    match (store.get().get_info(id), store.get().get_block(id)) {
+        (None, None) => Ok(None),
+        (Some(info), Some(block)) => Ok(Some(place_of(blocks, info, block)?)),
+        _ => Err("a block with its height, or neither".into()),
+    }
+}
+
+fn place_of(blocks: &[Made], info: (Height, Digest32), block: &ChainBlock) -> Result<usize, Fail> {
+    for (place, made) in blocks.iter().enumerate() {
+        let own = (Height::new(made.block.height()), made.commitment.block);
+        if info == own && *block == made.block {
+            return Ok(place);
+        }
+    }
+    Err("a block of the list".into())
+}
+
+fn count_final(store: &Store, blocks: &[Made]) -> usize {
+    blocks.iter().filter(|made| store.is_final(made)).count()
+}
+
+fn heights_down(alloc: Global, store: &Store, made: &Made) -> Result<Vec<u64>, Fail> {
+    let mut heights = Vec::new(alloc);
+    for block in store.get().ancestry(&made.commitment) {
+        heights.push(block.height())?;
+    }
+    Ok(heights)
+}
