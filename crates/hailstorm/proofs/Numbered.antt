@@ -105,8 +105,8 @@ each_got {X} before (x ∷ xs) =
     let first : slice_get (before ++ x ∷ xs) (length before) ≡ Some x = got before in
     let more : (before ++ x ∷ []) ++ xs ≡ before ++ x ∷ xs = append_assoc before (x ∷ []) xs in
     let next : length (before ++ x ∷ []) ≡ length before + 1 = length-append before (x ∷ []) in
-    let rest : map (λ i. slice_get (before ++ x ∷ xs) i) (range_with_len (length before + 1) (length xs)) ≡ map Some xs =
-    rw (more, next) at each_got {X = X} (before ++ x ∷ []) xs in
+    let raw : map (λ i. slice_get ((before ++ x ∷ []) ++ xs) i) (range_with_len (length (before ++ x ∷ [])) (length xs)) ≡ map Some xs = each_got {X = X} (before ++ x ∷ []) xs in
+    let rest : map (λ i. slice_get (before ++ x ∷ xs) i) (range_with_len (length before + 1) (length xs)) ≡ map Some xs = rw (more, next) at raw in
     rw (first, rest) refl
   where
     got : (ys : List X) → slice_get (ys ++ x ∷ xs) (length ys) ≡ Some x

@@ -143,9 +143,7 @@ fn is_sent_vote(sent: &Sent, member: u16, vote: &Vote) -> bool
 fn some_sends(entries: &[Entry], member: u16, vote: &Vote) -> bool
     ensures { result ≡ list_any (λ e. list_any (rule.is_sent_vote member vote.now) e.sent) entries.now }
 {
-    entries
-        .iter()
-        .any(|entry| sends_vote(entry, member, vote))
+    entries.iter().any(|entry| sends_vote(entry, member, vote))
 }
 
 fn sends_vote(entry: &Entry, member: u16, vote: &Vote) -> bool

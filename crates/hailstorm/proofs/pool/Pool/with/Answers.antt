@@ -12,6 +12,7 @@ invariant_of-result c =
     let entry : Entry = c.args.entry in
     let put : c.put_places.new.places.items ≡ places ++ map (λ i. (length entries, i)) (range_with_len 0 (length entry.sent)) =
     c.in_ok-put_places.ensures ∙ ap (λ (k : ℕ). places ++ map (λ i. (k, i)) (range_with_len 0 c.len-2.result)) c.len.ensures
-    ∙ ap (λ (k : ℕ). places ++ map (λ i. (length entries, i)) (range_with_len 0 k)) c.len-2.ensures in
+    ∙ ap (λ (k : ℕ). places ++ map (λ i. (length entries, i)) (range_with_len 0 k)) c.len-2.ensures
+    ∙ ap (λ (e : Entry). places ++ map (λ i. (length entries, i)) (range_with_len 0 (length e.sent))) c.entry.view_is in
     subst (λ (l : List Entry). StandAt l c.put_places.new.places.items) (sym c.in_ok-push.ensures.ok)
     (subst (λ (l : List (ℕ × ℕ)). StandAt (entries ++ entry ∷ []) l) (sym put) (stand_more entries entry places c.self.invariant))
