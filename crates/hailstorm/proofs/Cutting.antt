@@ -29,6 +29,7 @@ pub at_work : (s : Seat) → Works s → FindsNotes s.member.frames (memory_stat
 at_work s works = on_disk s.member.frames (memory_state s.log.disk).now.seen (rw works.frames at works.found) works.readable
 
 tagged : (low high epoch : ℕ) → 0 < length (epoch_tag_bytes low high epoch)
+unfolding epoch_tag_bytes
 tagged low high epoch = go (epoch == 0) refl
   where
     go : (t : Bool) → (epoch == 0) ≡ t → 0 < length (epoch_tag_bytes low high epoch)
@@ -43,7 +44,7 @@ before (x ∷ xs) ys some = omega arith
 some_bytes : (n : Note) → 0 < length (note_bytes n)
 unfolding note_bytes
 some_bytes (Note.Block c b) = omega arith
-some_bytes (Note.Verified e v c) = before (epoch_tag_bytes 1 10 e) _ (tagged 1 10 e)
+some_bytes (Note.Verified e v c) = before (epoch_tag_bytes 1 10 e ++ _) _ (before (epoch_tag_bytes 1 10 e) _ (tagged 1 10 e))
 some_bytes (Note.Certified p) = before (epoch_tag_bytes 2 9 p.epoch) _ (tagged 2 9 p.epoch)
 some_bytes (Note.Vote v) = omega arith
 some_bytes (Note.Cert c) = omega arith

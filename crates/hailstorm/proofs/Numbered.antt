@@ -23,14 +23,28 @@ numbered_more first i (x ∷ outs) o =
     ap (λ (l : List Sent). let s : Sent = record { number = first; from = i; to = x.to; message = x.message } in s ∷ l)
     (numbered_more (first + 1) i outs o ∙ ap (λ (n : ℕ). sent_from (first + 1) i outs ++ (let s : Sent = record { number = n; from = i; to = o.to; message = o.message } in s) ∷ []) same)
 
+-- as many as are sent
+numbered_count : (first i : ℕ) (outs : List Out) → length (sent_from first i outs) ≡ length outs
+numbered_count first i [] = refl
+numbered_count first i (o ∷ outs) = ap (λ (n : ℕ). suc n) (numbered_count (first + 1) i outs)
+
+-- one more is numbered by how many there are
+pub numbered_next : (first i n : ℕ) (outs : List Out) (o : Out) (sent new : List Sent) → sent ≡ sent_from first i outs → n ≡ length sent
+    → new ≡ sent ++ record { number = first + n; from = i; to = o.to; message = o.message } ∷ [] → new ≡ sent_from first i (outs ++ o ∷ [])
+numbered_next first i n outs o sent new so count pushed =
+    let many : n ≡ length outs = count ∙ ap (λ (l : List Sent). length l) so ∙ numbered_count first i outs in
+    pushed ∙ ap (λ (l : List Sent). l ++ (let s : Sent = record { number = first + n; from = i; to = o.to; message = o.message } in s) ∷ []) so
+    ∙ ap (λ (k : ℕ). sent_from first i outs ++ (let s : Sent = record { number = first + k; from = i; to = o.to; message = o.message } in s) ∷ []) many
+    ∙ sym (numbered_more first i outs o)
+
 -- ---- places
 
 -- there are as many places as messages
 pub counted : (entries : List Entry) (places : List (ℕ × ℕ)) → StandAt entries places → length places ≡ length (sent_in entries)
-counted entries places h = sym (length-map (sent_at entries) places) ∙ ap length h ∙ length-map Some (sent_in entries)
+counted entries places h = sym (length-map places (sent_at entries)) ∙ ap (λ (l : List (Option Sent)). length l) h ∙ length-map (sent_in entries) Some
 
 -- the message of a number stands at the place of that number
-pub stands : (entries : List Entry) (places : List (ℕ × ℕ)) (n : ℕ) (p : ℕ × ℕ) → StandAt entries places → slice_get places n ≡ Some p → sent_at entries p ≡ slice_get (sent_in entries) n
+stands : (entries : List Entry) (places : List (ℕ × ℕ)) (n : ℕ) (p : ℕ × ℕ) → StandAt entries places → slice_get places n ≡ Some p → sent_at entries p ≡ slice_get (sent_in entries) n
 stands entries places n p h e = go (slice_get (sent_in entries) n) refl
   where
     both : option_map (sent_at entries) (slice_get places n) ≡ option_map Some (slice_get (sent_in entries) n)
@@ -40,7 +54,7 @@ stands entries places n p h e = go (slice_get (sent_in entries) n) refl
     go None q = absurd (let no : Some (sent_at entries p) ≡ None = rw (e, q) at both in cc)
     go (Some s) q = (let yes : Some (sent_at entries p) ≡ Some (Some s) = rw (e, q) at both in rw q cc)
 
-pub none_stands : (entries : List Entry) (places : List (ℕ × ℕ)) (n : ℕ) → StandAt entries places → slice_get places n ≡ None → slice_get (sent_in entries) n ≡ None
+none_stands : (entries : List Entry) (places : List (ℕ × ℕ)) (n : ℕ) → StandAt entries places → slice_get places n ≡ None → slice_get (sent_in entries) n ≡ None
 none_stands entries places n h e = go (slice_get (sent_in entries) n) refl
   where
     both : option_map (sent_at entries) (slice_get places n) ≡ option_map Some (slice_get (sent_in entries) n)
@@ -49,6 +63,14 @@ none_stands entries places n h e = go (slice_get (sent_in entries) n) refl
     go : (o : Option Sent) → slice_get (sent_in entries) n ≡ o → slice_get (sent_in entries) n ≡ None
     go None q = q
     go (Some s) q = absurd (let no : None ≡ Some (Some s) = rw (e, q) at both in cc)
+
+-- what is found by the place of a number is the message of that number
+pub looked_up : (entries : List Entry) (places : List (ℕ × ℕ)) (n : ℕ) → StandAt entries places → option_and_then (sent_at entries) (slice_get places n) ≡ slice_get (sent_in entries) n
+looked_up entries places n h = go (slice_get places n) refl
+  where
+    go : (o : Option (ℕ × ℕ)) → slice_get places n ≡ o → option_and_then (sent_at entries) (slice_get places n) ≡ slice_get (sent_in entries) n
+    go None q = rw q (sym (none_stands entries places n h q))
+    go (Some p) q = rw q (stands entries places n p h q)
 
 -- what stands somewhere stands there where entries are added
 get_on : {X : Type 0} (xs ys : List X) (i : ℕ) (x : X) → slice_get xs i ≡ Some x → slice_get (xs ++ ys) i ≡ Some x
@@ -83,8 +105,8 @@ each_got {X} before (x ∷ xs) =
     let first : slice_get (before ++ x ∷ xs) (length before) ≡ Some x = got before in
     let more : (before ++ x ∷ []) ++ xs ≡ before ++ x ∷ xs = append_assoc before (x ∷ []) xs in
     let next : length (before ++ x ∷ []) ≡ length before + 1 = length-append before (x ∷ []) in
-    let rest : map (λ i. slice_get (before ++ x ∷ xs) i) (range_with_len (length before + 1) (length xs)) ≡ map Some xs =
-    rw (more, next) at each_got (before ++ x ∷ []) xs in
+    let raw : map (λ i. slice_get ((before ++ x ∷ []) ++ xs) i) (range_with_len (length (before ++ x ∷ [])) (length xs)) ≡ map Some xs = each_got {X = X} (before ++ x ∷ []) xs in
+    let rest : map (λ i. slice_get (before ++ x ∷ xs) i) (range_with_len (length before + 1) (length xs)) ≡ map Some xs = rw (more, next) at raw in
     rw (first, rest) refl
   where
     got : (ys : List X) → slice_get (ys ++ x ∷ xs) (length ys) ≡ Some x
@@ -114,6 +136,26 @@ stand_more entries e places h =
     ∙ ap (λ (l : List (Option Sent)). l ++ map (sent_at (entries ++ e ∷ [])) new) old
     ∙ ap (λ (l : List (Option Sent)). map Some (sent_in entries) ++ l) mine
     ∙ sym (map-append Some (sent_in entries) e.sent) ∙ sym (ap (λ (l : List Sent). map Some l) both)
+
+-- the numbers from one on, with one more
+pub range_more : (low n : ℕ) → range_with_len low (suc n) ≡ range_with_len low n ++ (low + n) ∷ []
+range_more low zero = let same : low ≡ low + 0 = omega arith in ap (λ (k : ℕ). k ∷ []) same
+range_more low (suc n) = let same : low + 1 + n ≡ low + suc n = omega arith in ap (λ (l : List ℕ). low ∷ l) (range_more (low + 1) n ∙ ap (λ (k : ℕ). range_with_len (low + 1) n ++ k ∷ []) same)
+
+pub map_joined : {X Y : Type 0} (f : X → Y) (xs : List X) (x : X) → map f (xs ++ x ∷ []) ≡ map f xs ++ f x ∷ []
+map_joined f [] x = refl
+map_joined {X} {Y} f (y ∷ xs) x = ap (λ (l : List Y). f y ∷ l) (map_joined f xs x)
+
+-- one place more of an entry
+pub placed_more : (entry n : ℕ) (old now new : List (ℕ × ℕ)) → now ≡ old ++ map (λ i. (entry, i)) (range_with_len 0 n) → new ≡ now ++ (entry, n) ∷ []
+    → new ≡ old ++ map (λ i. (entry, i)) (range_with_len 0 (n + 1))
+placed_more entry n old now new so pushed =
+    let at : ℕ → ℕ × ℕ = λ i. (entry, i) in
+    let next : n + 1 ≡ suc n = omega arith in
+    let none : 0 + n ≡ n = omega arith in
+    let range : range_with_len 0 (n + 1) ≡ range_with_len 0 n ++ n ∷ [] = ap (λ (k : ℕ). range_with_len 0 k) next ∙ range_more 0 n ∙ ap (λ (k : ℕ). range_with_len 0 n ++ k ∷ []) none in
+    let whole : map at (range_with_len 0 (n + 1)) ≡ map at (range_with_len 0 n) ++ (entry, n) ∷ [] = ap (λ (l : List ℕ). map at l) range ∙ map_joined at (range_with_len 0 n) n in
+    pushed ∙ ap (λ (l : List (ℕ × ℕ)). l ++ (entry, n) ∷ []) so ∙ append_assoc old (map at (range_with_len 0 n)) ((entry, n) ∷ []) ∙ sym (ap (λ (l : List (ℕ × ℕ)). old ++ l) whole)
 
 -- a vote among the messages is one among those of an entry
 pub some_vote : (test : Sent → Bool) (entries : List Entry) → list_any (λ e. list_any test e.sent) entries ≡ list_any test (sent_in entries)

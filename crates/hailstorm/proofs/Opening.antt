@@ -9,6 +9,7 @@ use Rattle.cw_rules.specs.Rules.{Rules}
 use Rattle.cw_rules.specs.Step.{Member, start}
 use Rattle.cw_rules.specs.World.{Line, faults}
 use Rattle.hail_script.specs.Grammar.{is_faulty_in, marks}
+use Rattle.hailstorm.proofs.Numbered.{map_joined, range_more}
 use Rattle.hailstorm.specs.declared.place.Place.{Place}
 use Rattle.hailstorm.specs.Offers.{some_of}
 use Rattle.hailstorm.specs.Places.{AreMembers, AreSound, IsMember, IsSound, marked}
@@ -24,14 +25,6 @@ pub record AreOpened (r : Rules) (lines : List Line) (n : ℕ) (places : List (P
 
 pub opened_none : (r : Rules) (lines : List Line) → AreOpened r lines 0 [] []
 opened_none r lines = record { members = tt; sound = tt; count = refl; told = refl }
-
-range_more : (low n : ℕ) → range_with_len low (suc n) ≡ range_with_len low n ++ (low + n) ∷ []
-range_more low zero = let same : low ≡ low + 0 = omega arith in ap (λ (k : ℕ). k ∷ []) same
-range_more low (suc n) = let same : low + 1 + n ≡ low + suc n = omega arith in ap (λ (l : List ℕ). low ∷ l) (range_more (low + 1) n ∙ ap (λ (k : ℕ). range_with_len (low + 1) n ++ k ∷ []) same)
-
-map_joined : {X Y : Type 0} (f : X → Y) (xs : List X) (x : X) → map f (xs ++ x ∷ []) ≡ map f xs ++ f x ∷ []
-map_joined f [] x = refl
-map_joined {X} {Y} f (y ∷ xs) x = ap (λ (l : List Y). f y ∷ l) (map_joined f xs x)
 
 members_push : (ps : List (Place Seat)) (os : List (Option Member)) (p : Place Seat) (o : Option Member) → AreMembers ps os → IsMember p o → AreMembers (ps ++ p ∷ []) (os ++ o ∷ [])
 members_push [] [] p o h m = (m, tt)

@@ -1,6 +1,6 @@
 -- A line's turn at the place of the member that it names.
-use Rattle.std.proofs.Common.{◌≡◌, ℕ, zero, suc, ◌+◌, ◌<◌, ◌++◌, ◌||◌, Bool, true, false, List, [], ◌∷◌, length, map, get_or, Some, None, Option, refl, sym, ap, subst, ◌∙◌, arith, append-nil}
-use Rattle.std.specs.Prelude.{option_and_then, option_map, slice_get, slice_set, is_none}
+use Rattle.std.proofs.Common.{◌≡◌, ℕ, zero, suc, ◌+◌, ◌<◌, ◌++◌, ◌||◌, Bool, true, false, List, [], ◌∷◌, length, map, get_or, Some, None, Option, Ok, Err, Result, refl, sym, ap, subst, ◌∙◌, arith, append-nil}
+use Rattle.std.specs.Prelude.{IfOk, option_and_then, option_map, slice_get, slice_set, is_none}
 use Rattle.std.specs.Option.{option_map_or}
 use Rattle.std.specs.List.{list_any}
 use Rattle.std.proofs.lemmas.Option.{slice_get-map}
@@ -282,3 +282,11 @@ fault_turn r w number i m f places before pool entry named members pools gives s
       members = members;
       sent = sends ∙ ap (λ (l : List Sent). l ++ sent l) pools ∙ ap (λ (l : List Sent). w.pool ++ l) (sym (ap sent pools) ∙ whole);
     }
+
+-- where a faulty member's entry was made
+pub fault_played : {E : Type 0} (r : Rules) (w : World) (number i : ℕ) (m : ℕ) (f : Fault) (places : List (Place Seat)) (before : List Sent) (result : Result Entry E) → i ≡ m → AreMembers places w.members → before ≡ w.pool
+    → IfOk result (λ entry. entry ≡ record { line = number; member = None; found = None; sent = sent_from (length before) i (rule.fault_sends r (over before) i (fault_of f)); handed = [] })
+    → IfOk result (λ entry. IsTurn r w number (line_of (line.Faulty m f)) places (before ++ entry.sent) entry)
+fault_played r w number i m f places before (Ok entry) named members pools gives =
+    fault_turn r w number i m f places before (before ++ entry.sent) entry named members pools gives (ap (λ (e : Entry). before ++ e.sent) gives)
+fault_played r w number i m f places before (Err e) named members pools gives = tt

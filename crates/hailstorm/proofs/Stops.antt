@@ -1,14 +1,15 @@
 -- A disk that is armed, and the place of a member that it stopped.
-use Rattle.std.proofs.Common.{◌≡◌, ℕ, ◌<◌, false, List, Ok, Result, Some, Option, refl, sym, ap, ◌∙◌}
+use Rattle.std.proofs.Common.{◌≡◌, ℕ, ◌<◌, false, true, List, Ok, Err, Result, Some, Option, refl, sym, ap, ◌∙◌}
 use Rattle.std.specs.List.{flat_map}
 use Rattle.cw_types.specs.declared.note.Note.{Note}
 use Rattle.cw_rules.specs.Step.{Member, Stepped, member_notes}
 use Rattle.node_disk.specs.Cut.{IsArmed}
-use Rattle.node_disk.specs.Memory.{MemoryState, is_calm, memory_state}
+use Rattle.node_disk.specs.Memory.{MemoryState, is_calm, memory_state, reopened_disk}
 use Rattle.node_disk.specs.MemoryLaws.{calm_failing}
 use Rattle.hailstorm.specs.declared.place.Place.{Place}
 use Rattle.hailstorm.specs.declared.place.Place.TheVariants as place
 use Rattle.marshal.specs.Frames.{FindsNotes, read_frames}
+use Rattle.marshal.specs.Stored.{join_frames, joined_notes, read_notes}
 use Rattle.hailstorm.specs.Places.{IsMember, IsStopped}
 use Rattle.hailstorm.specs.Seats.{Seat, with_stop}
 
@@ -23,3 +24,19 @@ is_member disk (place.Stopped again notes) x h held stopped =
     let there : FindsNotes x.frames (memory_state again).now.seen = ap read_frames h.1 ∙ held in
     let same : h.2.0 ≡ x.frames = (let e : Ok h.2.0 ≡ Ok x.frames = sym h.2.1 ∙ there in cc) in
     (stopped, there, h.2.2 ∙ ap (λ (f : List (List Note)). flat_map (λ frame. frame) f) same)
+
+-- a disk that holds frames of notes, reopened, with the notes that are read on it
+pub rests : (disk again : MemoryState) (notes : List Note) (frames : List (List Note)) → FindsNotes frames (memory_state disk).now.seen → again ≡ reopened_disk disk → (memory_state again).now.seen ≡ (memory_state disk).now.seen
+    → read_notes (memory_state again).now.seen ≡ Ok notes → IsStopped disk (place.Stopped again notes)
+rests disk again notes frames held is seen read =
+    let there : FindsNotes frames (memory_state again).now.seen = ap read_frames seen ∙ held in
+    let same : Ok (join_frames frames) ≡ Ok notes = sym (ap joined_notes there) ∙ read in
+    (is, seen, (frames, there, (let e : notes ≡ join_frames frames = cc in e)))
+
+-- such a disk isn't foreign
+pub not_foreign : (disk again : MemoryState) (place : ℕ) (frames : List (List Note)) → FindsNotes frames (memory_state disk).now.seen → (memory_state again).now.seen ≡ (memory_state disk).now.seen
+    → read_notes (memory_state again).now.seen ≡ Err place → ⊥
+not_foreign disk again place frames held seen read =
+    let there : FindsNotes frames (memory_state again).now.seen = ap read_frames seen ∙ held in
+    let no : Ok (join_frames frames) ≡ Err place = sym (ap joined_notes there) ∙ read in
+    cc

@@ -1,6 +1,6 @@
 //! The entry of a line.
 
-ghost use Rattle.std.specs.Prelude.{◌≡◌, [], Some, None, length, IfOk};
+ghost use Rattle.std.specs.Prelude.{◌≡◌, ◌<◌, ◌^◌, [], Some, None, length, IfOk};
 ghost use Rattle.std.specs.Option.{option_map_or};
 ghost use Rattle.cw_rules.specs.World.{sent_from};
 ghost use Rattle.hailstorm.specs.Pool.{sent_in};
@@ -12,13 +12,15 @@ use cw_types::{Handed, Out, StepOut};
 use std::alloc::Global;
 
 // What a member sends, numbered from a number on.
-fn number(alloc: Global, first: usize, from: u16, outs: Items<Out>) -> Result<Items<Sent>, NoMemory>
-    ensures { IfOk result (λ sent. sent ≡ sent_from first from outs) }
+fn number(alloc: Global, first: usize, from: u16, outs: Vec<Out>) -> Result<Vec<Sent>, NoMemory>
+    requires { first < 2 ^ 63 }
+    ensures { IfOk result (λ sent. sent.items ≡ sent_from first from outs.items) }
 {
-    let mut sent = Items::new(alloc);
-    for out in outs.into_vec() {
+    let mut sent = Vec::new(alloc);
+    for out in outs {
+        let number = first as u64 + sent.len() as u64;
         sent.push(Sent {
-            number: first as u64 + sent.len() as u64,
+            number,
             from,
             to: out.to,
             message: out.message,
@@ -40,12 +42,12 @@ pub(crate) fn enter(
 ) -> Result<Entry, NoMemory>
     ensures { IfOk result (λ entry. entry ≡ record { line = line; member = member; found = found; sent = sent_from (length (sent_in pool.now)) from outs; handed = handed }) }
 {
-    let sent = number(alloc, pool.count(), from, outs)?;
+    let sent = number(alloc, pool.count(), from, outs.into_vec())?;
     Ok(Entry {
         line,
         member,
         found,
-        sent,
+        sent: Items::from_vec(sent),
         handed,
     })
 }

@@ -1,6 +1,6 @@
 //! The entries of the lines so far, and the messages in them by number.
 
-ghost use Rattle.std.specs.Prelude.{◌≡◌, ◌+◌, ◌<◌, ◌++◌, ◌∷◌, [], length, map, slice_get, IfOk, OnOk};
+ghost use Rattle.std.specs.Prelude.{◌≡◌, ◌<◌, ◌^◌, ◌++◌, ◌∷◌, [], length, map, option_and_then, slice_get, IfOk, OnOk};
 ghost use Rattle.std.specs.List.{list_any, range_with_len};
 ghost use Rattle.std.specs.Option.{option_map};
 ghost use Rattle.cw_rules.specs.World as rule;
@@ -47,7 +47,8 @@ impl Pool {
     /// How many messages were sent.
     #[tactic(auto, using(crate::proofs::Numbered::counted))]
     pub(crate) fn count(&self) -> usize
-        ensures { result ≡ length (sent_in self.now) }
+        ensures value { result ≡ length (sent_in self.now) }
+        ensures small { result < 2 ^ 63 }
     {
         self.places.len()
     }
@@ -56,30 +57,15 @@ impl Pool {
     pub(crate) fn get(&self, number: u64) -> Option<&Sent>
         ensures { option_map (λ sent. sent.now) result ≡ slice_get (sent_in self.now) number }
     {
-        match self.places.get(number as usize) {
-            None => None,
-            Some((entry, place)) => self.at(*entry, *place),
-        }
-    }
-
-    // The message at a place of an entry.
-    fn at(&self, entry: usize, place: usize) -> Option<&Sent>
-        ensures { option_map (λ sent. sent.now) result ≡ sent_at self.now (entry, place) }
-    {
-        match self.entries.as_slice().get(entry) {
-            None => None,
-            Some(entry) => entry.sent.as_slice().get(place),
-        }
+        let place = place_of(&self.places, number as usize);
+        message_at(self.entries.as_slice(), place)
     }
 
     /// Whether a member sent a vote.
     pub(crate) fn has_vote(&self, member: u16, vote: &Vote) -> bool
         ensures { result ≡ list_any (rule.is_sent_vote member vote.now) (sent_in self.now) }
     {
-        self.entries
-            .as_slice()
-            .iter()
-            .any(|entry| sends_vote(entry, member, vote))
+        some_sends(self.entries.as_slice(), member, vote)
     }
 
     /// One entry more.
@@ -114,6 +100,31 @@ fn put_places(places: &mut Vec<(usize, usize)>, entry: usize, count: usize) -> R
     Ok(())
 }
 
+fn place_of(places: &[(usize, usize)], number: usize) -> Option<(usize, usize)>
+    ensures { result ≡ slice_get places.now number }
+{
+    places.get(number).copied()
+}
+
+// The message at a place of an entry, if there is one.
+fn message_at<'a>(entries: &'a [Entry], place: Option<(usize, usize)>) -> Option<&'a Sent>
+    ensures { option_map (λ sent. sent.now) result ≡ option_and_then (sent_at entries.now) place }
+{
+    match place {
+        None => None,
+        Some((entry, place)) => message_of(entries, entry, place),
+    }
+}
+
+fn message_of<'a>(entries: &'a [Entry], entry: usize, place: usize) -> Option<&'a Sent>
+    ensures { option_map (λ sent. sent.now) result ≡ sent_at entries.now (entry, place) }
+{
+    match entries.get(entry) {
+        None => None,
+        Some(entry) => entry.sent.as_slice().get(place),
+    }
+}
+
 fn is_vote_of(message: &Message, member: u16, vote: &Vote) -> bool
     ensures { result ≡ rule.is_vote_of member vote.now message.now }
 {
@@ -127,6 +138,12 @@ fn is_sent_vote(sent: &Sent, member: u16, vote: &Vote) -> bool
     ensures { result ≡ rule.is_sent_vote member vote.now sent.now }
 {
     sent.from == member && is_vote_of(&sent.message, member, vote)
+}
+
+fn some_sends(entries: &[Entry], member: u16, vote: &Vote) -> bool
+    ensures { result ≡ list_any (λ e. list_any (rule.is_sent_vote member vote.now) e.sent) entries.now }
+{
+    entries.iter().any(|entry| sends_vote(entry, member, vote))
 }
 
 fn sends_vote(entry: &Entry, member: u16, vote: &Vote) -> bool

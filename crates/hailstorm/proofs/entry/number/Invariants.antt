@@ -4,4 +4,4 @@ use Rattle.hailstorm.proofs.entry.number.Given as goal
 
 -- what is numbered so far
 abbrev pub invariant-loop-out : goal.invariant-loop-out
-invariant-loop-out l = l.sent ≡ sent_from l.first l.from l.yielded
+invariant-loop-out l = l.sent.items ≡ sent_from l.first l.from l.yielded

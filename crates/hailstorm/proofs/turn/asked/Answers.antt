@@ -3,6 +3,7 @@ use Rattle.hail_script.specs.Events.{ask_of}
 use Rattle.hailstorm.specs.Places.{IsMember, IsSound, over, rules_of, table}
 use Rattle.hailstorm.specs.declared.place.Place.{Place}
 use Rattle.hailstorm.specs.Pool.{sent_in}
+use Rattle.hailstorm.specs.Seats.{HasStepped, Seat, rules_by}
 use Rattle.hailstorm.proofs.Taking.{took}
 use Rattle.hailstorm.proofs.turn.asked.Goals as goal
 
@@ -14,4 +15,6 @@ returns-in_ok-out-in-Some-clause-makes g c o who =
     let sound = rw c.in-Live.is at c.requires.sound in
     let there = rw c.in-Live.is at who in
     let asks = sym c.in_ok-event_for-in-Live.ensures ∙ c.in-Some.is in
-    took r c.args.id signed w (ask_of c.args.ask.now) c.in-Some.event c.in-Live.node c.take_event.new.node c.in_ok-out-in-Some.out o sound asks c.in_ok-out-in-Some.ensures.steps there
+    let new : Seat = c.take_event.new.node in
+    let did = subst (λ (s : Seat). HasStepped (rules_by g.H.Hasher.digest_of s) signed c.in-Some.event s new c.in_ok-out-in-Some.out) c.seat.view_is c.in_ok-out-in-Some.ensures.steps in
+    took r c.args.id signed w (ask_of c.args.ask.now) c.in-Some.event c.in-Live.seat new c.in_ok-out-in-Some.out o sound asks did there

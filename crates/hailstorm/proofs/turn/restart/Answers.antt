@@ -6,9 +6,9 @@ use Rattle.cw_rules_coded.specs.Coded.{coded}
 use Rattle.hailstorm.specs.Seats.{out_of}
 use Rattle.hailstorm.proofs.turn.restart.Goals as goal
 
-pub returns-in-Ok-clause-started : goal.returns-in-Ok-clause-started
-returns-in-Ok-clause-started g c frames held =
-    let h = c.in-Ok.ensures.ok frames held in
+pub returns-clause-started : goal.returns-clause-started
+returns-clause-started g c frames held =
+    let h = c.in_ok-seat.ensures frames held in
     let x : Epochs = c.in_ok-committees.committees in
     let who = ap (λ (x : Epochs). (start (coded g.H.Hasher.digest_of x c.backlog.result (λ b a. true)) c.args.id frames).member) c.in_ok-committees.ensures
     ∙ ap (λ (k : ℕ). (start (coded g.H.Hasher.digest_of c.args.script.now.committees k (λ b a. true)) c.args.id frames).member) c.backlog.ensures.value in

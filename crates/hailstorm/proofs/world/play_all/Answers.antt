@@ -59,13 +59,13 @@ loop-index-preserved g c =
     let none = clear r c.in_ok-earlier.field-0 (clash_at r h.now (happens r h.now line) c.member_of-id.result) clash c.in_default.not-Some in
     let same = ap (λ (k : ℕ). clash_at r h.now (happens r h.now line) k) (sym c.member_of-id.ensures) ∙ none in
     let more = midway_next r w i s.lines line c.loop-index.pool c.loop-index.places c.play.new.places c.args.faulty.now c.in_ok-entry.entry at h turn same in
-    record { midway = rw c.in_ok-with.ensures more; sound = c.in_ok-entry.ensures.sound }
+    record { midway = rw c.in_ok-pool.ensures more; sound = c.in_ok-entry.ensures.sound }
 
 pub returns-clause-ok : goal.returns-clause-ok
 returns-clause-ok g c =
     let s = c.args.script.now in
-    midway_end (rules_of g.H.Hasher.digest_of s) (opened g.H.Hasher.digest_of s) c.loop-index.index s.lines c.loop-index.pool c.loop-index.places c.args.faulty.now
-    (none_left c.lines-line-items.result.now s.lines c.loop-index.index c.lines-line-items.ensures.value c.loop-index-test.false) c.loop-index.invariant.midway
+    rw c.into_entries.ensures (midway_end (rules_of g.H.Hasher.digest_of s) (opened g.H.Hasher.digest_of s) c.loop-index.index s.lines c.loop-index.pool c.loop-index.places c.args.faulty.now
+    (none_left c.lines-line-items.result.now s.lines c.loop-index.index c.lines-line-items.ensures.value c.loop-index-test.false) c.loop-index.invariant.midway)
 
 pub returns-in-Some-clause-err : goal.returns-in-Some-clause-err
 returns-in-Some-clause-err g c =

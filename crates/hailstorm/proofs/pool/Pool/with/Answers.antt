@@ -1,0 +1,18 @@
+use Rattle.std.proofs.Common.{◌≡◌, ℕ, List, [], ◌∷◌, ◌++◌, length, map, ap, sym, subst, ◌∙◌}
+use Rattle.std.specs.List.{range_with_len}
+use Rattle.cw_rules.specs.Report.{Entry}
+use Rattle.hailstorm.specs.Pool.{StandAt}
+use Rattle.hailstorm.proofs.Numbered.{stand_more}
+use Rattle.hailstorm.proofs.pool.Pool.with.Goals as goal
+
+pub invariant_of-result : goal.invariant_of-result
+invariant_of-result c =
+    let entries : List Entry = c.self.inside.entries in
+    let places : List (ℕ × ℕ) = c.self.inside.places.items in
+    let entry : Entry = c.args.entry in
+    let put : c.put_places.new.places.items ≡ places ++ map (λ i. (length entries, i)) (range_with_len 0 (length entry.sent)) =
+    c.in_ok-put_places.ensures ∙ ap (λ (k : ℕ). places ++ map (λ i. (k, i)) (range_with_len 0 c.len-2.result)) c.len.ensures
+    ∙ ap (λ (k : ℕ). places ++ map (λ i. (length entries, i)) (range_with_len 0 k)) c.len-2.ensures
+    ∙ ap (λ (e : Entry). places ++ map (λ i. (length entries, i)) (range_with_len 0 (length e.sent))) c.entry.view_is in
+    subst (λ (l : List Entry). StandAt l c.put_places.new.places.items) (sym c.in_ok-push.ensures.ok)
+    (subst (λ (l : List (ℕ × ℕ)). StandAt (entries ++ entry ∷ []) l) (sym put) (stand_more entries entry places c.self.invariant))
