@@ -30,6 +30,11 @@ abbrev pub Gives : {X Y : Type 0} → (X → Y) → Result X CodecError → List
 Gives view (Ok x) left read = read ≡ Ok (view x, left)
 Gives view (Err e) left read = IsRefused e left read
 
+-- A reader that took memory and found none stands behind the parts that it read, and these were read whole: so it does
+-- not answer want of memory where one of them is refused.
+abbrev pub IsBehind : {A : Type 0} → Reading A → List ℕ → Type 0
+IsBehind {A} read left = (x : A) × (read ≡ Ok (x, left))
+
 -- a byte
 abbrev pub byte_at : List ℕ → Reading ℕ
 byte_at [] = Err (EndOfBuffer, [])

@@ -59,6 +59,29 @@ pub fn put_varint(out: &mut Vec<u8>, value: u32) -> Result<(), NoMemory>
     put_bytes(out, &bytes[..count])
 }
 
+/// What a writer answers that began where `out` had `start` bytes: refused for memory, `out` gets the
+/// bytes back that it had then.
+///
+/// ```text
+/// let start = out.len();
+/// let written = self.write_parts(out);
+/// undo_refused(out, start, written)
+/// ```
+pub fn undo_refused(
+    out: &mut Vec<u8>,
+    start: usize,
+    written: Result<(), NoMemory>,
+) -> Result<(), NoMemory>
+    ensures answer { result ≡ written }
+    ensures ok { OnOk result (out.new.items ≡ out.old.items) }
+    ensures err { OnErr result (out.new.items ≡ take start out.old.items) }
+{
+    if written.is_err() {
+        out.truncate(start);
+    }
+    written
+}
+
 // The bytes of `value` in front of an array, and how many they are.
 #[tactic(auto, unfolding(crate::specs::Bytes::varint))]
 fn varint_bytes(value: u32) -> ([u8; 5], usize)

@@ -1,6 +1,6 @@
 //! Into how many shards a text is cut.
 
-ghost use Rattle.std.specs.Prelude.{◌≡◌, ◌+◌};
+ghost use Rattle.std.specs.Prelude.{◌≡◌, ◌+◌, ◌≤◌};
 ghost use Rattle.cw_base.specs.Config.{config_bytes, same_shards};
 
 use std::marker::Model;
@@ -32,6 +32,22 @@ impl Model for Config {
 impl Config {
     /// How many bytes a config is written in.
     pub const SIZE: usize = 4;
+
+    /// How many shards hold the text and give it back, as a number.
+    pub fn minimum(&self) -> u16
+        ensures value { result ≡ self.now.minimum }
+        ensures some { 1 ≤ result }
+    {
+        self.minimum_shards.get()
+    }
+
+    /// How many shards are added, as a number.
+    pub fn extra(&self) -> u16
+        ensures value { result ≡ self.now.extra }
+        ensures some { 1 ≤ result }
+    {
+        self.extra_shards.get()
+    }
 
     /// The shards that hold the text and those that are added.
     pub fn total_shards(&self) -> u32

@@ -1,6 +1,6 @@
 //! Lists whose contracts speak of the items alone.
 
-ghost use Rattle.std.specs.Prelude.{◌≡◌, ◌↔◌, [], ◌∷◌, ◌++◌, length, IsTrue, OnOk, OnErr};
+ghost use Rattle.std.specs.Prelude.{◌≡◌, ◌↔◌, [], ◌∷◌, ◌++◌, take, length, IsTrue, OnOk, OnErr, IfSome, None};
 
 use crate::error::NoMemory;
 use std::alloc::Global;
@@ -75,6 +75,22 @@ impl<T: Drop> Items<T> {
     {
         self.items.push(item)?;
         Ok(())
+    }
+
+    /// Takes the last item out, if there is one.
+    pub fn pop(&mut self) -> Option<T>
+        ensures some { IfSome result (λ item. self.old ≡ self.new ++ item ∷ []) }
+        ensures none { result ≡ None → self.old ≡ [] }
+        ensures none_left { result ≡ None → self.new ≡ [] }
+    {
+        self.items.pop()
+    }
+
+    /// Lets go of the items behind the first `len`.
+    pub fn truncate(&mut self, len: usize)
+        ensures { self.new ≡ take len self.old }
+    {
+        self.items.truncate(len);
     }
 }
 

@@ -14,8 +14,9 @@ mod rows;
 mod standard;
 mod strategy;
 mod stream;
+mod threads;
 
-pub use codec::{put_be16, put_be32, put_be64, put_bytes, put_u8, put_varint};
+pub use codec::{put_be16, put_be32, put_be64, put_bytes, put_u8, put_varint, undo_refused};
 pub use config::Config;
 pub use error::{Failed, NoMemory};
 pub use hash::{Digest, Digest32, Hasher, Sha256, SumHasher};
@@ -24,10 +25,13 @@ pub use memory::{MemorySink, MemorySource};
 pub use reader::{CodecError, Reader};
 pub use reading_laws::numbers_read_back;
 pub use standard::{StdSink, StdSource};
-pub use strategy::{Sequential, Strategy};
+pub use strategy::{Sequential, Strategy, run_of};
 pub use stream::{Sink, Source};
+pub use threads::{Gate, NoGate, Threads};
 
 #[cfg(test)]
 mod reader_tests;
+#[cfg(test)]
+mod standard_tests;
 #[cfg(test)]
 mod tests;

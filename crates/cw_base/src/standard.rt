@@ -6,6 +6,7 @@ ghost use Rattle.std.specs.Prelude.{◌≡◌, ℕ, List, Option, None};
 use crate::error::Failed;
 use crate::stream::{Sink, Source};
 use std::io::{Read, Write};
+use std::marker::Model;
 
 /// A reader as a source. Its count is raised at each error. It tells no bytes.
 #[derive(Drop)]
@@ -14,9 +15,19 @@ pub struct StdSource<R> {
     faults: u64,
 }
 
+impl<R> Model for StdSource<R> {
+    ghost use Rattle.cw_base.specs.Streams.{StreamState};
+
+    ghost Value = { StreamState };
+
+    ghost view = { λ stream. record { faults = stream.faults } };
+}
+
 impl<R> StdSource<R> {
     /// A source over a stream that hasn't failed yet.
-    pub fn new(inner: R) -> StdSource<R> {
+    pub fn new(inner: R) -> StdSource<R>
+        ensures no_faults { result.faults ≡ 0 }
+    {
         StdSource { inner, faults: 0 }
     }
 }
@@ -45,9 +56,19 @@ pub struct StdSink<W> {
     faults: u64,
 }
 
+impl<W> Model for StdSink<W> {
+    ghost use Rattle.cw_base.specs.Streams.{StreamState};
+
+    ghost Value = { StreamState };
+
+    ghost view = { λ stream. record { faults = stream.faults } };
+}
+
 impl<W> StdSink<W> {
     /// A sink over a stream that hasn't failed yet.
-    pub fn new(inner: W) -> StdSink<W> {
+    pub fn new(inner: W) -> StdSink<W>
+        ensures no_faults { result.faults ≡ 0 }
+    {
         StdSink { inner, faults: 0 }
     }
 }

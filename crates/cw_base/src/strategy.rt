@@ -1,9 +1,10 @@
 //! How work over many items is cut into pieces.
 
-ghost use Rattle.std.specs.Prelude.{◌≡◌, ◌+◌, ◌^◌, ◌<◌, ◌≤◌, IfOk};
+ghost use Rattle.std.specs.Prelude.{◌≡◌, ◌+◌, ◌-◌, ◌<◌, ◌≤◌, length, IfOk};
 ghost use Rattle.std.specs.Fn.{FnReturnsAt};
 ghost use Rattle.std.specs.Thread.{IsSync};
 ghost use Rattle.cw_base.specs.Mapping.{AcceptsItems, GivesItems};
+ghost use Rattle.cw_base.specs.Runs.{run_start};
 
 use crate::error::NoMemory;
 use std::alloc::Global;
@@ -23,8 +24,9 @@ pub trait Strategy: Sync {
 
     /// What `f` answers for each item, in the order of the items.
     ///
-    /// The items are cut into as many runs as the smaller of `pieces` and their number, as even as
-    /// can be, earlier runs longer by one. Each run but the last goes to a thread of its own.
+    /// The items are cut into as many runs as the smaller of `pieces` and their number, as [`run_of`]
+    /// says, and run i is piece i. Each run but the last goes to a thread of its own, or to the
+    /// caller's where none can be started.
     final fn map<R: thread::Threads + Sync, T: Sync, X: Send + Drop, F: Fn(&T) -> X + Sync>(
         &self,
         rt: &R,
@@ -39,7 +41,7 @@ pub trait Strategy: Sync {
         if pieces == 0 {
             return map_run(alloc, items, f);
         }
-        map_pieces(rt, self, alloc, items, 0, pieces, f)
+        map_pieces(rt, self, alloc, items, items.len(), pieces, 0, f)
     }
 }
 
@@ -56,6 +58,23 @@ impl Strategy for Sequential {
     }
 
     fn arrive(&self, _piece: usize) {}
+}
+
+/// The first item of a run, and the item after its last, where so many items are cut in order into so
+/// many pieces as even as can be, earlier runs longer by one. Items and runs are counted from 0.
+#[tactic(auto, using(crate::proofs::Runs::runs), unfolding(crate::specs::Runs::run_start))]
+pub fn run_of(items: usize, pieces: usize, piece: usize) -> (usize, usize)
+    requires { piece < pieces }
+    ensures first { result.0 ≡ run_start items pieces piece }
+    ensures end { result.1 ≡ run_start items pieces (piece + 1) }
+    ensures in_order { result.0 ≤ result.1 }
+    ensures within { result.1 ≤ items }
+{
+    let each = items / pieces;
+    let longer = items % pieces;
+    let first = piece * each + piece.min(longer);
+    let own = if piece < longer { each + 1 } else { each };
+    (first, first + own)
 }
 
 // What f answers for one item.
@@ -97,7 +116,8 @@ fn map_piece<S: Strategy, T, X: Drop, F: Fn(&T) -> X>(
     map_run(alloc, items, f)
 }
 
-// The first of some pieces on a thread of its own, beside the others.
+// A piece on a thread of its own, beside those behind it: `rest` are the items from its first on, of
+// so many in all.
 fn map_pieces<
     R: thread::Threads + Sync,
     S: Strategy,
@@ -108,33 +128,36 @@ fn map_pieces<
     rt: &R,
     strategy: &S,
     alloc: Global,
-    items: &[T],
-    piece: usize,
+    rest: &[T],
+    total: usize,
     pieces: usize,
+    piece: usize,
     f: &F,
 ) -> Result<Vec<X>, NoMemory>
-    requires some { 0 < pieces }
-    requires fits { piece + pieces < 2 ^ 64 }
-    requires accepts { AcceptsItems F.Fn f.now items.now }
-    ensures { IfOk result (λ answers. GivesItems F.Fn f.now items.now answers.items) }
+    requires within { piece < pieces }
+    requires from { length rest.now ≡ total - run_start total pieces piece }
+    requires accepts { AcceptsItems F.Fn f.now rest.now }
+    ensures { IfOk result (λ answers. GivesItems F.Fn f.now rest.now answers.items) }
 {
-    if pieces == 1 {
-        return map_piece(strategy, alloc, items, piece, f);
+    if piece + 1 == pieces {
+        return map_piece(strategy, alloc, rest, piece, f);
     }
-    let (head, tail) = items.split_at(items.len().div_ceil(pieces));
-    let (first, rest) = thread::join(
+    let (first, end) = run_of(total, pieces, piece);
+    let (head, tail) = rest.split_at(end - first);
+    let (own, others) = thread::join(
         rt,
         || -> Result<Vec<X>, NoMemory>
             requires { AcceptsItems F.Fn f.now head.now }
             ensures { IfOk result (λ answers. GivesItems F.Fn f.entry.now head.entry.now answers.items) }
         { map_piece(strategy, alloc, head, piece, f) },
         || -> Result<Vec<X>, NoMemory>
-            requires { IsSync R.row × (1 < pieces) × (piece + pieces < 2 ^ 64) × AcceptsItems F.Fn f.now tail.now }
+            requires { IsSync R.row × (piece + 1 < pieces)
+                × (length tail.now ≡ total - run_start total pieces (piece + 1)) × AcceptsItems F.Fn f.now tail.now }
             ensures { IfOk result (λ answers. GivesItems F.Fn f.entry.now tail.entry.now answers.items) }
-        { map_pieces(rt, strategy, alloc, tail, piece + 1, pieces - 1, f) },
+        { map_pieces(rt, strategy, alloc, tail, total, pieces, piece + 1, f) },
     );
-    let mut answers = first?;
-    let mut more = rest?;
+    let mut answers = own?;
+    let mut more = others?;
     answers.append(&mut more)?;
     Ok(answers)
 }

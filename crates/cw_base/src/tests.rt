@@ -1,6 +1,7 @@
 use super::*;
 use std::sync::atomic::{AtomicU64, Ordering};
 use std::test::Fail;
+use std::thread;
 
 fn digest(byte: u8) -> Digest32 {
     Digest32([byte; 32])
@@ -83,17 +84,13 @@ fn a_map_answers_in_the_order_of_the_items(rt: HostRuntime) -> Result<(), Fail> 
     Ok(())
 }
 
-// Cuts work into three pieces, and counts how often each arrives: a hexadecimal digit a piece.
+// Counts how often each piece arrives: a hexadecimal digit a piece.
 #[derive(Drop)]
-struct Three {
+struct Counter {
     arrived: AtomicU64,
 }
 
-impl Strategy for Three {
-    fn pieces(&self) -> usize {
-        3
-    }
-
+impl Gate for Counter {
     fn arrive(&self, piece: usize) {
         let place = match piece {
             0 => 0x1,
@@ -107,19 +104,90 @@ impl Strategy for Three {
 
 #[test]
 fn each_piece_arrives_once_and_no_more_than_items(rt: HostRuntime) -> Result<(), Fail> {
-    let cases: [(&[u64], u64); 4] = [
+    let cases: [(&[u64], u64); 5] = [
         (&[1, 2, 3, 4, 5], 0x111),
         (&[1, 2, 3], 0x111),
         (&[1, 2], 0x11),
         (&[1], 0x1),
+        (&[], 0),
     ];
     for (items, arrived) in cases {
-        let three = Three {
+        let counter = Counter {
             arrived: AtomicU64::new(0),
         };
+        let three = Threads::new(3, &counter);
         let same = three.map(&rt, rt.alloc(), items, &|x: &u64| *x)?;
         assert!(rt; same.as_slice() == items);
-        assert_eq!(rt; three.arrived.load(Ordering::SeqCst), arrived);
+        assert_eq!(rt; counter.arrived.load(Ordering::SeqCst), arrived);
     }
+    Ok(())
+}
+
+#[test]
+fn runs_are_as_even_as_can_be(rt: HostRuntime) {
+    for (piece, first, end) in [(0, 0, 3), (1, 3, 5), (2, 5, 7)] {
+        assert_eq!(rt; run_of(7, 3, piece), (first, end));
+    }
+}
+
+#[test]
+fn threads_answer_as_one_thread_does(rt: HostRuntime) -> Result<(), Fail> {
+    let items = [3u64, 1, 4, 1, 5, 9, 2, 6];
+    for count in [1usize, 3, 64] {
+        for len in 0..9usize {
+            let threads = Threads::new(count, NoGate);
+            let beside = threads.map(&rt, rt.alloc(), &items[..len], &|x: &u64| *x / 2)?;
+            let behind = Sequential.map(&rt, rt.alloc(), &items[..len], &|x: &u64| *x / 2)?;
+            assert!(rt; beside.as_slice() == behind.as_slice(), "{count} {len}");
+        }
+    }
+    Ok(())
+}
+
+// Holds piece 0 until piece 1 arrives, for ten million turns at the most.
+#[derive(Drop)]
+struct Door {
+    open: AtomicU64,
+    passed: AtomicU64,
+}
+
+impl Gate for Door {
+    fn arrive(&self, piece: usize) {
+        if piece == 1 {
+            self.open.store(1, Ordering::SeqCst);
+        }
+        if piece == 0 {
+            for _ in 0..10_000_000u64 {
+                if self.open.load(Ordering::SeqCst) == 1 {
+                    self.passed.store(1, Ordering::SeqCst);
+                    return;
+                }
+                thread::yield_now();
+            }
+        }
+    }
+}
+
+#[test]
+fn pieces_run_beside_each_other(rt: HostRuntime) -> Result<(), Fail> {
+    let door = Door {
+        open: AtomicU64::new(0),
+        passed: AtomicU64::new(0),
+    };
+    let halves = Threads::new(2, &door).map(&rt, rt.alloc(), &[8u64, 2, 5], &|x: &u64| *x / 2)?;
+    assert!(rt; halves.as_slice() == [4, 1, 2].as_slice());
+    assert_eq!(rt; door.passed.load(Ordering::SeqCst), 1);
+    Ok(())
+}
+
+#[test]
+fn items_are_taken_from_the_end(rt: HostRuntime) -> Result<(), Fail> {
+    let mut items = Items::from_vec([1u8, 2, 3].to_vec(rt.alloc())?);
+    assert_eq!(rt; items.pop(), Some(3));
+    items.truncate(1);
+    assert!(rt; items.as_slice() == [1].as_slice());
+    items.truncate(4);
+    assert_eq!(rt; items.pop(), Some(1));
+    assert_eq!(rt; items.pop(), None);
     Ok(())
 }

@@ -23,6 +23,3 @@ pub use error::{ReedSolomonError, RsError};
 pub use laws::encodings_decode;
 pub use scheme::{ReedSolomon, Scheme};
 pub use sizes::max_shard_size_fits;
-
-#[cfg(test)]
-mod tests;

@@ -7,3 +7,4 @@ pub mod Joined
 pub mod Same
 pub mod Cutting
 pub mod Committed
+pub mod Handoffs

@@ -3,6 +3,7 @@ pub mod Commit
 pub mod Encoding
 pub mod Epochs
 pub mod FormatLaws
+pub mod Handoff
 pub mod MessageLaws
 pub mod NoteLaws
 pub mod Numbers

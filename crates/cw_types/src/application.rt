@@ -1,10 +1,12 @@
 //! What stands beside a member: who signed what, and which blocks may follow which.
 
-ghost use Rattle.std.specs.Prelude.{◌≡◌, ℕ, Bool, true};
+ghost use Rattle.std.specs.Prelude.{◌≡◌, ℕ, Bool, true, ⊤};
+ghost use Rattle.cw_types.specs.declared.handoff.Handoff.TheVariants.{Wait};
 ghost use Rattle.cw_types.specs.declared.vote.Vote.{Vote as VoteValue};
 ghost use Rattle.cw_types.specs.Block.{Block};
 
 use crate::block::ChainBlock;
+use crate::handoff::Handoff;
 use crate::vote::Vote;
 
 /// Knows who signed what: a member's vote is signed only if that member signed it.
@@ -22,8 +24,18 @@ pub trait Application: Send + Sync {
     /// Whether the first block may stand over the second.
     ghost accepts: { Self → Block → Block → Bool };
 
+    /// Where nothing is made ready ahead: always, unless an application says otherwise.
+    ghost waits: { Self → Type 0 } = { λ application. ⊤ };
+
     fn verify(&self, block: &ChainBlock, parent: &ChainBlock) -> bool
         ensures { result ≡ accepts self.now block.now parent.now };
+
+    /// Makes the next payload ready ahead. Nothing here asks for it.
+    fn prepare(&self) -> Handoff<()>
+        ensures { waits self.now → result ≡ Wait }
+    {
+        Handoff::Wait
+    }
 }
 
 /// The application that accepts each block.

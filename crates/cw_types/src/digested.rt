@@ -1,6 +1,7 @@
 //! What a block is to those who agree on it, and a block with its digest.
 
-ghost use Rattle.std.specs.Prelude.{◌≡◌, ◌≤◌, ℕ, List, IfOk, length};
+ghost use Rattle.std.specs.Prelude.{◌≡◌, ◌≤◌, ℕ, List, Option, Some, IfOk, length};
+ghost use Rattle.cw_base.specs.ReadingLaws.{IsBytes};
 ghost use Rattle.cw_types.specs.Encoding.{block_bytes};
 
 use crate::block::{ChainBlock, Context, MAX_BLOCK};
@@ -18,12 +19,25 @@ pub trait Block: Heightable {
 
     ghost parent_of: { Self → Self.Digest };
 
+    /// A block's bytes.
+    ghost bytes_of: { Self → List ℕ };
+
+    /// The block that a text is read as, to its end.
+    ghost read_as: { List ℕ → Option Self };
+
     fn digest(&self) -> Self::Digest
         ensures { result ≡ digest_of self.now };
 
     /// The digest of its parent.
     fn parent(&self) -> Self::Digest
         ensures { result ≡ parent_of self.now };
+
+    /// A law, which takes no work: a block's bytes are read as that block.
+    fn is_read_back(&self)
+        ensures { read_as (bytes_of self.now) ≡ Some self.now };
+
+    /// A law: bytes that are read as a block are that block's.
+    ghost read_is_written: { (text : List ℕ) (block : Self) → IsBytes text → read_as text ≡ Some block → bytes_of block ≡ text };
 }
 
 /// A block that says where it was proposed.
@@ -38,9 +52,6 @@ pub trait CertifiableBlock: Block {
 
 /// A block whose bytes are bounded.
 pub trait BoundedBlock: Block {
-    /// A block's bytes.
-    ghost bytes_of: { Self → List ℕ };
-
     /// The most bytes of a block.
     ghost max_bytes: { ℕ };
 
@@ -50,7 +61,7 @@ pub trait BoundedBlock: Block {
 
     /// A law, which takes no work: a block has no more bytes.
     fn is_bounded(&self)
-        ensures { length (bytes_of self.now) ≤ max_bytes };
+        ensures { length (Self.bytes_of self.now) ≤ max_bytes };
 }
 
 /// A block with its digest, which is hashed once.
@@ -109,10 +120,18 @@ impl<H: Hasher<Digest = Digest32>> Block for Digested<H> {
     type Digest = Digest32;
 
     ghost use Rattle.cw_types.specs.Encoding.{block_bytes};
+    ghost use Rattle.cw_types.specs.FormatLaws.{block_found};
+    ghost use Rattle.cw_types.specs.Reading.{block_in};
 
     ghost digest_of = { λ block. H.digest_of (block_bytes block) };
 
     ghost parent_of = { λ block. block.parent };
+
+    ghost bytes_of = { block_bytes };
+
+    ghost read_as = { block_in };
+
+    ghost read_is_written = { λ text block bytes read. (block_found text block bytes read).0 };
 
     fn digest(&self) -> Digest32 {
         self.digest
@@ -120,6 +139,10 @@ impl<H: Hasher<Digest = Digest32>> Block for Digested<H> {
 
     fn parent(&self) -> Digest32 {
         self.block.parent()
+    }
+
+    fn is_read_back(&self) {
+        block_fits(&self.block);
     }
 }
 
@@ -134,10 +157,6 @@ impl<H: Hasher<Digest = Digest32>> CertifiableBlock for Digested<H> {
 }
 
 impl<H: Hasher<Digest = Digest32>> BoundedBlock for Digested<H> {
-    ghost use Rattle.cw_types.specs.Encoding.{block_bytes};
-
-    ghost bytes_of = { block_bytes };
-
     ghost max_bytes = { 1048745 };
 
     fn max_encode_size() -> usize {

@@ -3,7 +3,9 @@
 ghost use Rattle.std.specs.Prelude.{◌≡◌, ◌<◌, ◌≤◌, ◌^◌, ℕ, IsTrue, List, Some, length};
 ghost use Rattle.cw_base.specs.ReadingLaws.{IsBytes, ReadsBack};
 ghost use Rattle.std.specs.List.{AllByRecursion};
-ghost use Rattle.cw_types.specs.Block.{Block};
+ghost use Rattle.cw_types.specs.Block.{Block as BlockValue};
+ghost use Rattle.cw_types.specs.Handoff.{IsMapped};
+ghost use Rattle.cw_types.specs.declared.handoff.Handoff.{Handoff as HandoffValue};
 ghost use Rattle.cw_types.specs.Epochs.{members_in, rises_from, size};
 ghost use Rattle.cw_types.specs.Encoding.{block_bytes, commitment_bytes, context_bytes, cert_bytes, message_bytes, note_bytes, proposal_bytes, vote_bytes};
 ghost use Rattle.cw_types.specs.Reading.{block_at, block_in, cert_at, commitment_at, context_at, message_of, note_at, proposal_at, vote_at};
@@ -16,6 +18,7 @@ ghost use Rattle.cw_types.specs.TaggedLaws.{AreMembers, IsCert, IsVote};
 use crate::block::{ChainBlock, Context};
 use crate::commitment::Commitment;
 use crate::committees::Committees;
+use crate::digested::Block;
 use crate::note::Note;
 use crate::vote::{Cert, Proposal, Vote};
 
@@ -44,8 +47,22 @@ pub fn forms_are_told()
 /// A text that is read as a block is that block's bytes and no other's, and the bytes of a block are
 /// read as that block.
 pub fn blocks_read_back()
-    ensures found { (text : List ℕ) (b : Block) → IsBytes text → block_in text ≡ Some b → (block_bytes b ≡ text) × IsBlock b }
-    ensures again { (b : Block) → IsBlock b → block_in (block_bytes b) ≡ Some b }
+    ensures found { (text : List ℕ) (b : BlockValue) → IsBytes text → block_in text ≡ Some b → (block_bytes b ≡ text) × IsBlock b }
+    ensures again { (b : BlockValue) → IsBlock b → block_in (block_bytes b) ≡ Some b }
+{}
+
+/// Two blocks with the same bytes are the same block, whatever their type.
+pub fn blocks_are_told<B: Block>(one: &B, other: &B)
+    ensures { B.bytes_of one.now ≡ B.bytes_of other.now → one.now ≡ other.now }
+{
+    one.is_read_back();
+    other.is_read_back();
+}
+
+/// A handoff mapped by what changes nothing stays, and mapped twice it is mapped by both in turn.
+pub fn handoffs_map<C, D, E>()
+    ensures same { (one other : HandoffValue C) → IsMapped (λ x y. y ≡ x) one other → other ≡ one }
+    ensures turn { (first : C → D) (then : D → E) (one : HandoffValue C) (next : HandoffValue D) (last : HandoffValue E) → IsMapped (λ x y. y ≡ first x) one next → IsMapped (λ y z. z ≡ then y) next last → IsMapped (λ x z. z ≡ then (first x)) one last }
 {}
 
 /// Each commitment reads back.
@@ -82,8 +99,8 @@ pub fn block_fits(block: &ChainBlock)
 
 /// A block has at most 1,048,745 bytes, and one with the longest payload has as many.
 pub fn blocks_are_bounded()
-    ensures bound { (b : Block) → IsBlock b → length (block_bytes b) ≤ 1048745 }
-    ensures reached { (b : Block) → IsBlock b → length b.payload ≡ 1048576 → length (block_bytes b) ≡ 1048745 }
+    ensures bound { (b : BlockValue) → IsBlock b → length (block_bytes b) ≤ 1048745 }
+    ensures reached { (b : BlockValue) → IsBlock b → length b.payload ≡ 1048576 → length (block_bytes b) ≡ 1048745 }
 {}
 
 /// Each vote reads back.

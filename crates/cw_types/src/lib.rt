@@ -4,6 +4,7 @@
 #![tactic(auto)]
 
 mod application;
+mod automaton;
 mod block;
 mod chain;
 mod commitment;
@@ -11,6 +12,8 @@ pub mod committees;
 mod committing;
 mod digested;
 mod event;
+mod feedback;
+mod handoff;
 pub mod laws;
 mod message;
 mod note;
@@ -19,6 +22,7 @@ mod round;
 mod vote;
 
 pub use application::{AcceptAll, Application, Verifier};
+pub use automaton::{Automaton, CertifiableAutomaton};
 pub use block::{ChainBlock, Context, Payload};
 pub use chain::{genesis, genesis_commitment};
 pub use commitment::Commitment;
@@ -26,6 +30,8 @@ pub use committees::{Committees, leader};
 pub use committing::{commit, commit_with_chunks};
 pub use digested::{Block, BoundedBlock, CertifiableBlock, Digested};
 pub use event::{Event, Handed, Out, StepOut, TicketOut, To};
+pub use feedback::{Feedback, Monitor, Relay, Reporter};
+pub use handoff::Handoff;
 pub use message::Message;
 pub use note::Note;
 pub use numbers::{config_for, max_faults, quorum};

@@ -1,4 +1,5 @@
 mod reading;
+mod surface;
 
 use super::*;
 use cw_base::{CodecError, Digest32, Items, Reader, Sequential, SumHasher};

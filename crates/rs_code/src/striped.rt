@@ -1,20 +1,29 @@
 //! Rows by sums of given rows, one stripe of columns beside the other.
 
-ghost use Rattle.std.specs.Prelude.{◌≡◌, ℕ, ◌<◌, ◌≤◌, ◌+◌, ◌-◌, ◌*◌, ◌/◌, ◌%◌, ◌++◌, take, drop, length, slice_index, slice_index_or, IfOk, OnOk, List, Result, Vec};
+ghost use Rattle.std.specs.Prelude.{◌≡◌, ℕ, ◌<◌, ◌≤◌, ◌+◌, ◌-◌, ◌*◌, ◌/◌, ◌%◌, ◌^◌, ◌++◌, take, drop, length, slice_index, slice_index_or, IfOk, OnOk, List, Result, Vec, Ok};
 ghost use Rattle.std.specs.declared.alloc.Global.{Global};
 ghost use Rattle.std.specs.declared.alloc.AllocError.{AllocError};
-ghost use Rattle.rs_code.specs.Coefficients.{weighted};
-ghost use Rattle.rs_code.specs.Rows.{symbol_bytes, joined, row_through};
+ghost use Rattle.rs_code.specs.Codeword.{sum_below};
+ghost use Rattle.rs_code.specs.Coefficients.{lane, symbol_through};
+ghost use Rattle.rs_code.specs.Field.{times};
+ghost use Rattle.rs_code.specs.Rows.{symbol, symbol_bytes, joined, row_through};
 ghost use Rattle.rs_code.specs.Stripes.{stripe_start, stripe_bytes, AreStripes};
 
 use crate::basis::Basis;
+use crate::eights::{fill_lane, group_sums};
+use crate::lanes::{Eight, next_eight};
+use crate::pairs::{fill_pair_lane, pair_sums};
 use crate::stripes::{stripe, stripe_count};
-use crate::sums::{column_sums, push_symbols};
 use cw_base::{NoMemory, Strategy};
 use std::alloc::{AllocError, Global};
 use std::thread::Threads;
 
+// How many columns are worked on at once: their sums stay in the caches near the processor.
+const BLOCK: usize = 4096;
+
 /// The rows at the targets, of the polynomials through the rows at the points of a basis.
+///
+/// Each stripe is done for eight targets at a time, whose coefficients are then let go.
 pub fn rows_at<R: Threads + Sync, S: Strategy>(
     rt: &R,
     alloc: Global,
@@ -26,100 +35,261 @@ pub fn rows_at<R: Threads + Sync, S: Strategy>(
 ) -> Result<Vec<u8>, NoMemory>
     requires rows { length rows.now ≡ length basis.now * width }
     requires even { width % 2 ≡ 0 }
+    requires room { length targets.now * width < 2 ^ 63 }
     ensures { IfOk result (λ v. v.items ≡ joined (length targets.now)
         (λ i. row_through (length basis.now) (λ s. slice_index basis.now s) rows.now width (slice_index targets.now i))) }
 {
-    let coefficients = basis.coefficients(alloc, targets)?;
-    let k = basis.count();
     let count = stripe_count(width, strategy.pieces());
-    let pieces = run_stripes(
-        rt,
-        alloc,
-        rows,
-        k,
-        width,
-        &coefficients,
-        targets.len(),
-        count,
-        strategy,
-    )?;
-    let joined = rows_of_stripes(alloc, &pieces, width, targets.len())?;
+    let pieces = run_stripes(rt, alloc, basis, rows, width, targets, count, strategy)?;
+    let joined = rows_of_stripes(alloc, pieces, width, targets.len())?;
     Ok(joined)
 }
 
-// The stripes of the weighted rows, as a strategy does them.
+// The stripes of the rows at the targets, as a strategy does them.
 fn run_stripes<R: Threads + Sync, S: Strategy>(
     rt: &R,
     alloc: Global,
+    basis: &Basis,
     rows: &[u8],
-    k: usize,
     width: usize,
-    coefficients: &[u16],
-    targets: usize,
+    targets: &[u16],
     count: usize,
     strategy: &S,
 ) -> Result<Vec<Result<Vec<u8>, AllocError>>, NoMemory>
-    requires rows { length rows.now ≡ k * width }
-    requires coefficients { length coefficients.now ≡ targets * k }
+    requires rows { length rows.now ≡ length basis.now * width }
     requires even { width % 2 ≡ 0 }
+    requires room { length targets.now * width < 2 ^ 63 }
     ensures count { IfOk result (λ v. length v.items ≡ count) }
-    ensures stripes { IfOk result (λ v. AreStripes width targets (λ i j. weighted k rows.now width coefficients.now i j) v.items) }
+    ensures stripes { IfOk result (λ v. AreStripes width (length targets.now)
+        (λ i j. symbol_through basis.now rows.now width (slice_index targets.now i) j) v.items) }
 {
     let mut indices = Vec::new(alloc);
     for index in 0..count {
         indices.push(index)?;
     }
     let work = |index: &usize| -> Result<Vec<u8>, AllocError>
-        requires rows { length rows.now ≡ k * width }
-        requires coefficients { length coefficients.now ≡ targets * k }
+        requires rows { length rows.now ≡ length basis.now * width }
         requires even { width % 2 ≡ 0 }
+        requires room { length targets.now * width < 2 ^ 63 }
         requires index { index.now < count }
-        ensures { IfOk result (λ v. v.items ≡ joined targets
-            (λ i. stripe_bytes width count index.now (λ j. weighted k rows.entry.now width coefficients.entry.now i j))) }
-    { stripe_rows(alloc, rows, k, width, coefficients, targets, count, *index) };
+        ensures { IfOk result (λ v. v.items ≡ joined (length targets.entry.now)
+            (λ i. stripe_bytes width count index.now
+            (λ j. symbol_through basis.entry.now rows.entry.now width (slice_index targets.entry.now i) j))) }
+    { stripe_rows(alloc, basis, rows, width, targets, count, *index) };
     let pieces = strategy.map(rt, alloc, &indices, &work)?;
     Ok(pieces)
 }
 
-// One stripe of the weighted rows.
+// One stripe of the rows at the targets.
 fn stripe_rows(
     alloc: Global,
+    basis: &Basis,
     rows: &[u8],
-    k: usize,
     width: usize,
-    coefficients: &[u16],
-    targets: usize,
+    targets: &[u16],
     count: usize,
     index: usize,
 ) -> Result<Vec<u8>, AllocError>
-    requires rows { length rows.now ≡ k * width }
-    requires coefficients { length coefficients.now ≡ targets * k }
+    requires rows { length rows.now ≡ length basis.now * width }
     requires even { width % 2 ≡ 0 }
+    requires room { length targets.now * width < 2 ^ 63 }
     requires index { index < count }
-    ensures { IfOk result (λ v. v.items ≡ joined targets
-        (λ i. stripe_bytes width count index (λ j. weighted k rows.now width coefficients.now i j))) }
+    ensures { IfOk result (λ v. v.items ≡ joined (length targets.now)
+        (λ i. stripe_bytes width count index (λ j. symbol_through basis.now rows.now width (slice_index targets.now i) j))) }
 {
     let (first, last) = stripe(width, count, index);
-    let mut out = Vec::new(alloc);
-    for target in 0..targets {
-        let own = own_coefficients(coefficients, k, target);
-        let sums = column_sums(alloc, own, rows, width, first / 2, (last - first) / 2)?;
-        push_symbols(&mut out, &sums)?;
+    let wide = last - first;
+    let mut out = vec![in alloc; 0u8; targets.len() * wide]?;
+    for group in 0..targets.len().div_ceil(8) {
+        fill_group(
+            alloc,
+            &mut out,
+            basis,
+            rows,
+            width,
+            targets,
+            8 * group,
+            first / 2,
+            wide,
+        )?;
     }
     Ok(out)
 }
 
-// What the k rows count for in one target.
-fn own_coefficients(coefficients: &[u16], k: usize, target: usize) -> &[u16]
-    requires { (target + 1) * k ≤ length coefficients.now }
-    ensures count { length result.now ≡ k }
-    ensures each { (s : ℕ) → s < k → slice_index result.now s ≡ slice_index coefficients.now (target * k + s) }
+// Writes the rows of the next eight targets, or of those that are left: `wide` bytes of each, from
+// the column `first` on.
+fn fill_group(
+    alloc: Global,
+    out: &mut [u8],
+    basis: &Basis,
+    rows: &[u8],
+    width: usize,
+    targets: &[u16],
+    done: usize,
+    first: usize,
+    wide: usize,
+) -> Result<(), AllocError>
+    requires rows { length rows.now ≡ length basis.now * width }
+    requires columns { 2 * first + wide ≤ width }
+    requires even { wide % 2 ≡ 0 }
+    requires out { length out.old ≡ length targets.now * wide }
+    requires done { done < length targets.now }
+    ensures count { length out.new ≡ length out.old }
+    ensures before { (i j : ℕ) → i < done → j < wide / 2 → symbol out.new wide i j ≡ symbol out.old wide i j }
+    ensures bytes { OnOk result ((i : ℕ) → slice_index out.new i < 256) }
+    ensures group { OnOk result ((i j : ℕ) → done ≤ i → i < done + 8 → i < length targets.now → j < wide / 2 →
+        symbol out.new wide i j ≡ symbol_through basis.now rows.now width (slice_index targets.now i) (first + j)) }
 {
-    &coefficients[target * k..][..k]
+    let lanes = (targets.len() - done).min(8);
+    let factors = basis.coefficients(alloc, &next_eight(targets, done))?;
+    let columns = wide / 2;
+    for block in 0..columns.div_ceil(BLOCK) {
+        let start = BLOCK * block;
+        let count = (columns - start).min(BLOCK);
+        fill_block(
+            alloc, out, &factors, rows, width, wide, done, lanes, first, start, count,
+        )?;
+    }
+    Ok(())
 }
 
-// The rows whose stripes were done, each whole.
+// Writes the symbols of some lanes in a block of columns, from `start` on: the sums of the rows' symbols
+// from the column `first + start` on, each times its factor in the lane.
+fn fill_block(
+    alloc: Global,
+    out: &mut [u8],
+    factors: &[Eight],
+    rows: &[u8],
+    width: usize,
+    wide: usize,
+    done: usize,
+    lanes: usize,
+    first: usize,
+    start: usize,
+    count: usize,
+) -> Result<(), AllocError>
+    requires rows { length rows.now ≡ length factors.now * width }
+    requires columns { 2 * (first + start + count) ≤ width }
+    requires own { 2 * (start + count) ≤ wide }
+    requires out { (done + lanes) * wide ≤ length out.old }
+    requires lanes { lanes ≤ 8 }
+    requires fits { done + lanes < 2 ^ 64 }
+    ensures count { length out.new ≡ length out.old }
+    ensures others { (i j : ℕ) → 2 * (j + 1) ≤ wide → (done ≤ i → start ≤ j → j < start + count → ⊥) →
+        symbol out.new wide i j ≡ symbol out.old wide i j }
+    ensures written { OnOk result ((l j : ℕ) → l < lanes → j < count → symbol out.new wide (done + l) (start + j)
+        ≡ sum_below (length factors.now) (λ s. times (symbol rows.now width s (first + (start + j))) (lane factors.now s l))) }
+{
+    if lanes <= 2 {
+        return fill_pairs(
+            alloc, out, factors, rows, width, wide, done, lanes, first, start, count,
+        );
+    }
+    fill_eights(
+        alloc, out, factors, rows, width, wide, done, lanes, first, start, count,
+    )
+}
+
+// The same by tables for eight targets.
+fn fill_eights(
+    alloc: Global,
+    out: &mut [u8],
+    factors: &[Eight],
+    rows: &[u8],
+    width: usize,
+    wide: usize,
+    done: usize,
+    lanes: usize,
+    first: usize,
+    start: usize,
+    count: usize,
+) -> Result<(), AllocError>
+    requires rows { length rows.now ≡ length factors.now * width }
+    requires columns { 2 * (first + start + count) ≤ width }
+    requires own { 2 * (start + count) ≤ wide }
+    requires out { (done + lanes) * wide ≤ length out.old }
+    requires lanes { lanes ≤ 8 }
+    requires fits { done + lanes < 2 ^ 64 }
+    ensures count { length out.new ≡ length out.old }
+    ensures others { (i j : ℕ) → 2 * (j + 1) ≤ wide → (done ≤ i → start ≤ j → j < start + count → ⊥) →
+        symbol out.new wide i j ≡ symbol out.old wide i j }
+    ensures written { OnOk result ((l j : ℕ) → l < lanes → j < count → symbol out.new wide (done + l) (start + j)
+        ≡ sum_below (length factors.now) (λ s. times (symbol rows.now width s (first + (start + j))) (lane factors.now s l))) }
+{
+    let sums = group_sums(alloc, factors, rows, width, first + start, count)?;
+    for place in 0..lanes {
+        fill_lane(out, wide, done + place, start, &sums, place);
+    }
+    Ok(())
+}
+
+// The same by tables for two targets.
+fn fill_pairs(
+    alloc: Global,
+    out: &mut [u8],
+    factors: &[Eight],
+    rows: &[u8],
+    width: usize,
+    wide: usize,
+    done: usize,
+    lanes: usize,
+    first: usize,
+    start: usize,
+    count: usize,
+) -> Result<(), AllocError>
+    requires rows { length rows.now ≡ length factors.now * width }
+    requires columns { 2 * (first + start + count) ≤ width }
+    requires own { 2 * (start + count) ≤ wide }
+    requires out { (done + lanes) * wide ≤ length out.old }
+    requires lanes { lanes ≤ 2 }
+    requires fits { done + lanes < 2 ^ 64 }
+    ensures count { length out.new ≡ length out.old }
+    ensures others { (i j : ℕ) → 2 * (j + 1) ≤ wide → (done ≤ i → start ≤ j → j < start + count → ⊥) →
+        symbol out.new wide i j ≡ symbol out.old wide i j }
+    ensures written { OnOk result ((l j : ℕ) → l < lanes → j < count → symbol out.new wide (done + l) (start + j)
+        ≡ sum_below (length factors.now) (λ s. times (symbol rows.now width s (first + (start + j))) (lane factors.now s l))) }
+{
+    let sums = pair_sums(alloc, factors, rows, width, first + start, count)?;
+    for place in 0..lanes {
+        fill_pair_lane(out, wide, done + place, start, &sums, place);
+    }
+    Ok(())
+}
+
+// The rows whose stripes were done, each whole. A single stripe is all of them, and isn't copied.
 fn rows_of_stripes(
+    alloc: Global,
+    pieces: Vec<Result<Vec<u8>, AllocError>>,
+    width: usize,
+    targets: usize,
+) -> Result<Vec<u8>, NoMemory>
+    requires some { 1 ≤ length pieces.items }
+    requires even { width % 2 ≡ 0 }
+    requires long { (index : ℕ) (r : Result (Vec ℕ Global) AllocError) → index < length pieces.items →
+        IfOk (slice_index_or pieces.items index r) (λ bytes. length bytes.items
+        ≡ targets * (stripe_start width (length pieces.items) (index + 1) - stripe_start width (length pieces.items) index)) }
+    ensures { (value : ℕ → ℕ → ℕ) → AreStripes width targets value pieces.items →
+        IfOk result (λ v. v.items ≡ joined targets (λ i. symbol_bytes (width / 2) (λ j. value i j))) }
+{
+    if pieces.len() == 1 {
+        return only_piece(pieces);
+    }
+    rows_of_several(alloc, &pieces, width, targets)
+}
+
+// The piece of a list of one.
+fn only_piece(mut pieces: Vec<Result<Vec<u8>, AllocError>>) -> Result<Vec<u8>, NoMemory>
+    requires { length pieces.items ≡ 1 }
+    ensures { (r : Result (Vec ℕ Global) AllocError) → IfOk result (λ v. slice_index_or pieces.items 0 r ≡ Ok v) }
+{
+    match pieces.pop() {
+        Some(Ok(bytes)) => Ok(bytes),
+        _ => Err(NoMemory),
+    }
+}
+
+// The rows whose stripes were done, each joined of its parts.
+fn rows_of_several(
     alloc: Global,
     pieces: &[Result<Vec<u8>, AllocError>],
     width: usize,
@@ -133,7 +303,7 @@ fn rows_of_stripes(
     ensures { (value : ℕ → ℕ → ℕ) → AreStripes width targets value pieces.now →
         IfOk result (λ v. v.items ≡ joined targets (λ i. symbol_bytes (width / 2) (λ j. value i j))) }
 {
-    let mut out = Vec::new(alloc);
+    let mut out = Vec::with_capacity(alloc, targets.saturating_mul(width))?;
     for place in 0..targets {
         push_row(&mut out, pieces, width, place)?;
     }

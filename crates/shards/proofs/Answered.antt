@@ -20,7 +20,7 @@ use Rattle.shards.specs.declared.pieces.KeptChunk.{KeptChunk}
 use Rattle.shards.specs.declared.verdict.Verdict.{Verdict}
 use Rattle.shards.specs.declared.verdict.Verdict.TheVariants.{Foreign, Kept, Known}
 use Rattle.shards.proofs.KeptLemmas.{chunks_more, keep_more, shown_kept}
-use Rattle.shards.proofs.SameLemmas.{same_commitment_self}
+use Rattle.cw_types.proofs.Same.{same_commitment_self}
 
 -- how many chunks were kept of a commitment
 abbrev pub count : Commitment → List KeptChunk → ℕ

@@ -23,7 +23,7 @@ use Rattle.cw_rules.specs.Rules.{Chunk}
 use Rattle.cw_rules_coded.specs.Coded.{code_rows, digest_bytes}
 use Rattle.shards.specs.Enough.{AreEnough, AreOfText, AreUnder, checked_of}
 use Rattle.shards.specs.Kept.{rules_of}
-use Rattle.shards.proofs.Sizes.{codable}
+use Rattle.cw_types.proofs.Cutting.{codable}
 use Rattle.shards.proofs.Standing.{stands_under}
 
 -- ---- lists by place

@@ -12,7 +12,7 @@ use Rattle.cw_rules.specs.Held.{if_committed, row_of, shown, whole_of}
 use Rattle.cw_rules.specs.Rules.{Chunk, Rules, block_of}
 use Rattle.shards.specs.Kept.{AreKept, came_of, chunks_of, is_known, part_of, with_chunk}
 use Rattle.shards.specs.declared.pieces.KeptChunk.{KeptChunk}
-use Rattle.shards.proofs.SameLemmas.{same_commitment-true}
+use Rattle.cw_types.proofs.Same.{same_commitment-true}
 
 -- the rows of a commitment that came are the chunks that were kept of it
 pub rows_kept : (c : Commitment) (kept : List KeptChunk) → filter_map (row_of c) (map part_of kept) ≡ chunks_of c kept

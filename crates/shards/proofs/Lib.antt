@@ -1,13 +1,10 @@
-pub mod SameLemmas
 pub mod Read
 pub mod Lists
-pub mod InChunks
 pub mod Answered
 pub mod KeptLemmas
-pub mod Sizes
+pub mod LedUp
 pub mod Standing
 pub mod Decoded
 pub mod Shown
-pub mod Short
 pub mod Stands
 pub mod Stays

@@ -24,7 +24,7 @@ use Rattle.shards.specs.Enough.{AreOfText}
 use Rattle.shards.specs.Kept.{rules_of}
 use Rattle.cw_types.specs.Reading.{block_in}
 use Rattle.shards.proofs.Decoded.{listed_at}
-use Rattle.shards.proofs.SameLemmas.{same_commitment-true, same_digest-true, same_digest_self, same_shards-true}
+use Rattle.cw_types.proofs.Same.{same_commitment-true, same_digest-true, same_digest_self, same_shards-true}
 
 get-mapped : {X Y : Type 0} (f : X → Y) (xs : List X) (i : ℕ) (x : X) (d : Y) → slice_get xs i ≡ Some x → get_or (map f xs) i d ≡ f x
 get-mapped f [] i x d h = cc

@@ -15,7 +15,7 @@ use Rattle.cw_types.specs.declared.commitment.Commitment.{Commitment}
 use Rattle.cw_rules.specs.Rules.{Chunk, is_under}
 use Rattle.cw_rules_coded.specs.Coded.{digest_bytes, leads_up}
 use Rattle.shards.specs.Kept.{rules_of}
-use Rattle.shards.proofs.SameLemmas.{same_digest-true, same_digest_self}
+use Rattle.cw_types.proofs.Same.{same_digest-true, same_digest_self}
 
 module _ (hash : List ℕ → Digest32) (epochs : Epochs) (c : Commitment) (x : Chunk) where
   total : ℕ

@@ -20,7 +20,7 @@ use Rattle.shards.specs.declared.verdict.Verdict.{Verdict}
 use Rattle.shards.specs.declared.verdict.Verdict.TheVariants.{Foreign, Garbage, Held, Kept, Known}
 use Rattle.shards.proofs.Answered.{chunks_with}
 use Rattle.shards.proofs.KeptLemmas.{chunks_more, none_whole, rows_kept}
-use Rattle.shards.proofs.SameLemmas.{same_commitment-true}
+use Rattle.cw_types.proofs.Same.{same_commitment-true}
 
 -- what the first k chunks that are kept of a commitment show
 pub shown_first : (r : Rules) (kept : List KeptChunk) (c : Commitment) → shown r (came_of kept) c ≡ option_and_then (if_committed r c) (block_of r c.config (take c.config.minimum (chunks_of c kept)))

@@ -14,7 +14,12 @@ use Rattle.shards.specs.Kept.{rules_of}
 
 -- a chunk that was checked under a commitment
 abbrev pub checked_of : (List ℕ → Digest32) → Commitment → Chunk → Checked Digest32
-checked_of hash c x = record { root = c.root; shard = x.shard; index = x.index; digest = hash x.shard }
+checked_of hash c x = record {
+  root = c.root;
+  shard = x.shard;
+  index = x.index;
+  digest = hash x.shard;
+}
 
 -- no committees at all
 abbrev pub no_committees : Epochs
@@ -29,7 +34,8 @@ abbrev pub AreUnder : (List ℕ → Digest32) → Commitment → List Chunk → 
 AreUnder hash c chunks = AllByRecursion (λ x. IsTrue (is_under_root hash c x)) chunks
 
 -- as many chunks as show a block, which stand under the commitment at different places
-pub record AreEnough (hash : List ℕ → Digest32) (c : Commitment) (chunks : List Chunk) : Type 0 where
+pub record AreEnough (hash : List ℕ → Digest32) (c : Commitment)
+    (chunks : List Chunk) : Type 0 where
   pub some : 2 ≤ c.config.minimum
   pub few : total_of c.config ≤ 65535
   pub enough : length chunks ≡ c.config.minimum
@@ -38,9 +44,11 @@ pub record AreEnough (hash : List ℕ → Digest32) (c : Commitment) (chunks : L
 
 -- the root of the text's codeword is that of the commitment
 abbrev pub IsRooted : (List ℕ → Digest32) → Commitment → List ℕ → Type 0
-IsRooted hash c text = root_of hash digest_bytes (row_digests hash c.config.minimum c.config.extra text) ≡ Some c.root
+IsRooted hash c text =
+    root_of hash digest_bytes (row_digests hash c.config.minimum c.config.extra text) ≡ Some c.root
 
 -- the chunks are rows of the text's codeword, and its root is that of the commitment
-pub record AreOfText (hash : List ℕ → Digest32) (c : Commitment) (chunks : List Chunk) (text : List ℕ) : Type 0 where
+pub record AreOfText (hash : List ℕ → Digest32) (c : Commitment) (chunks : List Chunk)
+    (text : List ℕ) : Type 0 where
   pub decodes : decoded c.config chunks ≡ Some text
   pub rooted : IsRooted hash c text

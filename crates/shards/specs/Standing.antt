@@ -15,12 +15,15 @@ abbrev pub kept_of : Part → Option KeptChunk
 kept_of (Row c x) = Some (record { commitment = c; chunk = x })
 kept_of (Whole b) = None
 
--- the rules are those of the committees and of this hash, and the chunks that came to the member are those that are kept, in order
-pub record StandsFor (hash : List ℕ → Digest32) (t : Gathered) (r : Rules) (came : Came) : Type 0 where
+-- the rules are those of the committees and of this hash, and the chunks that came to the member
+-- are those that are kept, in order
+pub record StandsFor (hash : List ℕ → Digest32) (t : Gathered) (r : Rules)
+    (came : Came) : Type 0 where
   pub rules : r ≡ coded hash t.epochs r.backlog r.accepts
   pub rows : filter_map kept_of came.parts ≡ t.kept
 
--- what is kept after an event: a chunk that is delivered is taken, and nothing else changes what is kept
+-- what is kept after an event: a chunk that is delivered is taken, and nothing else changes what is
+-- kept
 abbrev pub after_event : Rules → Gathered → Event → Gathered
 after_event r t (Event.Deliver (Message.Shard c x)) = after r t c x
 after_event r t _ = t

@@ -15,17 +15,25 @@ abbrev pub of_shown : Option Block → Verdict
 of_shown (Some b) = Held b
 of_shown None = Garbage
 
--- the verdict on a chunk that the rules take: as the k-th of its commitment it shows the block, or that there is none
+-- the verdict on a chunk that the rules take: as the k-th of its commitment it shows the block, or
+-- that there is none
 abbrev pub kept_verdict : Rules → List KeptChunk → Commitment → Chunk → Verdict
-kept_verdict r kept c x = if length (chunks_of c kept) + 1 == c.config.minimum then of_shown (shown r (came_of (with_chunk kept c x)) c) else Kept
+kept_verdict r kept c x =
+    if length (chunks_of c kept) + 1 == c.config.minimum
+    then of_shown (shown r (came_of (with_chunk kept c x)) c)
+    else Kept
 
 -- the verdict on a chunk: the first that holds
 abbrev pub verdict : Rules → List KeptChunk → Commitment → Chunk → Verdict
-verdict r kept c x = if is_known kept c x then Known else if is_chunk_of r c x then kept_verdict r kept c x else Foreign
+verdict r kept c x =
+    if is_known kept c x then Known
+    else if is_chunk_of r c x then kept_verdict r kept c x else Foreign
 
 -- what is kept after a chunk: with it, where it wasn't known and the rules take it
 abbrev pub kept_after : Rules → List KeptChunk → Commitment → Chunk → List KeptChunk
-kept_after r kept c x = if is_known kept c x then kept else if is_chunk_of r c x then with_chunk kept c x else kept
+kept_after r kept c x =
+    if is_known kept c x then kept
+    else if is_chunk_of r c x then with_chunk kept c x else kept
 
 -- the same, with the committees
 abbrev pub after : Rules → Gathered → Commitment → Chunk → Gathered

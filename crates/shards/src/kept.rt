@@ -1,7 +1,8 @@
 //! The chunks that are kept.
 
-ghost use Rattle.std.specs.Prelude.{◌≡◌, [], IfOk, OnErr, OnOk};
-ghost use Rattle.shards.specs.Kept.{rules_of};
+ghost use Rattle.std.specs.Prelude.{◌≡◌, [], IfErr, IfOk, IsFalse, IsTrue, OnErr, OnOk};
+ghost use Rattle.cw_rules.specs.Accepted.{is_chunk_of};
+ghost use Rattle.shards.specs.Kept.{is_known, rules_of};
 ghost use Rattle.shards.specs.Verdicts.{after, verdict};
 
 use crate::checks::is_chunk_of;
@@ -15,8 +16,21 @@ use std::alloc::Global;
 use std::marker::{Model, PhantomData};
 use std::thread::Threads;
 
-/// The chunks that a member kept. Contracts see them as the committees and the list of the chunks, each
-/// with what it is of, in the order in which they came.
+/// The chunks that a member kept. Contracts see them as the committees and the list of the chunks,
+/// each with what it is of, in the order in which they came.
+///
+/// In a cluster of four a block is cut into four chunks, of which any two show it:
+///
+/// ```text
+/// let committees = Committees::single(alloc, 4)?;
+/// let (commitment, chunks) =
+///     cut_block::<Sha256, _, _>(&rt, alloc, &committees, &block, &Sequential)?;
+/// let mut shards = Shards::<Sha256>::new(alloc, committees);
+/// for (at, want) in [(3, Verdict::Kept), (3, Verdict::Known), (0, Verdict::Held(block))] {
+///     let chunk = chunks[at].copy(alloc)?;
+///     assert!(rt; shards.take(&rt, &commitment, chunk, &Sequential)? == want);
+/// }
+/// ```
 #[derive(Drop)]
 pub struct Shards<H: Hasher<Digest = Digest32>> {
     committees: Committees,
@@ -49,11 +63,12 @@ impl<H: Hasher<Digest = Digest32>> Shards<H> {
         }
     }
 
-    /// Takes a chunk that came, under the commitment that it was said to be of. The verdict is the first
-    /// that holds: it is known, where one of that commitment and index was kept; foreign, where the
-    /// commitment's config is that of no epoch or the chunk doesn't stand under its root. Else it is kept;
-    /// and as the last of as many chunks as show a block, it shows the block of whose codeword they are
-    /// rows, if there is one that is committed to so. Where memory is short nothing changes.
+    /// Takes a chunk that came, under the commitment that it was said to be of. The verdict is the
+    /// first that holds: it is known, where one of that commitment and index was kept; foreign,
+    /// where the commitment's config is that of no epoch or the chunk doesn't stand under its root.
+    /// Else it is kept; and as the last of as many chunks as show a block, it shows the block of
+    /// whose codeword they are rows, if there is one that is committed to so. Where memory is short
+    /// nothing changes; of a chunk that is known or foreign it never is.
     pub fn take<R: Threads + Sync, S: Strategy>(
         &mut self,
         rt: &R,
@@ -61,14 +76,22 @@ impl<H: Hasher<Digest = Digest32>> Shards<H> {
         chunk: Chunk<Digest32>,
         strategy: &S,
     ) -> Result<Verdict, NoMemory>
-        ensures verdict { IfOk result (λ v. v ≡ verdict (rules_of H.digest_of self.old.epochs) self.old.kept commitment.now chunk) }
-        ensures ok { OnOk result (self.new ≡ after (rules_of H.digest_of self.old.epochs) self.old commitment.now chunk) }
+        ensures verdict { IfOk result
+            (λ v. v ≡ verdict (rules_of H.digest_of self.old.epochs) self.old.kept commitment.now
+            chunk) }
+        ensures ok { OnOk result
+            (self.new ≡ after (rules_of H.digest_of self.old.epochs) self.old commitment.now
+            chunk) }
         ensures err { OnErr result (self.new ≡ self.old) }
+        ensures new { IfErr result (λ _. IsFalse (is_known self.old.kept commitment.now chunk)) }
+        ensures taken { IfErr result
+            (λ _. IsTrue (is_chunk_of (rules_of H.digest_of self.old.epochs) commitment.now
+            chunk)) }
     {
         if pieces::is_known(self.kept.as_slice(), commitment, &chunk) {
             return Ok(Verdict::Known);
         }
-        if !is_chunk_of::<H, S>(self.alloc, &self.committees, commitment, &chunk, strategy)? {
+        if !is_chunk_of::<H>(&self.committees, commitment, &chunk) {
             return Ok(Verdict::Foreign);
         }
         let verdict = kept_verdict::<H, R, S>(

@@ -1,4 +1,5 @@
-//! What holds of the rules over the real codeword, and of the chunks that are kept for a member of them.
+//! What holds of the rules over the real codeword, and of the chunks that are kept for a member of
+//! them.
 
 ghost use Rattle.std.specs.Prelude.{◌++◌, ◌≡◌, ◌≤◌, ◌↔◌, [], Bool, IsFalse, IsTrue, List, None, Some, filter_map, length, option_and_then, take, ℕ};
 ghost use Rattle.std.specs.List.{list_any};
@@ -34,23 +35,31 @@ pub(crate) fn coder_laws()
 /// application, and whatever else comes to it.
 pub fn shards_stand()
     // where nothing is kept, for a member to whom nothing came
-    ensures start { (hash : List ℕ → Digest32) (epochs : Epochs) (backlog : ℕ) (accepts : Block → Block → Bool)
-        → StandsFor hash (record { epochs = epochs; kept = [] }) (coded hash epochs backlog accepts) nothing_came }
+    ensures start { (hash : List ℕ → Digest32) (epochs : Epochs) (backlog : ℕ)
+        (accepts : Block → Block → Bool)
+        → StandsFor hash (record { epochs = epochs; kept = [] }) (coded hash epochs backlog accepts)
+        nothing_came }
     // a chunk is known exactly where the rules say that it came already
-    ensures known { (hash : List ℕ → Digest32) (t : Gathered) (r : Rules) (came : Came) → StandsFor hash t r came
+    ensures known { (hash : List ℕ → Digest32) (t : Gathered) (r : Rules) (came : Came)
+        → StandsFor hash t r came
         → (c : Commitment) (x : Chunk)
-        → (verdict (rules_of hash t.epochs) t.kept c x ≡ Verdict.Known) ↔ IsTrue (list_any (same_part (Row c x)) came.parts) }
+        → (verdict (rules_of hash t.epochs) t.kept c x ≡ Verdict.Known)
+        ↔ IsTrue (list_any (same_part (Row c x)) came.parts) }
     // it is foreign exactly where it didn't come already and the rules don't take it
-    ensures foreign { (hash : List ℕ → Digest32) (t : Gathered) (r : Rules) (came : Came) → StandsFor hash t r came
+    ensures foreign { (hash : List ℕ → Digest32) (t : Gathered) (r : Rules) (came : Came)
+        → StandsFor hash t r came
         → (c : Commitment) (x : Chunk)
         → (verdict (rules_of hash t.epochs) t.kept c x ≡ Verdict.Foreign)
         ↔ (IsFalse (list_any (same_part (Row c x)) came.parts) × IsFalse (is_chunk_of r c x)) }
     // whatever the verdict, what is kept then stands for the member that took the chunk
-    ensures taken { (hash : List ℕ → Digest32) (t : Gathered) (r : Rules) (came : Came) → StandsFor hash t r came
+    ensures taken { (hash : List ℕ → Digest32) (t : Gathered) (r : Rules) (came : Came)
+        → StandsFor hash t r came
         → (c : Commitment) (x : Chunk)
-        → StandsFor hash (after (rules_of hash t.epochs) t c x) r (take_part came (is_chunk_of r c x) (Row c x)) }
+        → StandsFor hash (after (rules_of hash t.epochs) t c x) r
+        (take_part came (is_chunk_of r c x) (Row c x)) }
     // whatever the event, what is kept then stands for the member that accepted what it brought
-    ensures events { (hash : List ℕ → Digest32) (t : Gathered) (r : Rules) (came : Came) → StandsFor hash t r came
+    ensures events { (hash : List ℕ → Digest32) (t : Gathered) (r : Rules) (came : Came)
+        → StandsFor hash t r came
         → (signed : ℕ → Vote → Bool) (e : Event)
         → StandsFor hash (after_event (rules_of hash t.epochs) t e) r (taken_came r signed came e) }
 {}
@@ -58,34 +67,43 @@ pub fn shards_stand()
 /// What is kept shows what the member is shown.
 pub fn shown_by_kept()
     // the chunks of a commitment that came to the member are those that are kept of it
-    ensures rows { (hash : List ℕ → Digest32) (t : Gathered) (r : Rules) (came : Came) → StandsFor hash t r came
+    ensures rows { (hash : List ℕ → Digest32) (t : Gathered) (r : Rules) (came : Came)
+        → StandsFor hash t r came
         → (c : Commitment) → filter_map (row_of c) came.parts ≡ chunks_of c t.kept }
     // where no whole block came under it, the member is shown what is kept shows
-    ensures shown { (hash : List ℕ → Digest32) (t : Gathered) (r : Rules) (came : Came) → StandsFor hash t r came
+    ensures shown { (hash : List ℕ → Digest32) (t : Gathered) (r : Rules) (came : Came)
+        → StandsFor hash t r came
         → (c : Commitment) → first_some (whole_of r c) came.parts ≡ None
         → shown r came c ≡ shown (rules_of hash t.epochs) (came_of t.kept) c }
-    // which is the block of whose codeword the first k chunks that are kept of it are rows, if it is committed to so
+    // which is the block of whose codeword the first k chunks that are kept of it are rows, if it
+    // is committed to so
     ensures first { (r : Rules) (kept : List KeptChunk) (c : Commitment)
         → shown r (came_of kept) c
-        ≡ option_and_then (if_committed r c) (block_of r c.config (take c.config.minimum (chunks_of c kept))) }
+        ≡ option_and_then (if_committed r c)
+        (block_of r c.config (take c.config.minimum (chunks_of c kept))) }
 {}
 
 /// What is shown stays so, but where a block comes to be held.
 pub fn shown_stays()
     // what is kept after enough chunks of a commitment leaves what they show
-    ensures enough { (r : Rules) (kept more : List KeptChunk) (c : Commitment) → c.config.minimum ≤ length (chunks_of c kept)
+    ensures enough { (r : Rules) (kept more : List KeptChunk) (c : Commitment)
+        → c.config.minimum ≤ length (chunks_of c kept)
         → shown r (came_of (kept ++ more)) c ≡ shown r (came_of kept) c }
     // a block that was held is shown, whatever is kept since
     ensures held { (r : Rules) (kept more : List KeptChunk) (c : Commitment) (x : Chunk) (b : Block)
-        → verdict r kept c x ≡ Verdict.Held b → shown r (came_of (kept_after r kept c x ++ more)) c ≡ Some b }
+        → verdict r kept c x ≡ Verdict.Held b
+        → shown r (came_of (kept_after r kept c x ++ more)) c ≡ Some b }
     // garbage shows no block, whatever is kept since
     ensures garbage { (r : Rules) (kept more : List KeptChunk) (c : Commitment) (x : Chunk)
-        → verdict r kept c x ≡ Verdict.Garbage → shown r (came_of (kept_after r kept c x ++ more)) c ≡ None }
+        → verdict r kept c x ≡ Verdict.Garbage
+        → shown r (came_of (kept_after r kept c x ++ more)) c ≡ None }
     // a chunk by which no block is held leaves what is shown
-    ensures unheld { (r : Rules) → IsCoder r → (kept : List KeptChunk) (c : Commitment) (x : Chunk) (d : Commitment)
+    ensures unheld { (r : Rules) → IsCoder r
+        → (kept : List KeptChunk) (c : Commitment) (x : Chunk) (d : Commitment)
         → ((b : Block) → verdict r kept c x ≡ Verdict.Held b → ⊥)
         → shown r (came_of (kept_after r kept c x)) d ≡ shown r (came_of kept) d }
     // and each leaves what is shown of another commitment
-    ensures others { (r : Rules) (kept : List KeptChunk) (c d : Commitment) (x : Chunk) → IsFalse (same_commitment d c)
+    ensures others { (r : Rules) (kept : List KeptChunk) (c d : Commitment) (x : Chunk)
+        → IsFalse (same_commitment d c)
         → shown r (came_of (kept_after r kept c x)) d ≡ shown r (came_of kept) d }
 {}

@@ -1,7 +1,7 @@
 //! Chunks that come, and the blocks that they show; and blocks that are cut into chunks.
 //!
-//! A verdict is the cluster rules' own function of the chunks that were kept. The bodies scan a plain
-//! list.
+//! A verdict is the cluster rules' own function of the chunks that were kept. The bodies scan a
+//! plain list.
 #![tactic(auto)]
 
 mod checks;
@@ -19,6 +19,3 @@ pub use kept::Shards;
 pub use laws::{shards_stand, shown_by_kept, shown_stays};
 pub use pieces::KeptChunk;
 pub use verdict::Verdict;
-
-#[cfg(test)]
-mod tests;

@@ -26,7 +26,8 @@ pub(crate) fn is_known(kept: &[KeptChunk], commitment: &Commitment, chunk: &Chun
 
 /// Whether all but one of the chunks that show a block were kept of a commitment.
 pub(crate) fn lack_one(kept: &[KeptChunk], commitment: &Commitment) -> bool
-    ensures { result ≡ (length (filter (λ k. same_commitment commitment.now k.commitment) kept.now) == commitment.now.config.minimum - 1) }
+    ensures { result ≡ (length (filter (λ k. same_commitment commitment.now k.commitment) kept.now)
+        == commitment.now.config.minimum - 1) }
 {
     count(kept, commitment) == usize::from(minimum(&commitment.config) - 1)
 }
@@ -47,7 +48,8 @@ pub(crate) fn chunks_with<'a>(
     commitment: &Commitment,
     last: &'a Chunk<Digest32>,
 ) -> Result<Vec<&'a Chunk<Digest32>>, NoMemory>
-    ensures { IfOk result (λ chunks. map (λ chunk. chunk.now) chunks.items ≡ chunks_of commitment.now kept.now ++ last.now ∷ []) }
+    ensures { IfOk result (λ chunks. map (λ chunk. chunk.now) chunks.items
+        ≡ chunks_of commitment.now kept.now ++ last.now ∷ []) }
 {
     let mut chunks = Vec::new(alloc);
     for one in kept {

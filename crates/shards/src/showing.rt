@@ -13,7 +13,6 @@ ghost use Rattle.shards.specs.Kept.{AreKept, is_known, rules_of};
 ghost use Rattle.shards.specs.Verdicts.{kept_verdict};
 
 use crate::checks::checked_all;
-use crate::configs::config_of;
 use crate::laws::coder_laws;
 use crate::pieces::{self, KeptChunk};
 use crate::reading::read_block;
@@ -33,8 +32,10 @@ fn decoded<H: Hasher<Digest = Digest32>, R: Threads + Sync, S: Strategy>(
     strategy: &S,
 ) -> Result<Option<Vec<u8>>, NoMemory>
     requires { AreEnough H.digest_of commitment.now (map (λ chunk. chunk.now) chunks.now) }
-    ensures some { IfOk result (λ text. IfSome text (λ text. AreOfText H.digest_of commitment.now (map (λ chunk. chunk.now) chunks.now) text.items)) }
-    ensures none { IfOk result (λ text. IfNone text ((other : List ℕ) → AreOfText H.digest_of commitment.now (map (λ chunk. chunk.now) chunks.now) other → ⊥)) }
+    ensures some { IfOk result (λ text. IfSome text (λ text.
+        AreOfText H.digest_of commitment.now (map (λ chunk. chunk.now) chunks.now) text.items)) }
+    ensures none { IfOk result (λ text. IfNone text ((other : List ℕ)
+        → AreOfText H.digest_of commitment.now (map (λ chunk. chunk.now) chunks.now) other → ⊥)) }
 {
     coder_laws();
     encodings_decode::<H>();
@@ -66,29 +67,29 @@ fn no_text(error: ReedSolomonError) -> Result<Option<Vec<u8>>, NoMemory>
 
 // Whether the block with these bytes, whose root is that of the commitment, is committed to so.
 fn is_committed<H: Hasher<Digest = Digest32>>(
-    alloc: Global,
     committees: &Committees,
     commitment: &Commitment,
     block: &ChainBlock,
     text: &[u8],
-) -> Result<bool, NoMemory>
+) -> bool
     requires some { 1 ≤ commitment.now.config.minimum }
     requires bytes { block_bytes block.now ≡ text.now }
     requires rooted { IsRooted H.digest_of commitment.now text.now }
-    ensures { IfOk result (λ same. same ≡ same_commitment (commit (rules_of H.digest_of committees.now) block.now) commitment.now) }
+    ensures { result
+        ≡ same_commitment (commit (rules_of H.digest_of committees.now) block.now) commitment.now }
 {
     coder_laws();
-    let mut context = Vec::new(alloc);
-    block.context().write(&mut context)?;
-    let config = config_of(committees, block.context().epoch);
-    let block = H::hash(text);
-    let context = H::hash(&context);
-    Ok(has_parts(commitment, &block, &context, &config))
+    let config = committees.config(block.context().epoch);
+    let digest = H::hash(text);
+    let context = H::hash(&block.context().to_bytes());
+    has_parts(commitment, &digest, &context, &config)
 }
 
 // Whether a commitment has these parts.
 fn has_parts(commitment: &Commitment, block: &Digest32, context: &Digest32, config: &Config) -> bool
-    ensures { result ≡ (same_digest block.now commitment.now.block && (same_digest context.now commitment.now.context && same_shards config.now commitment.now.config)) }
+    ensures { result ≡ (same_digest block.now commitment.now.block
+        && (same_digest context.now commitment.now.context
+        && same_shards config.now commitment.now.config)) }
 {
     *block == commitment.block
         && *context == commitment.context
@@ -104,11 +105,13 @@ fn block_of<H: Hasher<Digest = Digest32>>(
 ) -> Result<Option<ChainBlock>, NoMemory>
     requires some { 1 ≤ commitment.now.config.minimum }
     requires rooted { IsRooted H.digest_of commitment.now text.now }
-    ensures { IfOk result (λ block. block ≡ option_and_then (if_committed (rules_of H.digest_of committees.now) commitment.now) (block_in text.now)) }
+    ensures { IfOk result (λ block. block
+        ≡ option_and_then (if_committed (rules_of H.digest_of committees.now) commitment.now)
+        (block_in text.now)) }
 {
     match read_block(alloc, text)? {
         Some(block) => {
-            if is_committed::<H>(alloc, committees, commitment, &block, text)? {
+            if is_committed::<H>(committees, commitment, &block, text) {
                 Ok(Some(block))
             } else {
                 Ok(None)
@@ -128,7 +131,10 @@ pub(crate) fn shown<H: Hasher<Digest = Digest32>, R: Threads + Sync, S: Strategy
     strategy: &S,
 ) -> Result<Option<ChainBlock>, NoMemory>
     requires { AreEnough H.digest_of commitment.now (map (λ chunk. chunk.now) chunks.now) }
-    ensures { IfOk result (λ block. block ≡ option_and_then (if_committed (rules_of H.digest_of committees.now) commitment.now) (block_of (rules_of H.digest_of committees.now) commitment.now.config (map (λ chunk. chunk.now) chunks.now))) }
+    ensures { IfOk result (λ block. block
+        ≡ option_and_then (if_committed (rules_of H.digest_of committees.now) commitment.now)
+        (block_of (rules_of H.digest_of committees.now) commitment.now.config
+        (map (λ chunk. chunk.now) chunks.now))) }
 {
     coder_laws();
     match decoded::<H, R, S>(rt, alloc, commitment, chunks, strategy)? {
@@ -151,8 +157,10 @@ pub(crate) fn kept_verdict<H: Hasher<Digest = Digest32>, R: Threads + Sync, S: S
     requires few { total_of commitment.now.config ≤ 65535 }
     requires kept { AreKept (rules_of H.digest_of committees.now) kept.now }
     requires new { is_known kept.now commitment.now chunk.now ≡ false }
-    requires taken { is_chunk_of (rules_of H.digest_of committees.now) commitment.now chunk.now ≡ true }
-    ensures { IfOk result (λ verdict. verdict ≡ kept_verdict (rules_of H.digest_of committees.now) kept.now commitment.now chunk.now) }
+    requires taken { is_chunk_of (rules_of H.digest_of committees.now) commitment.now chunk.now
+        ≡ true }
+    ensures { IfOk result (λ verdict. verdict
+        ≡ kept_verdict (rules_of H.digest_of committees.now) kept.now commitment.now chunk.now) }
 {
     if !pieces::lack_one(kept, commitment) {
         return Ok(Verdict::Kept);

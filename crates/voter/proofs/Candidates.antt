@@ -12,7 +12,7 @@ use Rattle.cw_rules.specs.Fits.{block_fits}
 use Rattle.cw_rules.specs.Notes.{has_cert, has_certified}
 use Rattle.cw_rules.specs.Owed.{certified_owed, named_proposals, when}
 use Rattle.cw_rules.specs.Rules.{Rules}
-use Rattle.cw_rules.proofs.SameLemmas.{same_proposal-true}
+use Rattle.cw_types.proofs.Same.{same_proposal-true}
 use Rattle.voter.specs.Known.{Known, state_of}
 use Rattle.voter.specs.Owing as owing
 use Rattle.voter.specs.Owing.{is_candidate}

@@ -1,6 +1,6 @@
 -- What is owed may be counted.
-use Rattle.std.proofs.Common.{◌≡◌, ◌++◌, ℕ, Bool, true, false, List, [], ◌∷◌, map, Option, Some, None, IfSome, IsTrue, refl, sym, ◌∙◌, subst, if◌then◌else◌, option_map}
-use Rattle.std.specs.List.{filter_map, find, list_all}
+use Rattle.std.proofs.Common.{◌≡◌, ◌++◌, ◌+◌, ℕ, zero, suc, Bool, true, false, List, [], ◌∷◌, map, filter, slice_get, Option, Some, None, IfSome, IsTrue, refl, sym, ◌∙◌, subst, if◌then◌else◌, option_map}
+use Rattle.std.specs.List.{enumerate_from, filter_map, find, list_all}
 use Rattle.std.specs.Option.{option_or}
 use Rattle.std.proofs.lemmas.Bool.{and_from, and_parts}
 use Rattle.std.proofs.lemmas.Option.{same_Some}
@@ -13,7 +13,8 @@ use Rattle.cw_types.specs.declared.vote.Vote.TheVariants.{Finalize, Notarize, Nu
 use Rattle.cw_rules.specs.Accepted.{Ballot, first_some}
 use Rattle.cw_rules.specs.Notes.{has_cert}
 use Rattle.cw_rules.specs.Owed.{ballot_vote, cert_owed, finalize_owed, named_proposals, named_votes, note_proposal, note_vote, notarize_owed, signers_of, when}
-use Rattle.voter.specs.Known.{Known, is_countable, vote_rules, state_of}
+use Rattle.note_scans.specs.Countable.{is_countable}
+use Rattle.voter.specs.Known.{Known, vote_rules, state_of}
 use Rattle.voter.specs.Owing as owing
 use Rattle.voter.specs.Standing.{is_formed}
 
@@ -39,6 +40,31 @@ module _ {X : Type 0} (P : X → Bool) where
       go : (o : Option X) → g y ≡ o → R y ≡ true → list_all P (filter_map g ys) ≡ true → list_all P (filter_map g (y ∷ ys)) ≡ true
       go None e r more = rw e more
       go (Some x) e r more = rw e (and_from (P x) (list_all P (filter_map g ys)) (each y x r e) more)
+
+  -- what is found passes
+  found_one : (q : X → Bool) (xs : List X) (x : X) → list_all P xs ≡ true → find q xs ≡ Some x → P x ≡ true
+  found_one q [] x a h = cc
+  found_one q (y ∷ ys) x a h = let p = and_parts (P y) (list_all P ys) a in go (q y) refl p.0 (found_one q ys x p.1) h
+    where
+      go : (b : Bool) → q y ≡ b → P y ≡ true → (find q ys ≡ Some x → P x ≡ true) → find q (y ∷ ys) ≡ Some x → P x ≡ true
+      go true e here more k = let same : y ≡ x = same_Some y x (rw e at k) in subst (λ z. P z ≡ true) same here
+      go false e here more k = more (rw e at k)
+
+  -- so does what stands at a place
+  one_at : (xs : List X) (i : ℕ) (x : X) → list_all P xs ≡ true → slice_get xs i ≡ Some x → P x ≡ true
+  one_at [] i x a h = cc
+  one_at (y ∷ ys) zero x a h = let same : y ≡ x = cc in subst (λ z. P z ≡ true) same (and_parts (P y) (list_all P ys) a).0
+  one_at (y ∷ ys) (suc i) x a h = one_at ys i x (and_parts (P y) (list_all P ys) a).1 h
+
+  -- and what is picked by its place
+  picked_pass : (q : ℕ × X → Bool) (n : ℕ) (xs : List X) → list_all P xs ≡ true → list_all P (map (λ (at : ℕ × X). at.1) (filter q (enumerate_from n xs))) ≡ true
+  picked_pass q n [] a = refl
+  picked_pass q n (x ∷ xs) a = let p = and_parts (P x) (list_all P xs) a in go (q (n, x)) refl p.0 (picked_pass q (n + 1) xs p.1)
+    where
+      go : (b : Bool) → q (n, x) ≡ b → P x ≡ true → list_all P (map (λ (at : ℕ × X). at.1) (filter q (enumerate_from (n + 1) xs))) ≡ true
+          → list_all P (map (λ (at : ℕ × X). at.1) (filter q (enumerate_from n (x ∷ xs)))) ≡ true
+      go true e here more = rw e (and_from (P x) (list_all P (map (λ (at : ℕ × X). at.1) (filter q (enumerate_from (n + 1) xs)))) here more)
+      go false e here more = rw e more
 
 -- the proposal of a vote that may be counted is ordered
 proposal_ordered : (v : Vote) (p : Proposal) → well_formed v ≡ true → proposal_of v ≡ Some p → is_ordered p ≡ true
@@ -72,7 +98,7 @@ formed_ballots : (xs : List Ballot) → list_all is_formed xs ≡ true → list_
 formed_ballots [] a = refl
 formed_ballots (x ∷ xs) a = let p = and_parts (is_formed x) (list_all is_formed xs) a in and_from (well_formed (ballot_vote x)) (list_all well_formed (map ballot_vote xs)) p.0 (formed_ballots xs p.1)
 
-module _ (hash : List ℕ → Digest32) (t : Known) (notes : list_all is_countable t.notes ≡ true) (ballots : list_all is_formed t.ballots ≡ true) where
+module _ (t : Known) (notes : list_all is_countable t.notes ≡ true) (ballots : list_all is_formed t.ballots ≡ true) where
   pub votes_formed : list_all well_formed (named_votes (state_of t)) ≡ true
   votes_formed = all_more well_formed (map ballot_vote t.ballots) (filter_map note_vote t.notes) (formed_ballots t.ballots ballots) (all_found well_formed note_vote is_countable note_formed t.notes notes)
 
@@ -81,6 +107,22 @@ module _ (hash : List ℕ → Digest32) (t : Known) (notes : list_all is_countab
       (all_found is_ordered (λ x. proposal_of (ballot_vote x)) is_formed (λ x p h e. proposal_ordered (ballot_vote x) p h e) t.ballots ballots)
       (all_found is_ordered note_proposal is_countable note_ordered t.notes notes)
 
+  -- a vote that is found among those that are named may be counted
+  pub found_formed : (p : Vote → Bool) (v : Vote) → find p (named_votes (state_of t)) ≡ Some v → well_formed v ≡ true
+  found_formed p v e = found_one well_formed p (named_votes (state_of t)) v votes_formed e
+
+  uncertified_ordered : list_all is_ordered (owing.uncertified t) ≡ true
+  uncertified_ordered = picked_pass is_ordered (owing.is_candidate t) 0 (named_proposals (state_of t)) proposals_ordered
+
+  -- a proposal that isn't certified may be noted so
+  pub certified_countable : (fits : Proposal → Bool) (p : Proposal) → find fits (owing.uncertified t) ≡ Some p → is_countable (Note.Certified p) ≡ true
+  certified_countable fits p e = found_one is_ordered fits (owing.uncertified t) p uncertified_ordered e
+
+  pub uncertified_counts : {X : Type 0} (of : X → Proposal) (i : ℕ) (o : Option X) → option_map of o ≡ slice_get (owing.uncertified t) i → IfSome o (λ x. IsTrue (is_ordered (of x)))
+  uncertified_counts of i None e = tt
+  uncertified_counts of i (Some x) e = one_at is_ordered (owing.uncertified t) i (of x) uncertified_ordered (sym e)
+
+module _ (hash : List ℕ → Digest32) (t : Known) (notes : list_all is_countable t.notes ≡ true) (ballots : list_all is_formed t.ballots ≡ true) where
   cert_counts : (v : Vote) (n : Note) → well_formed v ≡ true → cert_owed (vote_rules hash t.epochs) t.id (state_of t) v ≡ Some n → is_countable n ≡ true
   cert_counts v n h e = go (has_cert t.notes v) (signers_of (vote_rules hash t.epochs) t.id (state_of t) v) e
     where
@@ -90,32 +132,20 @@ module _ (hash : List ℕ → Digest32) (t : Known) (notes : list_all is_countab
       go false (Some signers) k = let same : Note.Cert (record { vote = v; signers = signers }) ≡ n = cc in subst (λ m. is_countable m ≡ true) same h
 
   pub cert_countable : (n : Note) → owing.cert_owed hash t ≡ Some n → is_countable n ≡ true
-  cert_countable n e = first_passes well_formed (cert_owed (vote_rules hash t.epochs) t.id (state_of t)) n (is_countable n ≡ true) (λ v h k. cert_counts v n h k) (named_votes (state_of t)) votes_formed e
+  cert_countable n e = first_passes well_formed (cert_owed (vote_rules hash t.epochs) t.id (state_of t)) n (is_countable n ≡ true) (λ v h k. cert_counts v n h k) (named_votes (state_of t)) (votes_formed t notes ballots) e
 
   when_counts : (b : Bool) (m n : Note) → is_countable m ≡ true → when b m ≡ Some n → is_countable n ≡ true
   when_counts true m n h k = let same : m ≡ n = cc in subst (λ x. is_countable x ≡ true) same h
   when_counts false m n h k = cc
 
-  -- a vote that is found among those that are named may be counted
-  pub found_formed : (p : Vote → Bool) (v : Vote) → find p (named_votes (state_of t)) ≡ Some v → well_formed v ≡ true
-  found_formed p v e = found_of (named_votes (state_of t)) votes_formed e
-    where
-      found_of : (vs : List Vote) → list_all well_formed vs ≡ true → find p vs ≡ Some v → well_formed v ≡ true
-      found_of [] a k = cc
-      found_of (w ∷ vs) a k = let q = and_parts (well_formed w) (list_all well_formed vs) a in go (p w) refl q.0 (found_of vs q.1)
-        where
-          go : (b : Bool) → p w ≡ b → well_formed w ≡ true → (find p vs ≡ Some v → well_formed v ≡ true) → well_formed v ≡ true
-          go true f here more = let same : w ≡ v = same_Some w v (rw f at k) in subst (λ x. well_formed x ≡ true) same here
-          go false f here more = more (rw f at k)
-
   pub vote_countable : (n : Note) → owing.vote_owed hash t ≡ Some n → is_countable n ≡ true
   vote_countable n e = go (owing.notarize_owed hash t) refl e
     where
       finalize : owing.finalize_owed hash t ≡ Some n → is_countable n ≡ true
-      finalize k = first_passes is_ordered (finalize_owed (vote_rules hash t.epochs) t.id (state_of t)) n (is_countable n ≡ true) (λ p h m. when_counts _ (Note.Vote (Finalize p)) n h m) (named_proposals (state_of t)) proposals_ordered k
+      finalize k = first_passes is_ordered (finalize_owed (vote_rules hash t.epochs) t.id (state_of t)) n (is_countable n ≡ true) (λ p h m. when_counts _ (Note.Vote (Finalize p)) n h m) (named_proposals (state_of t)) (proposals_ordered t notes ballots) k
 
       notarize : owing.notarize_owed hash t ≡ Some n → is_countable n ≡ true
-      notarize k = first_passes is_ordered (notarize_owed (vote_rules hash t.epochs) t.id (state_of t)) n (is_countable n ≡ true) (λ p h m. when_counts _ (Note.Vote (Notarize p)) n h m) (named_proposals (state_of t)) proposals_ordered k
+      notarize k = first_passes is_ordered (notarize_owed (vote_rules hash t.epochs) t.id (state_of t)) n (is_countable n ≡ true) (λ p h m. when_counts _ (Note.Vote (Notarize p)) n h m) (named_proposals (state_of t)) (proposals_ordered t notes ballots) k
 
       go : (o : Option Note) → owing.notarize_owed hash t ≡ o → option_or (owing.notarize_owed hash t) (owing.finalize_owed hash t) ≡ Some n → is_countable n ≡ true
       go (Some m) f k = notarize (f ∙ (rw f at k))
@@ -129,4 +159,4 @@ module _ (hash : List ℕ → Digest32) (t : Known) (notes : list_all is_countab
   -- so may the vote that is found
   pub found_counts : (p : Vote → Bool) (o : Option Vote) → o ≡ find p (named_votes (state_of t)) → IfSome o (λ v. IsTrue (well_formed v))
   found_counts p None e = tt
-  found_counts p (Some v) e = found_formed p v (sym e)
+  found_counts p (Some v) e = found_formed t notes ballots p v (sym e)

@@ -15,7 +15,7 @@ use Rattle.cw_rules.specs.Accepted.{Ballot, Came, Part, Row, State, Whole, add_w
 use Rattle.cw_rules.specs.Owed.{is_row_at}
 use Rattle.cw_rules.specs.Rules.{Chunk, Rules}
 use Rattle.cw_rules.specs.Step.{nothing_came, with_handed, with_notes}
-use Rattle.cw_rules.proofs.SameLemmas.{same_commitment-true}
+use Rattle.cw_types.proofs.Same.{same_commitment-true}
 use Rattle.voter.specs.Known.{Known, came_of, is_own_at, unknowing, with_ballot, with_note, with_own}
 use Rattle.voter.specs.Standing.{StandsFor, with_came}
 

@@ -2,13 +2,10 @@ pub mod Agreeing
 pub mod BestParent
 pub mod Candidates
 pub mod Certified
-pub mod Committees
 pub mod Formed
 pub mod Heights
-pub mod Joined
 pub mod Kept
 pub mod Lists
-pub mod Numbers
 pub mod Places
 pub mod Signers
 pub mod StepDown

@@ -1,5 +1,5 @@
 -- Who signs a certificate that is owed.
-use Rattle.std.proofs.Common.{◌≡◌, ◌&&◌, ◌==◌, ◌+◌, ◌≤◌, ◌⊎◌, inl, inr, ℕ, Bool, true, false, nat_le, nat_lt, List, [], ◌∷◌, length, filter, option_map, unwrap_or, refl, sym, arith, subst, eq-eqb, eqb-true, le-leb, leb-true}
+use Rattle.std.proofs.Common.{◌≡◌, ◌&&◌, ◌==◌, ◌+◌, ◌<◌, ◌≤◌, ◌⊎◌, inl, inr, ℕ, Bool, true, false, nat_le, nat_lt, List, [], ◌∷◌, length, filter, option_map, unwrap_or, refl, sym, arith, subst, eq-eqb, eqb-true, le-leb, leb-false, leb-true}
 use Rattle.std.specs.List.{find, list_all, list_any}
 use Rattle.std.proofs.lemmas.Bool.{and_from, and_parts, cases_Bool, or_left, or_right}
 use Rattle.cw_types.specs.Epochs.{Epochs, is_committee, is_member, members_in, rises_from}
@@ -7,10 +7,10 @@ use Rattle.cw_types.specs.Same.{same_vote}
 use Rattle.cw_types.specs.Votes.{vote_epoch}
 use Rattle.cw_types.specs.declared.vote.Vote.{Vote}
 use Rattle.cw_rules.specs.Accepted.{Ballot, Many, Single}
-use Rattle.cw_rules.proofs.SameLemmas.{same_vote-true}
+use Rattle.cw_types.proofs.Same.{same_vote-true}
 use Rattle.voter.specs.Known.{ballot_signers, certifies}
 use Rattle.voter.specs.Standing.{are_signers, is_signed}
-use Rattle.voter.proofs.Committees.{rise_fits}
+use Rattle.cw_types.proofs.EpochLemmas.{committee_size}
 
 rises_later : (low high : ℕ) (xs : List ℕ) → low ≤ high → rises_from high xs ≡ true → rises_from low xs ≡ true
 rises_later low high [] le h = refl
@@ -92,11 +92,14 @@ module _ (x : Epochs) (v : Vote) where
   few_sign total signers h s =
       let p = and_parts (rises_from 0 signers) (list_all (is_member x (vote_epoch v)) signers) s in
       let below = all_weaker (is_member x (vote_epoch v)) (λ i. nat_lt i total) (λ i m. there_passes (λ j. nat_lt j total) (members_in x (vote_epoch v)) i (committee_rises total (members_in x (vote_epoch v)) h).1 m) signers p.1 in
-      go (rise_fits 0 total signers p.0 below)
+      let size = committee_size total (members_in x (vote_epoch v)) h in
+      go size.enough size.within p.0 below (cases_Bool (nat_le 4 (length signers)))
     where
-      go : (length signers ≡ 0) ⊎ (0 + length signers ≤ total) → length signers ≤ total
-      go (inl e) = omega (arith, e)
-      go (inr le) = omega (arith, le)
+      go : 4 ≤ length (members_in x (vote_epoch v)) → length (members_in x (vote_epoch v)) ≤ total
+          → rises_from 0 signers ≡ true → list_all (λ i. nat_lt i total) signers ≡ true
+          → (nat_le 4 (length signers) ≡ true) ⊎ (nat_le 4 (length signers) ≡ false) → length signers ≤ total
+      go four within rise below (inl t) = (committee_size total signers (and_from _ _ (and_from _ _ t rise) below)).within
+      go four within rise below (inr f) = let few : length signers < 4 = leb-false 4 (length signers) f in omega arith
 
   -- and no more than there are members
   pub chosen_few : (total : ℕ) (ballots : List Ballot) (p : ℕ → Bool) → is_committee total (members_in x (vote_epoch v)) ≡ true → list_all (is_signed x) ballots ≡ true

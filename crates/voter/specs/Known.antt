@@ -4,7 +4,6 @@ use Rattle.cw_base.specs.declared.hash.Digest32.{Digest32}
 use Rattle.cw_types.specs.Encoding.{block_bytes, context_bytes}
 use Rattle.cw_types.specs.Epochs.{Epochs}
 use Rattle.cw_types.specs.Same.{same_commitment, same_vote}
-use Rattle.cw_types.specs.Votes.{is_ordered, well_formed}
 use Rattle.cw_types.specs.declared.commitment.Commitment.{Commitment}
 use Rattle.cw_types.specs.declared.note.Note.{Note}
 use Rattle.cw_types.specs.declared.vote.Vote.{Vote}
@@ -12,7 +11,8 @@ use Rattle.cw_rules.specs.Accepted.{Ballot, Came, Many, Part, Row, Single, State
 use Rattle.cw_rules.specs.Rules.{Rules}
 use Rattle.voter.specs.declared.own.OwnChunk.{OwnChunk}
 
--- the committees, the member's number, its notes, the votes and certificates that came, and which of the chunks that are its own came
+-- the committees, the member's number, its notes, the votes and certificates that came, and which
+-- of the chunks that are its own came
 pub record Known : Type 0 where
   pub epochs : Epochs
   pub id : ℕ
@@ -26,22 +26,29 @@ unknowing x id = record { epochs = x; id = id; notes = []; ballots = []; own = [
 
 -- one more note
 abbrev pub with_note : Known → Note → Known
-with_note t note = record { epochs = t.epochs; id = t.id; notes = t.notes ++ note ∷ []; ballots = t.ballots; own = t.own }
+with_note t note = record {
+  epochs = t.epochs;
+  id = t.id;
+  notes = t.notes ++ note ∷ [];
+  ballots = t.ballots;
+  own = t.own;
+}
 
 -- one more chunk at a place of the member's own
 abbrev pub with_own : Known → Commitment → ℕ → Known
-with_own t c at = record { epochs = t.epochs; id = t.id; notes = t.notes; ballots = t.ballots; own = t.own ++ record { commitment = c; index = at } ∷ [] }
-
--- a vote may be counted that a note holds, and its proposal too
-abbrev pub is_countable : Note → Bool
-is_countable (Note.Vote v) = well_formed v
-is_countable (Note.Cert s) = well_formed s.vote
-is_countable (Note.Certified p) = is_ordered p
-is_countable _ = true
+with_own t c at = record {
+  epochs = t.epochs;
+  id = t.id;
+  notes = t.notes;
+  ballots = t.ballots;
+  own = t.own ++ record { commitment = c; index = at } ∷ [];
+}
 
 -- ---- as the rules see it
 
--- the rules of these committees and of this hash, over blocks and contexts in their bytes. Voting never asks for backlog, code, root, path, leads_to, text_of, read_block and accepts: tally_stands shows that any others do as well
+-- the rules of these committees and of this hash, over blocks and contexts in their bytes. Voting
+-- never asks for backlog, code, root, path, leads_to, text_of, read_block and accepts: tally_stands
+-- shows that any others do as well
 abbrev pub vote_rules : (List ℕ → Digest32) → Epochs → Rules
 vote_rules hash x = record {
   epochs = x;
@@ -60,7 +67,8 @@ vote_rules hash x = record {
 
 -- a chunk of that commitment at that place. No vote asks for its bytes
 abbrev pub own_part : OwnChunk → Part
-own_part x = Row x.commitment (record { shard = []; index = x.index; leaf_count = 0; siblings = [] })
+own_part x =
+    Row x.commitment (record { shard = []; index = x.index; leaf_count = 0; siblings = [] })
 
 -- what came
 abbrev pub came_of : Known → Came
@@ -72,7 +80,13 @@ state_of t = record { notes = t.notes; came = came_of t; given = [] }
 
 -- what a vote or a certificate leaves that may be accepted: it goes to the end where it isn't there
 abbrev pub with_ballot : Known → Ballot → Known
-with_ballot t x = record { epochs = t.epochs; id = t.id; notes = t.notes; ballots = (take_ballot (came_of t) true x).ballots; own = t.own }
+with_ballot t x = record {
+  epochs = t.epochs;
+  id = t.id;
+  notes = t.notes;
+  ballots = (take_ballot (came_of t) true x).ballots;
+  own = t.own;
+}
 
 -- ---- what came
 
@@ -89,8 +103,3 @@ ballot_signers (Many s) = s.signers
 -- it is the chunk of the commitment at that place
 abbrev pub is_own_at : ℕ → Commitment → OwnChunk → Bool
 is_own_at at c x = same_commitment c x.commitment && (x.index == at)
-
--- the height of a noted block
-abbrev pub noted_height : Note → Option ℕ
-noted_height (Note.Block c b) = Some b.height
-noted_height _ = None

@@ -18,7 +18,9 @@ use Rattle.voter.specs.Known.{Known, vote_rules, state_of}
 
 -- the certificate that is owed
 abbrev pub cert_owed : (List ℕ → Digest32) → Known → Option Note
-cert_owed hash t = first_some (rule.cert_owed (vote_rules hash t.epochs) t.id (state_of t)) (rule.named_votes (state_of t))
+cert_owed hash t =
+    first_some (rule.cert_owed (vote_rules hash t.epochs) t.id (state_of t))
+    (rule.named_votes (state_of t))
 
 -- whether one of this vote is owed
 unfoldable pub owes_cert : (List ℕ → Digest32) → Known → Vote → Bool
@@ -26,7 +28,9 @@ owes_cert hash t v = is_some (rule.cert_owed (vote_rules hash t.epochs) t.id (st
 
 -- the vote to notarize that is owed
 abbrev pub notarize_owed : (List ℕ → Digest32) → Known → Option Note
-notarize_owed hash t = first_some (rule.notarize_owed (vote_rules hash t.epochs) t.id (state_of t)) (rule.named_proposals (state_of t))
+notarize_owed hash t =
+    first_some (rule.notarize_owed (vote_rules hash t.epochs) t.id (state_of t))
+    (rule.named_proposals (state_of t))
 
 -- whether one of this proposal is owed
 unfoldable pub owes_notarize : (List ℕ → Digest32) → Known → Proposal → Bool
@@ -42,11 +46,15 @@ is_turn t p =
 
 -- the member can vote for it over the payload that is settled for its parent view
 unfoldable pub is_ready : (List ℕ → Digest32) → Known → Proposal → Bool
-is_ready hash t p = option_map_or (rule.is_ready (vote_rules hash t.epochs) t.id (state_of t) p) (settled (genesis_commitment hash) t.notes p.epoch p.parent) false
+is_ready hash t p =
+    option_map_or (rule.is_ready (vote_rules hash t.epochs) t.id (state_of t) p)
+    (settled (genesis_commitment hash) t.notes p.epoch p.parent) false
 
 -- the vote to finalize that is owed
 abbrev pub finalize_owed : (List ℕ → Digest32) → Known → Option Note
-finalize_owed hash t = first_some (rule.finalize_owed (vote_rules hash t.epochs) t.id (state_of t)) (rule.named_proposals (state_of t))
+finalize_owed hash t =
+    first_some (rule.finalize_owed (vote_rules hash t.epochs) t.id (state_of t))
+    (rule.named_proposals (state_of t))
 
 -- whether one of this proposal is owed
 unfoldable pub owes_finalize : (List ℕ → Digest32) → Known → Proposal → Bool
@@ -60,23 +68,33 @@ vote_owed hash t = option_or (notarize_owed hash t) (finalize_owed hash t)
 abbrev pub is_uncertified : List Note → Proposal → Bool
 is_uncertified notes p = has_cert notes (Notarize p) && not (has_certified notes p)
 
--- the proposal at that place of those that are named is notarized, isn't certified, and isn't named before
+-- the proposal at that place of those that are named is notarized, isn't certified, and isn't named
+-- before
 unfoldable pub is_candidate : Known → ℕ × Proposal → Bool
-is_candidate t at = is_uncertified t.notes at.1 && not (list_any (same_proposal at.1) (take at.0 (rule.named_proposals (state_of t))))
+is_candidate t at =
+    is_uncertified t.notes at.1
+    && not (list_any (same_proposal at.1) (take at.0 (rule.named_proposals (state_of t))))
 
--- the proposals that are notarized and not certified, each once, in the order in which they are first named
+-- the proposals that are notarized and not certified, each once, in the order in which they are
+-- first named
 abbrev pub uncertified : Known → List Proposal
-uncertified t = map (λ at. at.1) (filter (is_candidate t) (enumerate_from 0 (rule.named_proposals (state_of t))))
+uncertified t =
+    map (λ at. at.1)
+    (filter (is_candidate t) (enumerate_from 0 (rule.named_proposals (state_of t))))
 
--- the greatest settled view of the epoch below so many, with its payload, where all views above it and below so many are nullified
+-- the greatest settled view of the epoch below so many, with its payload, where all views above it
+-- and below so many are nullified
 abbrev pub parent_below : Commitment → List Note → ℕ → ℕ → Option (ℕ × Commitment)
 parent_below genesis notes epoch zero = None
 parent_below genesis notes epoch (suc view) =
     option_or (option_map (λ c. (view, c)) (settled genesis notes epoch view))
     (if nullified notes epoch view then parent_below genesis notes epoch view else None)
 
--- the greatest settled view of the epoch below that one and below the member's, with its payload, where all views between it and the member's are nullified
+-- the greatest settled view of the epoch below that one and below the member's, with its payload,
+-- where all views between it and the member's are nullified
 abbrev pub parent_over : Commitment → List Note → ℕ → ℕ → Option (ℕ × Commitment)
 parent_over genesis notes epoch below =
     let top = min below (view_of notes epoch) in
-    if rule.all_nullified notes epoch (top - 1) (view_of notes epoch) then parent_below genesis notes epoch top else None
+    if rule.all_nullified notes epoch (top - 1) (view_of notes epoch)
+    then parent_below genesis notes epoch top
+    else None

@@ -14,9 +14,11 @@ use Rattle.cw_rules.specs.Direct.{best_parent}
 use Rattle.cw_rules.specs.Notes.{view_of}
 use Rattle.cw_rules.specs.Owed.{all_nullified, ballot_vote, is_row_at}
 use Rattle.cw_rules.specs.Rules.{Rules}
-use Rattle.voter.specs.Known.{Known, is_countable, is_own_at}
+use Rattle.note_scans.specs.Countable.{is_countable}
+use Rattle.voter.specs.Known.{Known, is_own_at}
 
--- the tally has the member's committees, its notes, the votes and certificates that came to it, and those chunks that came and stand at its place of some epoch
+-- the tally has the member's committees, its notes, the votes and certificates that came to it, and
+-- those chunks that came and stand at its place of some epoch
 pub record StandsFor (hash : List ℕ → Digest32) (t : Known) (r : Rules) (s : State) : Type 0 where
   pub epochs : r.epochs ≡ t.epochs
   pub hash_same : r.hash ≡ hash
@@ -24,7 +26,8 @@ pub record StandsFor (hash : List ℕ → Digest32) (t : Known) (r : Rules) (s :
   pub contexts : r.context_bytes ≡ context_bytes
   pub notes : s.notes ≡ t.notes
   pub ballots : s.came.ballots ≡ t.ballots
-  pub own : (epoch at : ℕ) (c : Commitment) → place t.epochs epoch t.id ≡ Some at → list_any (is_row_at at c) s.came.parts ≡ list_any (is_own_at at c) t.own
+  pub own : (epoch at : ℕ) (c : Commitment) → place t.epochs epoch t.id ≡ Some at
+      → list_any (is_row_at at c) s.came.parts ≡ list_any (is_own_at at c) t.own
 
 -- what came and may be counted: the vote that it names is well formed
 abbrev pub is_formed : Ballot → Bool
@@ -49,8 +52,11 @@ pub record AreCountable (epochs : Epochs) (notes : List Note) (ballots : List Ba
 abbrev pub with_came : State → Came → State
 with_came s came = record { notes = s.notes; came = came; given = s.given }
 
--- the best parent of the rules below so many, where all views from there up to the member's are nullified
+-- the best parent of the rules below so many, where all views from there up to the member's are
+-- nullified
 abbrev pub best_from : Rules → List Note → ℕ → ℕ → Option (ℕ × Commitment × Block)
 best_from r notes epoch below =
     let top = min below (view_of notes epoch) in
-    if all_nullified notes epoch (top - 1) (view_of notes epoch) then best_parent r notes epoch top else None
+    if all_nullified notes epoch (top - 1) (view_of notes epoch)
+    then best_parent r notes epoch top
+    else None

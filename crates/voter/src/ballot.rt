@@ -1,12 +1,13 @@
 //! Votes and certificates that came.
 
-ghost use Rattle.std.specs.Prelude.{◌≡◌, List, Option, ℕ, option_map};
+ghost use Rattle.std.specs.Prelude.{◌≡◌, Option, option_map};
 ghost use Rattle.cw_rules.specs.Accepted.{Many, Single, same_ballot};
 ghost use Rattle.cw_rules.specs.Owed as rule;
 ghost use Rattle.cw_types.specs.Votes as votes;
 ghost use Rattle.voter.specs.Known.{ballot_signers, certifies};
 
 use cw_types::{Cert, Proposal, Vote};
+use note_scans::voted_proposal;
 use std::marker::Model;
 
 /// Which of the two it is.
@@ -61,20 +62,14 @@ impl Ballot {
         }
     }
 
-    /// The proposal that it names.
-    pub(crate) fn proposal(&self) -> Option<Proposal>
-        ensures { result ≡ votes.proposal_of (rule.ballot_vote self.now) }
-    {
-        proposal_of(&self.vote())
-    }
-
-    /// The same, where it stands.
-    pub(crate) fn named_proposal(&self) -> Option<&Proposal>
-        ensures { option_map (λ proposal. proposal.now) result ≡ votes.proposal_of (rule.ballot_vote self.now) }
+    /// The proposal that it names, where it stands.
+    pub(crate) fn proposal(&self) -> Option<&Proposal>
+        ensures { option_map (λ proposal. proposal.now) result
+            ≡ votes.proposal_of (rule.ballot_vote self.now) }
     {
         match &self.kind {
-            Kind::Single(_, vote) => named_proposal(vote),
-            Kind::Many(cert) => named_proposal(&cert.vote),
+            Kind::Single(_, vote) => voted_proposal(vote),
+            Kind::Many(cert) => voted_proposal(&cert.vote),
         }
     }
 
@@ -117,27 +112,5 @@ impl Ballot {
             Kind::Single(_, _) => &[],
             Kind::Many(cert) => cert.signers.as_slice(),
         }
-    }
-}
-
-/// The proposal that a vote is on.
-pub(crate) fn proposal_of(vote: &Vote) -> Option<Proposal>
-    ensures { result ≡ votes.proposal_of vote.now }
-{
-    match vote {
-        Vote::Notarize(proposal) => Some(*proposal),
-        Vote::Nullify { .. } => None,
-        Vote::Finalize(proposal) => Some(*proposal),
-    }
-}
-
-/// The same, where it stands.
-pub(crate) fn named_proposal(vote: &Vote) -> Option<&Proposal>
-    ensures { option_map (λ proposal. proposal.now) result ≡ votes.proposal_of vote.now }
-{
-    match vote {
-        Vote::Notarize(proposal) => Some(proposal),
-        Vote::Nullify { .. } => None,
-        Vote::Finalize(proposal) => Some(proposal),
     }
 }

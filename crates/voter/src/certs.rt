@@ -9,12 +9,12 @@ ghost use Rattle.cw_types.specs.Epochs.{members_in, size};
 ghost use Rattle.cw_types.specs.Numbers.{quorum};
 ghost use Rattle.cw_types.specs.Votes.{vote_epoch, well_formed};
 ghost use Rattle.cw_types.specs.declared.note.Note.{Note};
-ghost use Rattle.voter.specs.Known.{ballot_signers, certifies, is_countable, state_of, vote_rules};
+ghost use Rattle.note_scans.specs.Countable.{is_countable};
+ghost use Rattle.voter.specs.Known.{ballot_signers, certifies, state_of, vote_rules};
 ghost use Rattle.voter.specs.Owing as owing;
 ghost use Rattle.voter.specs.Standing.{are_signers};
 
 use crate::ballot::Ballot;
-use crate::notes;
 use crate::tally::Tally;
 use cw_base::{Digest32, Hasher, Items, NoMemory};
 use cw_types::{Cert, Vote, quorum};
@@ -26,7 +26,7 @@ impl<H> Tally<H> {
         ensures { result ≡ rule.knows self.now.id (state_of self.now) vote.now member }
     {
         self.has_voted_so(vote, member)
-            || (member == self.id && notes::has_vote(self.notes.as_slice(), vote))
+            || (member == self.id && note_scans::has_vote(self.notes.as_slice(), vote))
     }
 
     // Whether this vote of that member came.
@@ -41,7 +41,9 @@ impl<H> Tally<H> {
 
     // How many members are known to have signed the vote.
     fn count_known(&self, vote: &Vote) -> usize
-        ensures { result ≡ length (filter (rule.knows self.now.id (state_of self.now) vote.now) (members_in self.now.epochs (vote_epoch vote.now))) }
+        ensures { result ≡ length
+            (filter (rule.knows self.now.id (state_of self.now) vote.now)
+            (members_in self.now.epochs (vote_epoch vote.now))) }
     {
         self.committees
             .members(vote.epoch())
@@ -52,7 +54,9 @@ impl<H> Tally<H> {
 
     // The members that are known to have signed the vote, rising.
     fn known(&self, alloc: Global, vote: &Vote) -> Result<Vec<u16>, NoMemory>
-        ensures { IfOk result (λ known. known.items ≡ filter (rule.knows self.now.id (state_of self.now) vote.now) (members_in self.now.epochs (vote_epoch vote.now))) }
+        ensures { IfOk result (λ known. known.items
+            ≡ filter (rule.knows self.now.id (state_of self.now) vote.now)
+            (members_in self.now.epochs (vote_epoch vote.now))) }
     {
         let known = self
             .committees
@@ -66,9 +70,13 @@ impl<H> Tally<H> {
 
     // Whether no certificate of the vote is noted, and one came or a quorum is known.
     fn is_certifiable(&self, vote: &Vote) -> bool
-        ensures { result ≡ (not (has_cert self.now.notes vote.now) && (is_some (find (certifies vote.now) self.now.ballots) || nat_le (quorum (size self.now.epochs (vote_epoch vote.now))) (length (filter (rule.knows self.now.id (state_of self.now) vote.now) (members_in self.now.epochs (vote_epoch vote.now)))))) }
+        ensures { result ≡ (not (has_cert self.now.notes vote.now)
+            && (is_some (find (certifies vote.now) self.now.ballots)
+            || nat_le (quorum (size self.now.epochs (vote_epoch vote.now)))
+            (length (filter (rule.knows self.now.id (state_of self.now) vote.now)
+            (members_in self.now.epochs (vote_epoch vote.now)))))) }
     {
-        !notes::has_cert(self.notes.as_slice(), vote)
+        !note_scans::has_cert(self.notes.as_slice(), vote)
             && (self.has_arrived(vote) || self.is_signed(vote))
     }
 
@@ -81,7 +89,8 @@ impl<H> Tally<H> {
 
     // The first certificate of the vote that came.
     fn first_cert(&self, vote: &Vote) -> Option<&Ballot>
-        ensures { option_map (λ ballot. ballot.now) result ≡ find (certifies vote.now) self.now.ballots }
+        ensures { option_map (λ ballot. ballot.now) result
+            ≡ find (certifies vote.now) self.now.ballots }
     {
         self.ballots
             .as_slice()
@@ -89,22 +98,13 @@ impl<H> Tally<H> {
             .find(|ballot| ballot.is_cert_of(vote))
     }
 
-    // How many members the epoch has.
-    pub(crate) fn size(&self, epoch: u64) -> u16
-        ensures value { result ≡ size self.now.epochs epoch }
-        ensures enough { 4 ≤ result }
-    {
-        // No committee has more members than there are, so their number fits.
-        let _total = self.committees.total();
-        let members = self.committees.members(epoch);
-        members.len() as u16
-    }
-
     // Whether enough members of its epoch are known to have signed the vote.
     fn is_signed(&self, vote: &Vote) -> bool
-        ensures { result ≡ nat_le (quorum (size self.now.epochs (vote_epoch vote.now))) (length (filter (rule.knows self.now.id (state_of self.now) vote.now) (members_in self.now.epochs (vote_epoch vote.now)))) }
+        ensures { result ≡ nat_le (quorum (size self.now.epochs (vote_epoch vote.now)))
+            (length (filter (rule.knows self.now.id (state_of self.now) vote.now)
+            (members_in self.now.epochs (vote_epoch vote.now)))) }
     {
-        quorum(self.size(vote.epoch())) as usize <= self.count_known(vote)
+        quorum(self.committees.size(vote.epoch())) as usize <= self.count_known(vote)
     }
 }
 
@@ -118,7 +118,8 @@ impl<H: Hasher<Digest = Digest32>> Tally<H> {
 
     // The first vote of which a certificate is owed.
     fn first_certifiable(&self) -> Option<Vote>
-        ensures { result ≡ find (owing.owes_cert H.digest_of self.now) (rule.named_votes (state_of self.now)) }
+        ensures { result ≡ find (owing.owes_cert H.digest_of self.now)
+            (rule.named_votes (state_of self.now)) }
     {
         self.ballots
             .as_slice()
@@ -128,14 +129,15 @@ impl<H: Hasher<Digest = Digest32>> Tally<H> {
                 self.notes
                     .as_slice()
                     .iter()
-                    .filter_map(|note| notes::vote_of(note)),
+                    .filter_map(|note| note_scans::vote_of(note)),
             )
             .find(|vote| self.owes_cert(vote))
     }
 
     // The same: it may be counted.
     fn first_owing(&self) -> Option<Vote>
-        ensures value { result ≡ find (owing.owes_cert H.digest_of self.now) (rule.named_votes (state_of self.now)) }
+        ensures value { result ≡ find (owing.owes_cert H.digest_of self.now)
+            (rule.named_votes (state_of self.now)) }
         ensures formed { IfSome result (λ vote. IsTrue (well_formed vote)) }
     {
         let _ = &self.notes;
@@ -144,7 +146,10 @@ impl<H: Hasher<Digest = Digest32>> Tally<H> {
 
     // The signers of the first certificate of the vote that came, else those that are known.
     fn chosen(&self, alloc: Global, vote: &Vote) -> Result<Items<u16>, NoMemory>
-        ensures { IfOk result (λ signers. signers ≡ unwrap_or (option_map ballot_signers (find (certifies vote.now) self.now.ballots)) (rule.known (vote_rules H.digest_of self.now.epochs) self.now.id (state_of self.now) vote.now)) }
+        ensures { IfOk result (λ signers. signers
+            ≡ unwrap_or (option_map ballot_signers (find (certifies vote.now) self.now.ballots))
+            (rule.known (vote_rules H.digest_of self.now.epochs) self.now.id (state_of self.now)
+            vote.now)) }
     {
         let signers = match self.first_cert(vote) {
             Some(ballot) => Vec::from_slice(alloc, ballot.signers())?,
@@ -155,8 +160,13 @@ impl<H: Hasher<Digest = Digest32>> Tally<H> {
 
     // The same: they may sign the vote.
     fn signers(&self, alloc: Global, vote: &Vote) -> Result<Items<u16>, NoMemory>
-        ensures value { IfOk result (λ signers. signers ≡ unwrap_or (option_map ballot_signers (find (certifies vote.now) self.now.ballots)) (rule.known (vote_rules H.digest_of self.now.epochs) self.now.id (state_of self.now) vote.now)) }
-        ensures signed { IfOk result (λ signers. IsTrue (are_signers self.now.epochs vote.now signers)) }
+        ensures value { IfOk result
+            (λ signers. signers ≡ unwrap_or
+            (option_map ballot_signers (find (certifies vote.now) self.now.ballots))
+            (rule.known (vote_rules H.digest_of self.now.epochs) self.now.id (state_of self.now)
+            vote.now)) }
+        ensures signed { IfOk result
+            (λ signers. IsTrue (are_signers self.now.epochs vote.now signers)) }
         ensures few { IfOk result (λ signers. length signers ≤ 65535) }
     {
         // No committee has more members than there are, so their number fits.
@@ -171,9 +181,13 @@ impl<H: Hasher<Digest = Digest32>> Tally<H> {
     /// signed. Its signers are those of the first certificate of the vote that came, else all that
     /// are known, rising. It can be noted, and at most 65,535 members sign it.
     pub fn owed_cert(&self, alloc: Global) -> Result<Option<Cert>, NoMemory>
-        ensures value { IfOk result (λ owed. option_map Note.Cert owed ≡ owing.cert_owed H.digest_of self.now) }
-        ensures countable { IfOk result (λ owed. IfSome owed (λ cert. IsTrue (is_countable (Note.Cert cert)))) }
-        ensures signed { IfOk result (λ owed. IfSome owed (λ cert. IsTrue (are_signers self.now.epochs cert.vote cert.signers))) }
+        ensures value { IfOk result
+            (λ owed. option_map Note.Cert owed ≡ owing.cert_owed H.digest_of self.now) }
+        ensures countable { IfOk result
+            (λ owed. IfSome owed (λ cert. IsTrue (is_countable (Note.Cert cert)))) }
+        ensures signed { IfOk result
+            (λ owed. IfSome owed (λ cert.
+            IsTrue (are_signers self.now.epochs cert.vote cert.signers))) }
         ensures few { IfOk result (λ owed. IfSome owed (λ cert. length cert.signers ≤ 65535)) }
     {
         match self.first_owing() {

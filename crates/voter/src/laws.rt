@@ -1,17 +1,16 @@
-//! What the votes of members can't do, whatever they know, and what a tally tells of the rules.
+//! What a tally tells of the rules.
 
-ghost use Rattle.std.specs.Prelude.{[], Bool, IsTrue, List, None, Some, find, option_map, true, ◌<◌, ◌≡◌, ◌∷◌, ℕ};
+ghost use Rattle.std.specs.Prelude.{[], IsTrue, List, None, Some, find, option_map, true, ◌<◌, ◌≡◌, ◌∷◌, ℕ};
 ghost use Rattle.std.specs.List.{list_all};
 ghost use Rattle.cw_base.specs.declared.hash.Digest32.{Digest32};
 ghost use Rattle.cw_types.specs.Block.{Block};
 ghost use Rattle.cw_types.specs.Commit.{genesis_commitment};
 ghost use Rattle.cw_types.specs.Encoding.{block_bytes, context_bytes};
-ghost use Rattle.cw_types.specs.Epochs.{Epochs, place};
+ghost use Rattle.cw_types.specs.Epochs.{place};
 ghost use Rattle.cw_types.specs.declared.commitment.Commitment.{Commitment};
 ghost use Rattle.cw_types.specs.declared.event.Handed.{Handed};
 ghost use Rattle.cw_types.specs.declared.note.Note.{Note};
 ghost use Rattle.cw_types.specs.declared.vote.Proposal.{Proposal};
-ghost use Rattle.cw_types.specs.declared.vote.Vote.{Vote};
 ghost use Rattle.cw_rules.specs.Accepted.{Ballot, Row, State, Whole, add_wish, first_some, take_ballot, take_part};
 ghost use Rattle.cw_rules.specs.Direct.{best_parent};
 ghost use Rattle.cw_rules.specs.Fits.{block_fits};
@@ -19,72 +18,66 @@ ghost use Rattle.cw_rules.specs.Held.{held};
 ghost use Rattle.cw_rules.specs.Notes.{view_of};
 ghost use Rattle.cw_rules.specs.Owed as rule;
 ghost use Rattle.cw_rules.specs.Rules.{Chunk, Rules};
-ghost use Rattle.cw_rules.specs.Stands.{AreLawful, Descends, Members, Stands};
 ghost use Rattle.cw_rules.specs.Step.{nothing_came, with_handed, with_notes};
-ghost use Rattle.voter.specs.Known.{Known, is_countable, unknowing, with_ballot, with_note, with_own};
+ghost use Rattle.note_scans.specs.Countable.{is_countable};
+ghost use Rattle.voter.specs.Known.{Known, unknowing, with_ballot, with_note, with_own};
 ghost use Rattle.voter.specs.Owing as owing;
 ghost use Rattle.voter.specs.Standing.{StandsFor, best_from, is_formed, is_signed, with_came};
 
 use crate::tally::Tally;
 use cw_types::{Note, Proposal, Vote};
 
-/// Among members of whom at most f of each epoch are faulty, and the others honest, what stands is one
-/// chain in each epoch. What it means that the block of a proposal fits is left open, so a payload may be
-/// any commitment.
-pub fn chain_laws()
-    // no two different votes to notarize of one epoch and view stand
-    ensures one_notarized { (x : Epochs) (fits : List Note → Proposal → Bool) (members : Members)
-        → AreLawful x fits members
-        → (p q : Proposal) → Stands x members (Vote.Notarize p) → Stands x members (Vote.Notarize q)
-        → p.epoch ≡ q.epoch → p.view ≡ q.view → p ≡ q }
-    // a vote to finalize and one to nullify its view never both stand
-    ensures not_both { (x : Epochs) (fits : List Note → Proposal → Bool) (members : Members)
-        → AreLawful x fits members
-        → (p : Proposal) → Stands x members (Vote.Finalize p) → Stands x members (Vote.Nullify p.epoch p.view) → ⊥ }
-    // what stands notarized in a later view of the epoch than a finalized proposal descends from it
-    ensures descent { (x : Epochs) (fits : List Note → Proposal → Bool) (members : Members)
-        → AreLawful x fits members
-        → (p q : Proposal) → Stands x members (Vote.Finalize p) → Stands x members (Vote.Notarize q)
-        → p.epoch ≡ q.epoch → p.view < q.view → Descends x members q p }
-{
-    cw_rules::chain_laws();
-}
-
-/// What a tally owes is what the rules say that each member owes that it stands for, whatever the rules
-/// stand on and whatever else the member knows. Whether a block fits is the member's to say.
+/// What a tally owes is what the rules say that each member owes that it stands for, whatever the
+/// rules stand on and whatever else the member knows. Whether a block fits is the member's to say.
 pub fn tally_stands()
-    ensures certificates { (hash : List ℕ → Digest32) (t : Known) (r : Rules) (s : State) → StandsFor hash t r s
+    ensures certificates { (hash : List ℕ → Digest32) (t : Known) (r : Rules) (s : State)
+        → StandsFor hash t r s
         → first_some (rule.cert_owed r t.id s) (rule.named_votes s) ≡ owing.cert_owed hash t }
     // of the proposals that aren't certified, the first whose block fits
-    ensures certified { (hash : List ℕ → Digest32) (t : Known) (r : Rules) (s : State) → StandsFor hash t r s
-        → first_some (rule.certified_owed r s) (rule.named_proposals s) ≡ option_map Note.Certified (find (block_fits r t.notes) (owing.uncertified t)) }
-    ensures notarized { (hash : List ℕ → Digest32) (t : Known) (r : Rules) (s : State) → StandsFor hash t r s
-        → first_some (rule.notarize_owed r t.id s) (rule.named_proposals s) ≡ owing.notarize_owed hash t }
-    ensures finalized { (hash : List ℕ → Digest32) (t : Known) (r : Rules) (s : State) → StandsFor hash t r s
-        → first_some (rule.finalize_owed r t.id s) (rule.named_proposals s) ≡ owing.finalize_owed hash t }
+    ensures certified { (hash : List ℕ → Digest32) (t : Known) (r : Rules) (s : State)
+        → StandsFor hash t r s
+        → first_some (rule.certified_owed r s) (rule.named_proposals s)
+        ≡ option_map Note.Certified (find (block_fits r t.notes) (owing.uncertified t)) }
+    ensures notarized { (hash : List ℕ → Digest32) (t : Known) (r : Rules) (s : State)
+        → StandsFor hash t r s
+        → first_some (rule.notarize_owed r t.id s) (rule.named_proposals s)
+        ≡ owing.notarize_owed hash t }
+    ensures finalized { (hash : List ℕ → Digest32) (t : Known) (r : Rules) (s : State)
+        → StandsFor hash t r s
+        → first_some (rule.finalize_owed r t.id s) (rule.named_proposals s)
+        ≡ owing.finalize_owed hash t }
 {}
 
-/// The parents that a tally gives lead to the one over which the rules propose: asked from the member's
-/// view on, and again below each parent whose block isn't held.
+/// The parents that a tally gives lead to the one over which the rules propose: asked from the
+/// member's view on, and again below each parent whose block isn't held.
 pub fn parent_stands()
     // the search begins at the member's view
-    ensures start { (hash : List ℕ → Digest32) (t : Known) (r : Rules) (s : State) → StandsFor hash t r s
-        → (epoch : ℕ) → best_parent r s.notes epoch (view_of s.notes epoch) ≡ best_from r t.notes epoch (view_of t.notes epoch) }
+    ensures start { (hash : List ℕ → Digest32) (t : Known) (r : Rules) (s : State)
+        → StandsFor hash t r s
+        → (epoch : ℕ) → best_parent r s.notes epoch (view_of s.notes epoch)
+        ≡ best_from r t.notes epoch (view_of t.notes epoch) }
     // where no parent is given there is none
-    ensures none { (hash : List ℕ → Digest32) (t : Known) (r : Rules) (s : State) → StandsFor hash t r s
+    ensures none { (hash : List ℕ → Digest32) (t : Known) (r : Rules) (s : State)
+        → StandsFor hash t r s
         → (epoch below : ℕ) → owing.parent_over (genesis_commitment hash) t.notes epoch below ≡ None
         → best_from r t.notes epoch below ≡ None }
     // one whose block is held is it
-    ensures held { (hash : List ℕ → Digest32) (t : Known) (r : Rules) (s : State) → StandsFor hash t r s
-        → (epoch below view : ℕ) (c : Commitment) (b : Block) → owing.parent_over (genesis_commitment hash) t.notes epoch below ≡ Some (view, c)
+    ensures held { (hash : List ℕ → Digest32) (t : Known) (r : Rules) (s : State)
+        → StandsFor hash t r s
+        → (epoch below view : ℕ) (c : Commitment) (b : Block)
+        → owing.parent_over (genesis_commitment hash) t.notes epoch below ≡ Some (view, c)
         → held r t.notes c ≡ Some b → best_from r t.notes epoch below ≡ Some (view, c, b) }
     // over one whose block isn't held the search goes on below it
-    ensures next { (hash : List ℕ → Digest32) (t : Known) (r : Rules) (s : State) → StandsFor hash t r s
-        → (epoch below view : ℕ) (c : Commitment) → owing.parent_over (genesis_commitment hash) t.notes epoch below ≡ Some (view, c)
-        → held r t.notes c ≡ None → best_from r t.notes epoch below ≡ best_from r t.notes epoch view }
+    ensures next { (hash : List ℕ → Digest32) (t : Known) (r : Rules) (s : State)
+        → StandsFor hash t r s
+        → (epoch below view : ℕ) (c : Commitment)
+        → owing.parent_over (genesis_commitment hash) t.notes epoch below ≡ Some (view, c)
+        → held r t.notes c ≡ None
+        → best_from r t.notes epoch below ≡ best_from r t.notes epoch view }
     // which is lower
     ensures falls { (hash : List ℕ → Digest32) (t : Known)
-        → (epoch below view : ℕ) (c : Commitment) → owing.parent_over (genesis_commitment hash) t.notes epoch below ≡ Some (view, c)
+        → (epoch below view : ℕ) (c : Commitment)
+        → owing.parent_over (genesis_commitment hash) t.notes epoch below ≡ Some (view, c)
         → view < below }
 {}
 
@@ -93,22 +86,33 @@ pub fn standing_is_kept()
     // a tally that knows nothing stands for a member that starts with no notes
     ensures start { (hash : List ℕ → Digest32) (r : Rules) (id : ℕ) (given : List ℕ)
         → r.hash ≡ hash → r.block_bytes ≡ block_bytes → r.context_bytes ≡ context_bytes
-        → StandsFor hash (unknowing r.epochs id) r (record { notes = []; came = nothing_came; given = given }) }
-    ensures note { (hash : List ℕ → Digest32) (t : Known) (r : Rules) (s : State) → StandsFor hash t r s
+        → StandsFor hash (unknowing r.epochs id) r
+        (record { notes = []; came = nothing_came; given = given }) }
+    ensures note { (hash : List ℕ → Digest32) (t : Known) (r : Rules) (s : State)
+        → StandsFor hash t r s
         → (note : Note) → StandsFor hash (with_note t note) r (with_notes s (note ∷ [])) }
-    ensures ballot { (hash : List ℕ → Digest32) (t : Known) (r : Rules) (s : State) → StandsFor hash t r s
-        → (x : Ballot) → StandsFor hash (with_ballot t x) r (with_came s (take_ballot s.came true x)) }
-    ensures own_chunk { (hash : List ℕ → Digest32) (t : Known) (r : Rules) (s : State) → StandsFor hash t r s
-        → (c : Commitment) (x : Chunk) → StandsFor hash (with_own t c x.index) r (with_came s (take_part s.came true (Row c x))) }
+    ensures ballot { (hash : List ℕ → Digest32) (t : Known) (r : Rules) (s : State)
+        → StandsFor hash t r s
+        → (x : Ballot) → StandsFor hash (with_ballot t x) r
+        (with_came s (take_ballot s.came true x)) }
+    ensures own_chunk { (hash : List ℕ → Digest32) (t : Known) (r : Rules) (s : State)
+        → StandsFor hash t r s
+        → (c : Commitment) (x : Chunk)
+        → StandsFor hash (with_own t c x.index) r (with_came s (take_part s.came true (Row c x))) }
     // a chunk that stands at the member's place of no epoch
-    ensures other_chunk { (hash : List ℕ → Digest32) (t : Known) (r : Rules) (s : State) → StandsFor hash t r s
-        → (c : Commitment) (x : Chunk) → ((epoch : ℕ) → place t.epochs epoch t.id ≡ Some x.index → ⊥)
+    ensures other_chunk { (hash : List ℕ → Digest32) (t : Known) (r : Rules) (s : State)
+        → StandsFor hash t r s
+        → (c : Commitment) (x : Chunk)
+        → ((epoch : ℕ) → place t.epochs epoch t.id ≡ Some x.index → ⊥)
         → StandsFor hash t r (with_came s (take_part s.came true (Row c x))) }
-    ensures whole_block { (hash : List ℕ → Digest32) (t : Known) (r : Rules) (s : State) → StandsFor hash t r s
+    ensures whole_block { (hash : List ℕ → Digest32) (t : Known) (r : Rules) (s : State)
+        → StandsFor hash t r s
         → (b : Block) → StandsFor hash t r (with_came s (take_part s.came true (Whole b))) }
-    ensures wish { (hash : List ℕ → Digest32) (t : Known) (r : Rules) (s : State) → StandsFor hash t r s
+    ensures wish { (hash : List ℕ → Digest32) (t : Known) (r : Rules) (s : State)
+        → StandsFor hash t r s
         → (c : Commitment) → StandsFor hash t r (with_came s (add_wish s.came c)) }
-    ensures handed { (hash : List ℕ → Digest32) (t : Known) (r : Rules) (s : State) → StandsFor hash t r s
+    ensures handed { (hash : List ℕ → Digest32) (t : Known) (r : Rules) (s : State)
+        → StandsFor hash t r s
         → (out : List Handed) → StandsFor hash t r (with_handed s out) }
 {}
 
@@ -124,8 +128,15 @@ pub fn tally_is_countable<H>(tally: &Tally<H>)
 
 /// What is owed by notes and ballots that may be counted may be counted.
 pub fn owed_is_countable()
-    ensures certificates { (hash : List ℕ → Digest32) (t : Known) (owed : Note) → IsTrue (list_all is_countable t.notes) → IsTrue (list_all is_formed t.ballots)
+    ensures certificates { (hash : List ℕ → Digest32) (t : Known) (owed : Note)
+        → IsTrue (list_all is_countable t.notes) → IsTrue (list_all is_formed t.ballots)
         → owing.cert_owed hash t ≡ Some owed → IsTrue (is_countable owed) }
-    ensures votes { (hash : List ℕ → Digest32) (t : Known) (owed : Note) → IsTrue (list_all is_countable t.notes) → IsTrue (list_all is_formed t.ballots)
+    ensures votes { (hash : List ℕ → Digest32) (t : Known) (owed : Note)
+        → IsTrue (list_all is_countable t.notes) → IsTrue (list_all is_formed t.ballots)
         → owing.vote_owed hash t ≡ Some owed → IsTrue (is_countable owed) }
+    // the note that the first proposal is certified whose block fits
+    ensures certified { (hash : List ℕ → Digest32) (t : Known) (r : Rules) (p : Proposal)
+        → IsTrue (list_all is_countable t.notes) → IsTrue (list_all is_formed t.ballots)
+        → find (block_fits r t.notes) (owing.uncertified t) ≡ Some p
+        → IsTrue (is_countable (Note.Certified p)) }
 {}

@@ -1,26 +1,21 @@
 //! What a member knows of votes and certificates, and what it owes by it: the tally.
 //!
-//! Each call is a function of what the tally was told. `tally_stands` and `parent_stands` say how its
-//! answers are those of the cluster rules. The bodies scan plain lists.
+//! Each call is a function of what the tally was told. `tally_stands` and `parent_stands` say how
+//! its answers are those of the cluster rules. The bodies scan plain lists.
 #![tactic(auto)]
 
 mod ballot;
 mod certs;
-mod context;
 mod laws;
-mod notes;
 mod own;
 mod parents;
 mod proposals;
 mod tally;
 mod votes;
 
+pub use cw_rules::chain_laws;
 pub use laws::{
-    chain_laws, owed_is_countable, parent_stands, standing_is_kept, tally_is_countable,
-    tally_stands,
+    owed_is_countable, parent_stands, standing_is_kept, tally_is_countable, tally_stands,
 };
 pub use own::OwnChunk;
 pub use tally::Tally;
-
-#[cfg(test)]
-mod tests;

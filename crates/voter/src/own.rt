@@ -2,7 +2,8 @@
 
 use cw_types::Commitment;
 
-/// A chunk that came, at the member's place in the list of some epoch: what it is of, and its place.
+/// A chunk that came, at the member's place in the list of some epoch: what it is of, and its
+/// place.
 #[derive(Clone, Copy, Debug, PartialEq, Eq)]
 pub struct OwnChunk {
     pub commitment: Commitment,

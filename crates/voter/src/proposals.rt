@@ -1,16 +1,15 @@
 //! The proposals that a member may certify.
 
-ghost use Rattle.std.specs.Prelude.{◌≡◌, ◌==◌, filter, filter_map, find, length, option_and_then, option_map, slice_get, take};
+ghost use Rattle.std.specs.Prelude.{◌≡◌, ◌==◌, IfSome, IsTrue, filter, filter_map, find, length, option_and_then, option_map, slice_get, take};
 ghost use Rattle.std.specs.List.{enumerate_from, list_any};
 ghost use Rattle.std.specs.Option.{is_some};
 ghost use Rattle.cw_rules.specs.Owed as rule;
 ghost use Rattle.cw_types.specs.Same.{same_proposal};
-ghost use Rattle.cw_types.specs.Votes.{proposal_of};
+ghost use Rattle.cw_types.specs.Votes.{is_ordered, proposal_of};
 ghost use Rattle.voter.specs.Known.{state_of};
 ghost use Rattle.voter.specs.Owing as owing;
 
 use crate::ballot::Ballot;
-use crate::notes;
 use crate::tally::Tally;
 use cw_types::{Note, Proposal, Vote};
 
@@ -19,30 +18,31 @@ impl<H> Tally<H> {
     fn is_uncertified(&self, proposal: &Proposal) -> bool
         ensures { result ≡ owing.is_uncertified self.now.notes proposal.now }
     {
-        notes::has_cert(self.notes.as_slice(), &Vote::Notarize(*proposal))
-            && !notes::has_certified(self.notes.as_slice(), proposal)
+        note_scans::has_cert(self.notes.as_slice(), &Vote::Notarize(*proposal))
+            && !note_scans::has_certified(self.notes.as_slice(), proposal)
     }
 
     // Whether one of the first `at` proposals that are named is the same.
     fn is_named_before(&self, at: usize, proposal: &Proposal) -> bool
-        ensures { result ≡ list_any (same_proposal proposal.now) (take at (rule.named_proposals (state_of self.now))) }
+        ensures { result ≡ list_any (same_proposal proposal.now)
+            (take at (rule.named_proposals (state_of self.now))) }
     {
         self.ballots
             .as_slice()
             .iter()
-            .filter_map(|ballot| ballot.proposal())
+            .filter_map(|ballot| ballot.proposal().copied())
             .chain(
                 self.notes
                     .as_slice()
                     .iter()
-                    .filter_map(|note| notes::note_proposal(note)),
+                    .filter_map(|note| note_scans::proposal_of(note).copied()),
             )
             .take(at)
             .any(|other| proposal.is_same(&other))
     }
 
-    // Whether the proposal at that place of those that are named is notarized, not certified, and not
-    // named before.
+    // Whether the proposal at that place of those that are named is notarized, not certified, and
+    // not named before.
     #[tactic(auto, unfolding(crate::specs::Owing::is_candidate))]
     fn is_candidate(&self, at: usize, proposal: &Proposal) -> bool
         ensures { result ≡ owing.is_candidate self.now (at, proposal.now) }
@@ -52,17 +52,19 @@ impl<H> Tally<H> {
 
     // The candidate at this place, with its place among those that are named.
     fn ranked_candidate(&self, index: usize) -> Option<(usize, (usize, Proposal))>
-        ensures { result ≡ find (λ e. e.0 == index) (enumerate_from 0 (filter (owing.is_candidate self.now) (enumerate_from 0 (rule.named_proposals (state_of self.now))))) }
+        ensures { result ≡ find (λ e. e.0 == index)
+            (enumerate_from 0 (filter (owing.is_candidate self.now)
+            (enumerate_from 0 (rule.named_proposals (state_of self.now))))) }
     {
         self.ballots
             .as_slice()
             .iter()
-            .filter_map(|ballot| ballot.proposal())
+            .filter_map(|ballot| ballot.proposal().copied())
             .chain(
                 self.notes
                     .as_slice()
                     .iter()
-                    .filter_map(|note| notes::note_proposal(note)),
+                    .filter_map(|note| note_scans::proposal_of(note).copied()),
             )
             .enumerate()
             .filter(|(at, proposal)| self.is_candidate(*at, proposal))
@@ -72,18 +74,21 @@ impl<H> Tally<H> {
 
     // How many votes and certificates that came name a proposal.
     fn count_naming(&self) -> usize
-        ensures { result ≡ length (filter_map (λ x. proposal_of (rule.ballot_vote x)) self.now.ballots) }
+        ensures { result ≡ length
+            (filter_map (λ x. proposal_of (rule.ballot_vote x)) self.now.ballots) }
     {
         self.ballots
             .as_slice()
             .iter()
-            .filter_map(|ballot| ballot.proposal())
+            .filter_map(|ballot| ballot.proposal().copied())
             .count()
     }
 
     // That at this place of those.
     fn ballot_naming(&self, at: usize) -> Option<&Ballot>
-        ensures { option_map (λ ballot. ballot.now) result ≡ slice_get (filter (λ x. is_some (proposal_of (rule.ballot_vote x))) self.now.ballots) at }
+        ensures { option_map (λ ballot. ballot.now) result
+            ≡ slice_get (filter (λ x. is_some (proposal_of (rule.ballot_vote x))) self.now.ballots)
+            at }
     {
         self.ballots
             .as_slice()
@@ -94,38 +99,45 @@ impl<H> Tally<H> {
 
     // The note at this place of those that name a proposal.
     fn note_naming(&self, at: usize) -> Option<&Note>
-        ensures { option_map (λ note. note.now) result ≡ slice_get (filter (λ note. is_some (rule.note_proposal note)) self.now.notes) at }
+        ensures { option_map (λ note. note.now) result
+            ≡ slice_get (filter (λ note. is_some (rule.note_proposal note)) self.now.notes) at }
     {
         self.notes
             .as_slice()
             .iter()
-            .filter(|note| notes::note_proposal(note).is_some())
+            .filter(|note| note_scans::proposal_of(note).is_some())
             .nth(at)
     }
 
     // The proposal that it names.
     fn ballot_proposal(&self, at: usize) -> Option<&Proposal>
-        ensures { option_map (λ proposal. proposal.now) result ≡ option_and_then (λ x. proposal_of (rule.ballot_vote x)) (slice_get (filter (λ x. is_some (proposal_of (rule.ballot_vote x))) self.now.ballots) at) }
+        ensures { option_map (λ proposal. proposal.now) result
+            ≡ option_and_then (λ x. proposal_of (rule.ballot_vote x))
+            (slice_get (filter (λ x. is_some (proposal_of (rule.ballot_vote x))) self.now.ballots)
+            at) }
     {
         match self.ballot_naming(at) {
-            Some(ballot) => ballot.named_proposal(),
+            Some(ballot) => ballot.proposal(),
             None => None,
         }
     }
 
     // The proposal that it names.
     fn note_proposal(&self, at: usize) -> Option<&Proposal>
-        ensures { option_map (λ proposal. proposal.now) result ≡ option_and_then rule.note_proposal (slice_get (filter (λ note. is_some (rule.note_proposal note)) self.now.notes) at) }
+        ensures { option_map (λ proposal. proposal.now) result
+            ≡ option_and_then rule.note_proposal
+            (slice_get (filter (λ note. is_some (rule.note_proposal note)) self.now.notes) at) }
     {
         match self.note_naming(at) {
-            Some(note) => notes::named_proposal(note),
+            Some(note) => note_scans::proposal_of(note),
             None => None,
         }
     }
 
     // The proposal at this place of those that are named.
     fn named_at(&self, at: usize) -> Option<&Proposal>
-        ensures { option_map (λ proposal. proposal.now) result ≡ slice_get (rule.named_proposals (state_of self.now)) at }
+        ensures { option_map (λ proposal. proposal.now) result
+            ≡ slice_get (rule.named_proposals (state_of self.now)) at }
     {
         match self.ballot_proposal(at) {
             Some(proposal) => Some(proposal),
@@ -133,15 +145,26 @@ impl<H> Tally<H> {
         }
     }
 
-    /// The proposal at this place, counted from 0, among those with a noted notarization that aren't
-    /// certified: each once, in the order in which what came and then the notes first name them. None
-    /// past the last. Takes no memory.
-    pub fn uncertified(&self, index: usize) -> Option<&Proposal>
-        ensures { option_map (λ proposal. proposal.now) result ≡ slice_get (owing.uncertified self.now) index }
+    // The proposal at this place of those that are notarized and not certified.
+    fn nth_uncertified(&self, index: usize) -> Option<&Proposal>
+        ensures { option_map (λ proposal. proposal.now) result
+            ≡ slice_get (owing.uncertified self.now) index }
     {
         match self.ranked_candidate(index) {
             Some((_, (at, _))) => self.named_at(at),
             None => None,
         }
+    }
+
+    /// The proposal at this place, counted from 0, among those with a noted notarization that
+    /// aren't certified: each once, in the order in which what came and then the notes first name
+    /// them. None past the last. Each can be noted as certified. Takes no memory.
+    pub fn uncertified(&self, index: usize) -> Option<&Proposal>
+        ensures value { option_map (λ proposal. proposal.now) result
+            ≡ slice_get (owing.uncertified self.now) index }
+        ensures ordered { IfSome result (λ proposal. IsTrue (is_ordered proposal.now)) }
+    {
+        let _ = &self.notes;
+        self.nth_uncertified(index)
     }
 }

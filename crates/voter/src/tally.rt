@@ -6,11 +6,11 @@ ghost use Rattle.cw_rules.specs.Accepted.{Many, Single, same_ballot};
 ghost use Rattle.cw_rules.specs.Notes as rule;
 ghost use Rattle.cw_types.specs.Commit.{genesis_commitment};
 ghost use Rattle.cw_types.specs.Votes as votes;
-ghost use Rattle.voter.specs.Known.{is_countable, unknowing, with_ballot, with_note, with_own};
+ghost use Rattle.note_scans.specs.Countable.{is_countable};
+ghost use Rattle.voter.specs.Known.{unknowing, with_ballot, with_note, with_own};
 ghost use Rattle.voter.specs.Standing.{are_signers};
 
 use crate::ballot::Ballot;
-use crate::notes;
 use crate::own::OwnChunk;
 use cw_base::{Digest32, Hasher, Items, NoMemory};
 use cw_types::{Cert, Commitment, Committees, Note, Vote, genesis_commitment};
@@ -18,8 +18,24 @@ use std::alloc::Global;
 use std::marker::{Model, PhantomData};
 
 /// What a member knows of votes and certificates. Contracts see it as the committees, the member's
-/// number, and lists: its notes, the votes and certificates that came, and the chunks that came at its
-/// own place, each in the order in which the tally was told of them.
+/// number, and lists: its notes, the votes and certificates that came, and the chunks that came at
+/// its own place, each in the order in which the tally was told of them.
+///
+/// Member 0 of four owes a certificate once the votes of three members came, and the certificate
+/// goes into its notes, from where the tally is told of it:
+///
+/// ```text
+/// let nullify = Vote::Nullify { epoch: 0, view: 1 };
+/// let mut tally = Tally::<Sha256>::new(alloc, Committees::single(alloc, 4)?, 0);
+/// for signer in 1..4 {
+///     tally.take_vote(signer, &nullify)?;
+/// }
+/// if let Some(cert) = tally.owed_cert(alloc)? {
+///     // of `nullify`, signed by 1, 2 and 3
+///     tally.take_note(&Note::Cert(cert))?;
+/// }
+/// assert!(rt; tally.view(0) == 2);
+/// ```
 #[derive(Drop)]
 pub struct Tally<H> {
     pub(crate) committees: Committees,
@@ -38,7 +54,8 @@ impl<H> Model for Tally<H> {
 
     ghost Value = { Known };
 
-    ghost view = { λ t. record { epochs = t.committees; id = t.id; notes = t.notes; ballots = t.ballots; own = t.own } };
+    ghost view = { λ t. record
+        { epochs = t.committees; id = t.id; notes = t.notes; ballots = t.ballots; own = t.own } };
 
     ghost invariant = { λ t. AreCountable t.committees t.notes t.ballots };
 }
@@ -60,13 +77,13 @@ impl<H: Hasher<Digest = Digest32>> Tally<H> {
         }
     }
 
-    /// The payload that is settled for a view of an epoch: that of the first noted certified proposal
-    /// or finalization of the view, and for view 0 what the epoch builds on. None where nothing is
-    /// settled. Takes no memory.
+    /// The payload that is settled for a view of an epoch: that of the first noted certified
+    /// proposal or finalization of the view, and for view 0 what the epoch builds on. None where
+    /// nothing is settled. Takes no memory.
     pub fn settled(&self, epoch: u64, view: u64) -> Option<Commitment>
         ensures { result ≡ rule.settled (genesis_commitment H.digest_of) self.now.notes epoch view }
     {
-        notes::settled(
+        note_scans::settled(
             genesis_commitment::<H>(),
             self.notes.as_slice(),
             epoch,
@@ -87,12 +104,14 @@ impl<H> Tally<H> {
         Ok(())
     }
 
-    /// Takes a vote that member `signer` signed; true exactly where it wasn't there. Where memory is
-    /// short nothing changes.
+    /// Takes a vote that member `signer` signed; true exactly where it wasn't there. Where memory
+    /// is short nothing changes.
     pub fn take_vote(&mut self, signer: u16, vote: &Vote) -> Result<bool, NoMemory>
         requires { IsTrue (votes.well_formed vote.now) }
         ensures ok { OnOk result (self.new ≡ with_ballot self.old (Single signer vote.now)) }
-        ensures fresh { IfOk result (λ fresh. fresh ≡ not (list_any (same_ballot (Single signer vote.now)) self.old.ballots)) }
+        ensures fresh { IfOk result
+            (λ fresh. fresh ≡ not (list_any (same_ballot (Single signer vote.now))
+            self.old.ballots)) }
         ensures err { OnErr result (self.new ≡ self.old) }
     {
         if self.has_single(signer, vote) {
@@ -102,13 +121,14 @@ impl<H> Tally<H> {
         Ok(true)
     }
 
-    /// Takes a valid certificate, whose signers rise and are members of its epoch; true exactly where it
-    /// wasn't there. Where memory is short nothing changes.
+    /// Takes a valid certificate, whose signers rise and are members of its epoch; true exactly
+    /// where it wasn't there. Where memory is short nothing changes.
     pub fn take_cert(&mut self, cert: &Cert) -> Result<bool, NoMemory>
         requires formed { IsTrue (votes.well_formed cert.now.vote) }
         requires signed { IsTrue (are_signers self.old.epochs cert.now.vote cert.now.signers) }
         ensures ok { OnOk result (self.new ≡ with_ballot self.old (Many cert.now)) }
-        ensures fresh { IfOk result (λ fresh. fresh ≡ not (list_any (same_ballot (Many cert.now)) self.old.ballots)) }
+        ensures fresh { IfOk result
+            (λ fresh. fresh ≡ not (list_any (same_ballot (Many cert.now)) self.old.ballots)) }
         ensures err { OnErr result (self.new ≡ self.old) }
     {
         if self.has_same_cert(cert) {
@@ -119,8 +139,8 @@ impl<H> Tally<H> {
         Ok(true)
     }
 
-    /// Is told that a chunk of this commitment came, whose index is the member's place in the list of
-    /// some epoch. Where memory is short nothing changes.
+    /// Is told that a chunk of this commitment came, whose index is the member's place in the list
+    /// of some epoch. Where memory is short nothing changes.
     pub fn take_own_chunk(&mut self, commitment: &Commitment, index: u16) -> Result<(), NoMemory>
         ensures ok { OnOk result (self.new ≡ with_own self.old commitment.now index) }
         ensures err { OnErr result (self.new ≡ self.old) }
@@ -155,21 +175,21 @@ impl<H> Tally<H> {
     pub fn epoch(&self) -> u64
         ensures { result ≡ rule.epoch_of self.now.notes }
     {
-        notes::epoch_of(self.notes.as_slice())
+        note_scans::epoch_of(self.notes.as_slice())
     }
 
-    /// The view of an epoch that the member is in: one above the greatest with a noted nullification,
-    /// finalization or certified proposal. Takes no memory.
+    /// The view of an epoch that the member is in: one above the greatest with a noted
+    /// nullification, finalization or certified proposal. Takes no memory.
     pub fn view(&self, epoch: u64) -> u64
         ensures { result ≡ rule.view_of self.now.notes epoch }
     {
-        notes::view_of(self.notes.as_slice(), epoch)
+        note_scans::view_of(self.notes.as_slice(), epoch)
     }
 
     /// Whether the nullification of a view of an epoch is noted. Takes no memory.
     pub fn nullified(&self, epoch: u64, view: u64) -> bool
         ensures { result ≡ rule.nullified self.now.notes epoch view }
     {
-        notes::nullified(self.notes.as_slice(), epoch, view)
+        note_scans::nullified(self.notes.as_slice(), epoch, view)
     }
 }

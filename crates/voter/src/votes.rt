@@ -4,40 +4,38 @@ ghost use Rattle.std.specs.Prelude.{◌≡◌, ◌==◌, ◌&&◌, ◌<◌, ◌-
 ghost use Rattle.std.specs.List.{list_any};
 ghost use Rattle.std.specs.Option.{option_map_or};
 ghost use Rattle.cw_base.specs.Config.{same_shards};
-ghost use Rattle.cw_rules.specs.Held.{greatest_prune, held};
+ghost use Rattle.cw_rules.specs.Accepted.{first_some};
+ghost use Rattle.cw_rules.specs.Held.{greatest_prune, held, noted_block_of};
 ghost use Rattle.cw_rules.specs.Notes as notes_rule;
 ghost use Rattle.cw_rules.specs.Owed as rule;
-ghost use Rattle.cw_rules.specs.Rules.{config_for};
 ghost use Rattle.cw_types.specs.Commit.{genesis_commitment};
-ghost use Rattle.cw_types.specs.Epochs.{is_last, is_member, leader, place, size};
+ghost use Rattle.cw_types.specs.Epochs.{config_in, is_last, is_member, leader, place};
 ghost use Rattle.cw_types.specs.declared.note.Note.{Note};
 ghost use Rattle.cw_types.specs.declared.vote.Vote.{Vote};
-ghost use Rattle.voter.specs.Known.{is_countable, is_own_at, noted_height, state_of, vote_rules};
+ghost use Rattle.note_scans.specs.Countable.{is_countable};
+ghost use Rattle.voter.specs.Known.{is_own_at, state_of, vote_rules};
 ghost use Rattle.voter.specs.Owing as owing;
 
-use crate::context::context_digest;
-use crate::notes;
 use crate::tally::Tally;
 use cw_base::{Config, Digest32, Hasher};
-use cw_types::{Commitment, Context, Proposal, Vote, committees, genesis_commitment, max_faults};
+use cw_types::{ChainBlock, Commitment, Context, Proposal, Vote, genesis_commitment, leader};
 
 impl<H> Tally<H> {
     // Whether it is a member of the epoch.
     fn is_member(&self, epoch: u64) -> bool
         ensures { result ≡ is_member self.now.epochs epoch self.now.id }
     {
-        self.committees
-            .members(epoch)
-            .iter()
-            .any(|member| *member == self.id)
+        self.committees.is_member(epoch, self.id)
     }
 
     // Whether the vote of the view's leader to notarize the proposal came.
     fn has_leaders_vote(&self, proposal: &Proposal) -> bool
-        ensures { result ≡ list_any (rule.is_single (leader self.now.epochs proposal.now.epoch proposal.now.view) (Vote.Notarize proposal.now)) self.now.ballots }
+        ensures { result ≡ list_any
+            (rule.is_single (leader self.now.epochs proposal.now.epoch proposal.now.view)
+            (Vote.Notarize proposal.now)) self.now.ballots }
     {
-        let leader = committees::leader(&self.committees, proposal.epoch, proposal.view);
-        self.has_voted_so(&Vote::Notarize(*proposal), leader)
+        let member = leader(&self.committees, proposal.epoch, proposal.view);
+        self.has_voted_so(&Vote::Notarize(*proposal), member)
     }
 
     // Whether the chunk at that place of that commitment came.
@@ -50,7 +48,9 @@ impl<H> Tally<H> {
 
     // Whether the chunk of the proposal's payload at the member's own place came.
     fn has_own_chunk(&self, proposal: &Proposal) -> bool
-        ensures { result ≡ option_map_or (λ at. list_any (is_own_at at proposal.now.payload) self.now.own) (place self.now.epochs proposal.now.epoch self.now.id) false }
+        ensures { result ≡ option_map_or
+            (λ at. list_any (is_own_at at proposal.now.payload) self.now.own)
+            (place self.now.epochs proposal.now.epoch self.now.id) false }
     {
         match self.committees.place(proposal.epoch, self.id) {
             Some(index) => self.has_own_at(index, &proposal.payload),
@@ -58,30 +58,33 @@ impl<H> Tally<H> {
         }
     }
 
-    // The height of the first noted block under a commitment, unless that was pruned.
-    fn kept_height(&self, commitment: &Commitment) -> Option<u64>
-        ensures value { result ≡ option_and_then (λ h. if nat_lt 0 h && nat_lt h (greatest_prune self.now.notes) then None else Some h) (option_and_then noted_height (find (notes_rule.is_block commitment.now) self.now.notes)) }
-        ensures bound { IfSome result (λ height. height < 2 ^ 64 - 1) }
+    // The first noted block under a commitment, unless that was pruned.
+    fn kept_block(&self, commitment: &Commitment) -> Option<&ChainBlock>
+        ensures { option_map (λ b. b.now) result
+            ≡ option_and_then
+            (λ b. if nat_lt 0 b.height && nat_lt b.height (greatest_prune self.now.notes)
+            then None else Some b)
+            (first_some (noted_block_of commitment.now) self.now.notes) }
     {
-        notes::kept_height(self.notes.as_slice(), commitment)
+        note_scans::kept_block(self.notes.as_slice(), commitment)
     }
 
     // Whether the proposal is certified, in a view that the member hasn't closed.
     fn can_finalize(&self, proposal: &Proposal) -> bool
-        ensures { result ≡ (notes_rule.has_certified self.now.notes proposal.now && is_member self.now.epochs proposal.now.epoch self.now.id && not (rule.has_closed self.now.notes proposal.now.epoch proposal.now.view)) }
+        ensures { result ≡ (notes_rule.has_certified self.now.notes proposal.now
+            && is_member self.now.epochs proposal.now.epoch self.now.id
+            && not (rule.has_closed self.now.notes proposal.now.epoch proposal.now.view)) }
     {
-        notes::has_certified(self.notes.as_slice(), proposal)
+        note_scans::has_certified(self.notes.as_slice(), proposal)
             && self.is_member(proposal.epoch)
-            && !notes::has_closed(self.notes.as_slice(), proposal.epoch, proposal.view)
+            && !note_scans::has_closed(self.notes.as_slice(), proposal.epoch, proposal.view)
     }
 
     // Whether blocks of that epoch are cut so.
     fn is_config_of(&self, config: &Config, epoch: u64) -> bool
-        ensures { result ≡ same_shards config.now (config_for (size self.now.epochs epoch)) }
+        ensures { result ≡ same_shards config.now (config_in self.now.epochs epoch) }
     {
-        let n = self.size(epoch);
-        let least = max_faults(n) + 1;
-        config.minimum_shards.get() == least && config.extra_shards.get() == n - least
+        config.is_same(&self.committees.config(epoch))
     }
 
     // Whether a block of that height is the last of the epoch.
@@ -99,33 +102,39 @@ impl<H> Tally<H> {
 impl<H: Hasher<Digest = Digest32>> Tally<H> {
     // The height of the held block under a commitment.
     fn held_height(&self, commitment: &Commitment) -> Option<u64>
-        ensures value { result ≡ option_map (λ b. b.height) (held (vote_rules H.digest_of self.now.epochs) self.now.notes commitment.now) }
+        ensures value { result ≡ option_map (λ b. b.height)
+            (held (vote_rules H.digest_of self.now.epochs) self.now.notes commitment.now) }
         ensures bound { IfSome result (λ height. height < 2 ^ 64 - 1) }
     {
         if commitment.is_same(&genesis_commitment::<H>()) {
             return Some(0);
         }
-        self.kept_height(commitment)
+        match self.kept_block(commitment) {
+            Some(block) => Some(block.height()),
+            None => None,
+        }
     }
 
     // Whether the payload is one for the proposal over that parent.
     fn is_payload_for(&self, proposal: &Proposal, parent: &Commitment) -> bool
-        ensures { result ≡ rule.is_payload_for (vote_rules H.digest_of self.now.epochs) proposal.now parent.now }
+        ensures { result ≡ rule.is_payload_for (vote_rules H.digest_of self.now.epochs) proposal.now
+            parent.now }
     {
         let context = Context {
             epoch: proposal.epoch,
             view: proposal.view,
-            leader: committees::leader(&self.committees, proposal.epoch, proposal.view),
+            leader: leader(&self.committees, proposal.epoch, proposal.view),
             parent_view: proposal.parent,
             parent: *parent,
         };
         self.is_config_of(&proposal.payload.config, proposal.epoch)
-            && proposal.payload.context == context_digest::<H>(&context)
+            && proposal.payload.context == H::hash(&context.to_bytes())
     }
 
     // Whether the proposal is of the settled payload again, the last block of its epoch.
     fn is_again(&self, proposal: &Proposal, parent: &Commitment) -> bool
-        ensures { result ≡ rule.is_again (vote_rules H.digest_of self.now.epochs) self.now.notes proposal.now parent.now }
+        ensures { result ≡ rule.is_again (vote_rules H.digest_of self.now.epochs) self.now.notes
+            proposal.now parent.now }
     {
         proposal.payload.is_same(parent)
             && 0 < proposal.parent
@@ -134,7 +143,8 @@ impl<H: Hasher<Digest = Digest32>> Tally<H> {
 
     // Whether the held block under the commitment is the last of the epoch.
     fn is_last_held(&self, epoch: u64, commitment: &Commitment) -> bool
-        ensures { result ≡ option_map_or (λ a. is_last self.now.epochs epoch a.height) (held (vote_rules H.digest_of self.now.epochs) self.now.notes commitment.now) false }
+        ensures { result ≡ option_map_or (λ a. is_last self.now.epochs epoch a.height)
+            (held (vote_rules H.digest_of self.now.epochs) self.now.notes commitment.now) false }
     {
         match self.held_height(commitment) {
             Some(height) => self.is_last(epoch, height),
@@ -144,20 +154,23 @@ impl<H: Hasher<Digest = Digest32>> Tally<H> {
 
     // Whether the chunk of the proposal's payload at the member's own place came.
     fn has_own_row(&self, proposal: &Proposal) -> bool
-        ensures { result ≡ rule.has_own_row (vote_rules H.digest_of self.now.epochs) self.now.id (state_of self.now) proposal.now }
+        ensures { result ≡ rule.has_own_row (vote_rules H.digest_of self.now.epochs) self.now.id
+            (state_of self.now) proposal.now }
     {
         self.has_own_chunk(proposal)
     }
 
     // Whether the member can vote for the proposal over that parent.
     fn is_ready(&self, proposal: &Proposal, parent: &Commitment) -> bool
-        ensures { result ≡ rule.is_ready (vote_rules H.digest_of self.now.epochs) self.now.id (state_of self.now) proposal.now parent.now }
+        ensures { result ≡ rule.is_ready (vote_rules H.digest_of self.now.epochs) self.now.id
+            (state_of self.now) proposal.now parent.now }
     {
         (self.has_own_row(proposal) && self.is_payload_for(proposal, parent))
             || self.is_again(proposal, parent)
     }
 
-    // Whether the member can vote for the proposal over the payload that is settled for its parent view.
+    // Whether the member can vote for the proposal over the payload that is settled for its parent
+    // view.
     #[tactic(auto, unfolding(crate::specs::Owing::is_ready))]
     fn is_ready_over_settled(&self, proposal: &Proposal) -> bool
         ensures { result ≡ owing.is_ready H.digest_of self.now proposal.now }
@@ -177,16 +190,19 @@ impl<H: Hasher<Digest = Digest32>> Tally<H> {
             && proposal.view == self.view(proposal.epoch)
             && self.is_member(proposal.epoch)
             && self.has_leaders_vote(proposal)
-            && !notes::has_voted(self.notes.as_slice(), proposal.epoch, proposal.view)
+            && !note_scans::has_voted(self.notes.as_slice(), proposal.epoch, proposal.view)
     }
 
     // Whether all is there for a vote to notarize the proposal.
     fn can_notarize(&self, proposal: &Proposal) -> bool
-        ensures { result ≡ (owing.is_turn self.now proposal.now && owing.is_ready H.digest_of self.now proposal.now && rule.all_nullified self.now.notes proposal.now.epoch proposal.now.parent proposal.now.view) }
+        ensures { result ≡ (owing.is_turn self.now proposal.now
+            && owing.is_ready H.digest_of self.now proposal.now
+            && rule.all_nullified self.now.notes proposal.now.epoch proposal.now.parent
+            proposal.now.view) }
     {
         self.is_turn(proposal)
             && self.is_ready_over_settled(proposal)
-            && notes::all_nullified(
+            && note_scans::all_nullified(
                 self.notes.as_slice(),
                 proposal.epoch,
                 proposal.parent,
@@ -210,34 +226,36 @@ impl<H: Hasher<Digest = Digest32>> Tally<H> {
 
     // The first proposal that a vote to notarize is owed of.
     fn first_to_notarize(&self) -> Option<Proposal>
-        ensures { result ≡ find (owing.owes_notarize H.digest_of self.now) (rule.named_proposals (state_of self.now)) }
+        ensures { result ≡ find (owing.owes_notarize H.digest_of self.now)
+            (rule.named_proposals (state_of self.now)) }
     {
         self.ballots
             .as_slice()
             .iter()
-            .filter_map(|ballot| ballot.proposal())
+            .filter_map(|ballot| ballot.proposal().copied())
             .chain(
                 self.notes
                     .as_slice()
                     .iter()
-                    .filter_map(|note| notes::note_proposal(note)),
+                    .filter_map(|note| note_scans::proposal_of(note).copied()),
             )
             .find(|proposal| self.owes_notarize(proposal))
     }
 
     // The first proposal that a vote to finalize is owed of.
     fn first_to_finalize(&self) -> Option<Proposal>
-        ensures { result ≡ find (owing.owes_finalize H.digest_of self.now) (rule.named_proposals (state_of self.now)) }
+        ensures { result ≡ find (owing.owes_finalize H.digest_of self.now)
+            (rule.named_proposals (state_of self.now)) }
     {
         self.ballots
             .as_slice()
             .iter()
-            .filter_map(|ballot| ballot.proposal())
+            .filter_map(|ballot| ballot.proposal().copied())
             .chain(
                 self.notes
                     .as_slice()
                     .iter()
-                    .filter_map(|note| notes::note_proposal(note)),
+                    .filter_map(|note| note_scans::proposal_of(note).copied()),
             )
             .find(|proposal| self.owes_finalize(proposal))
     }
@@ -270,9 +288,10 @@ impl<H: Hasher<Digest = Digest32>> Tally<H> {
         }
     }
 
-    /// The vote that the member owes: to notarize the proposal of its view's leader for which all is
-    /// there, else to finalize what is certified in a view that it hasn't closed. Of several proposals
-    /// it is the first, in the order of what came and then of the notes. It can be noted. Takes no memory.
+    /// The vote that the member owes: to notarize the proposal of its view's leader for which all
+    /// is there, else to finalize what is certified in a view that it hasn't closed. Of several
+    /// proposals it is the first, in the order of what came and then of the notes. It can be noted.
+    /// Takes no memory.
     pub fn owed_vote(&self) -> Option<Vote>
         ensures value { option_map Note.Vote result ≡ owing.vote_owed H.digest_of self.now }
         ensures countable { IfSome result (λ vote. IsTrue (is_countable (Note.Vote vote))) }

@@ -1,6 +1,6 @@
 use Rattle.std.proofs.Common.{◌≡◌, true, subst}
 use Rattle.std.specs.List.{list_all}
-use Rattle.voter.specs.Known.{is_countable}
+use Rattle.note_scans.specs.Countable.{is_countable}
 use Rattle.voter.specs.Standing.{is_formed}
 use Rattle.voter.proofs.Formed.{given_countable}
 use Rattle.voter.proofs.tally.Tally.owed_vote.Goals as goal

@@ -1,15 +1,12 @@
-use Rattle.std.proofs.Common.{◌∙◌, sym}
-use Rattle.cw_rules.specs.Owed.{named_proposals}
-use Rattle.voter.specs.Known.{state_of}
-use Rattle.voter.specs.Owing.{is_candidate}
-use Rattle.voter.proofs.Places.{none_picked, picked}
+use Rattle.std.proofs.Common.{◌≡◌, true, subst}
+use Rattle.std.specs.List.{list_all}
+use Rattle.note_scans.specs.Countable.{is_countable}
+use Rattle.voter.specs.Standing.{is_formed}
+use Rattle.voter.proofs.Formed.{uncertified_counts}
 use Rattle.voter.proofs.tally.Tally.uncertified.Goals as goal
 
-pub returns-in-Some : goal.returns-in-Some
-returns-in-Some g c =
-    c.named_at.ensures
-    ∙ picked (is_candidate c.args.self.now) (named_proposals (state_of c.args.self.now)) c.args.index c.in-Some.field-0-0 c.in-Some.at c.in-Some.field-0-1-1 (sym c.ranked_candidate.ensures ∙ c.in-Some.is)
-
-pub returns-in-None : goal.returns-in-None
-returns-in-None g c =
-    sym (none_picked (is_candidate c.args.self.now) (named_proposals (state_of c.args.self.now)) c.args.index (sym c.ranked_candidate.ensures ∙ c.in-None.is))
+pub returns-clause-ordered : goal.returns-clause-ordered
+returns-clause-ordered g c =
+    let notes : list_all is_countable c.args.self.now.notes ≡ true = subst (λ k. list_all is_countable k.notes ≡ true) c.self.view_is c.self.invariant.countable in
+    let ballots : list_all is_formed c.args.self.now.ballots ≡ true = subst (λ k. list_all is_formed k.ballots ≡ true) c.self.view_is c.self.invariant.formed in
+    uncertified_counts c.args.self.now notes ballots (λ proposal. proposal.now) c.args.index c.nth_uncertified.result c.nth_uncertified.ensures

@@ -1,0 +1,329 @@
+ghost use Rattle.std.specs.Prelude.{[], ◌≡◌, ◌<◌, ◌∷◌, ◌-◌, ◌^◌, IfOk};
+ghost use Rattle.cw_types.specs.Epochs.{single};
+ghost use Rattle.cw_types.specs.declared.vote.Vote.TheVariants.{Nullify};
+ghost use Rattle.note_scans.specs.Countable.{is_countable};
+
+use cw_base::{Config, Digest32, Items, SumHasher};
+use cw_types::{
+    Cert, ChainBlock, Commitment, Committees, Context, Note, Payload, Proposal, Vote,
+    genesis_commitment, well_formed,
+};
+use std::alloc::Global;
+use std::num::NonZeroU16;
+use std::test::Fail;
+use voter::Tally;
+
+const NULLIFY: Vote = Vote::Nullify { epoch: 0, view: 1 };
+
+// a member of a cluster of four
+fn tally(alloc: Global, id: u16) -> Result<Tally<SumHasher>, Fail>
+    requires { id < 4 }
+    ensures { IfOk result (λ tally. tally.epochs ≡ single 4) }
+{
+    Ok(Tally::new(alloc, Committees::single(alloc, 4)?, id))
+}
+
+fn take_vote(tally: &mut Tally<SumHasher>, signer: u16, vote: &Vote) -> Result<bool, Fail> {
+    if !well_formed(vote) {
+        return Err("a vote that may be counted".into());
+    }
+    Ok(tally.take_vote(signer, vote)?)
+}
+
+// members 1, 2 and 3 of a cluster of four nullified view 1
+fn take_cert(tally: &mut Tally<SumHasher>, cert: &Cert) -> Result<bool, Fail>
+    requires four { tally.old.epochs ≡ single 4 }
+    requires signed { cert.now ≡ record { vote = Nullify 0 1; signers = 1 ∷ 2 ∷ 3 ∷ [] } }
+{
+    Ok(tally.take_cert(cert)?)
+}
+
+// whether the votes of a note, and its proposals, may be counted
+fn is_countable(note: &Note) -> bool
+    ensures { result ≡ is_countable note.now }
+{
+    match note {
+        Note::Vote(vote) => well_formed(vote),
+        Note::Cert(cert) => well_formed(&cert.vote),
+        Note::Certified(proposal) => well_formed(&Vote::Notarize(*proposal)),
+        _ => true,
+    }
+}
+
+fn take_note(tally: &mut Tally<SumHasher>, note: Note) -> Result<(), Fail> {
+    if !is_countable(&note) {
+        return Err("a note that may be counted".into());
+    }
+    tally.take_note(&note)?;
+    Ok(())
+}
+
+fn cert(alloc: Global, vote: Vote, signers: &[u16]) -> Result<Cert, Fail>
+    ensures { IfOk result (λ cert. cert ≡ record { vote = vote; signers = signers.now }) }
+{
+    let signers = Items::from_vec(Vec::from_slice(alloc, signers)?);
+    Ok(Cert { vote, signers })
+}
+
+fn cert_note(alloc: Global, vote: Vote) -> Result<Note, Fail> {
+    Ok(Note::Cert(cert(alloc, vote, &[0, 1, 2])?))
+}
+
+// whether member 2 owes a certificate with these signers, none where there are none, after these
+// members voted so
+fn owes(alloc: Global, signers: &[u16], own: bool, want: &[u16]) -> Result<bool, Fail> {
+    let mut tally = tally(alloc, 2)?;
+    for signer in signers {
+        take_vote(&mut tally, *signer, &NULLIFY)?;
+    }
+    if own {
+        take_note(&mut tally, Note::Vote(NULLIFY))?;
+    }
+    has_signers(alloc, &tally, want)
+}
+
+fn has_signers(alloc: Global, tally: &Tally<SumHasher>, want: &[u16]) -> Result<bool, Fail> {
+    match tally.owed_cert(alloc)? {
+        Some(cert) => Ok(cert.signers.as_slice() == want),
+        None => Ok(want.is_empty()),
+    }
+}
+
+#[test]
+fn three_members_owe_a_certificate_and_two_owe_none(rt: HostRuntime) -> Result<(), Fail> {
+    let cases: [(&[u16], bool, &[u16]); 5] = [
+        (&[0, 1], false, &[]),
+        (&[0, 1, 9], false, &[]),
+        (&[0, 0], true, &[]),
+        (&[3, 1, 0], false, &[0, 1, 3]),
+        (&[0, 1], true, &[0, 1, 2]),
+    ];
+    for (signers, own, want) in cases {
+        assert!(rt; owes(rt.alloc(), signers, own, want)?);
+    }
+    Ok(())
+}
+
+// a certificate came, and then three votes of the same
+fn with_certificate(alloc: Global) -> Result<Tally<SumHasher>, Fail> {
+    let mut tally = tally(alloc, 0)?;
+    take_cert(&mut tally, &cert(alloc, NULLIFY, &[1, 2, 3])?)?;
+    for signer in 0..3u16 {
+        take_vote(&mut tally, signer, &NULLIFY)?;
+    }
+    Ok(tally)
+}
+
+#[test]
+fn a_certificate_that_came_goes_before_what_is_known(rt: HostRuntime) -> Result<(), Fail> {
+    let mut tally = with_certificate(rt.alloc())?;
+    assert!(rt; has_signers(rt.alloc(), &tally, &[1, 2, 3])?);
+    assert!(rt; !take_vote(&mut tally, 1, &NULLIFY)?);
+    Ok(())
+}
+
+fn proposal(view: u64, payload: Commitment) -> Proposal {
+    Proposal {
+        epoch: 0,
+        view,
+        parent: 0,
+        payload,
+    }
+}
+
+// a proposal of view 1
+fn first() -> Proposal {
+    proposal(1, genesis_commitment::<SumHasher>())
+}
+
+// a proposal of view 2 over the first block, of a payload that is cut in two and two. The bytes of
+// its context are zeros but for a view and a leader of 2, a commitment of 96 bytes of 2, and two
+// of 1
+fn second() -> Proposal {
+    let two = NonZeroU16::MIN.saturating_add(1);
+    let payload = Commitment {
+        block: Digest32([7; 32]),
+        root: Digest32([8; 32]),
+        context: Digest32([198; 32]),
+        config: Config {
+            minimum_shards: two,
+            extra_shards: two,
+        },
+    };
+    proposal(2, payload)
+}
+
+// the vote that member 0 owes when a certificate of this vote was noted, the leader of view 2
+// proposed, and the chunk at place 0 came
+fn vote_after(alloc: Global, vote: Vote) -> Result<Option<Vote>, Fail> {
+    let mut tally = tally(alloc, 0)?;
+    take_note(&mut tally, cert_note(alloc, vote)?)?;
+    take_vote(&mut tally, 2, &Vote::Notarize(second()))?;
+    tally.take_own_chunk(&second().payload, 0)?;
+    Ok(tally.owed_vote())
+}
+
+#[test]
+fn a_proposal_over_a_view_that_is_not_nullified_is_not_voted_for(
+    rt: HostRuntime,
+) -> Result<(), Fail> {
+    let nullified = vote_after(rt.alloc(), NULLIFY)?;
+    assert!(rt; nullified == Some(Vote::Notarize(second())));
+    let skipped = vote_after(rt.alloc(), Vote::Finalize(first()))?;
+    assert!(rt; skipped.is_none());
+    Ok(())
+}
+
+// the vote that member 0 owes after it voted so and then certified the proposal of view 1
+fn vote_after_own(alloc: Global, own: Vote) -> Result<Option<Vote>, Fail> {
+    let mut tally = tally(alloc, 0)?;
+    take_note(&mut tally, Note::Vote(own))?;
+    take_note(&mut tally, Note::Certified(first()))?;
+    Ok(tally.owed_vote())
+}
+
+#[test]
+fn a_certified_proposal_is_finalized_in_a_view_that_is_not_closed(
+    rt: HostRuntime,
+) -> Result<(), Fail> {
+    let voted = vote_after_own(rt.alloc(), Vote::Notarize(first()))?;
+    assert!(rt; voted == Some(Vote::Finalize(first())));
+    assert!(rt; vote_after_own(rt.alloc(), NULLIFY)?.is_none());
+    Ok(())
+}
+
+// two notarizations, of which the second one's proposal was named first
+fn notarized(alloc: Global) -> Result<Tally<SumHasher>, Fail> {
+    let mut tally = tally(alloc, 0)?;
+    take_note(&mut tally, cert_note(alloc, Vote::Notarize(first()))?)?;
+    take_note(&mut tally, cert_note(alloc, Vote::Notarize(second()))?)?;
+    take_vote(&mut tally, 3, &Vote::Notarize(second()))?;
+    Ok(tally)
+}
+
+#[test]
+fn notarized_proposals_are_given_once(rt: HostRuntime) -> Result<(), Fail> {
+    let tally = notarized(rt.alloc())?;
+    assert!(rt; tally.uncertified(0).copied() == Some(second()));
+    assert!(rt; tally.uncertified(1).copied() == Some(first()));
+    assert!(rt; tally.uncertified(2).is_none());
+    Ok(())
+}
+
+// view 1 is finalized, and view 2 is nullified
+fn in_third_view(alloc: Global) -> Result<Tally<SumHasher>, Fail> {
+    let mut tally = tally(alloc, 0)?;
+    take_note(&mut tally, cert_note(alloc, Vote::Finalize(first()))?)?;
+    let nullify = Vote::Nullify { epoch: 0, view: 2 };
+    take_note(&mut tally, cert_note(alloc, nullify)?)?;
+    Ok(tally)
+}
+
+#[test]
+fn a_parent_is_settled_and_followed_by_nullified_views(rt: HostRuntime) -> Result<(), Fail> {
+    let tally = in_third_view(rt.alloc())?;
+    assert!(rt; tally.view(0) == 3);
+    assert!(rt; tally.propose_parent(0, 3) == Some((1, first().payload)));
+    assert!(rt; tally.propose_parent(0, 1).is_none());
+    Ok(())
+}
+
+#[test]
+fn a_view_is_settled_or_nullified(rt: HostRuntime) -> Result<(), Fail> {
+    let tally = in_third_view(rt.alloc())?;
+    assert!(rt; tally.settled(0, 1) == Some(first().payload));
+    assert!(rt; tally.settled(0, 2).is_none());
+    assert!(rt; tally.nullified(0, 2));
+    assert!(rt; !tally.nullified(0, 1));
+    Ok(())
+}
+
+// a member of two committees, 0 to 3 and then 1 to 4, for epochs of one height each
+fn in_two_committees(alloc: Global, id: u16) -> Result<Tally<SumHasher>, Fail>
+    requires { id < 5 }
+{
+    let mut lists = Vec::new(alloc);
+    lists.push([0u16, 1, 2, 3].to_vec(alloc)?)?;
+    lists.push([1u16, 2, 3, 4].to_vec(alloc)?)?;
+    Ok(Tally::new(alloc, Committees::new(alloc, 5, 1, &lists)?, id))
+}
+
+// a block of that height
+fn block(alloc: Global, height: u64) -> ChainBlock
+    requires { height < 2 ^ 64 - 1 }
+{
+    let context = Context {
+        epoch: 0,
+        view: 1,
+        leader: 1,
+        parent_view: 0,
+        parent: genesis_commitment::<SumHasher>(),
+    };
+    ChainBlock::new(context, Digest32([0; 32]), height, Payload::empty(alloc))
+}
+
+// the payload of view 1 again, in view 2
+fn again() -> Proposal {
+    Proposal {
+        parent: 1,
+        ..second()
+    }
+}
+
+// the vote that member 0 owes when a block of that height was certified in view 1, and the leader
+// of view 2 proposed it again
+fn vote_again(alloc: Global, height: u64) -> Result<Option<Vote>, Fail>
+    requires { height < 2 ^ 64 - 1 }
+{
+    let mut tally = in_two_committees(alloc, 0)?;
+    take_note(
+        &mut tally,
+        Note::Block(second().payload, block(alloc, height)),
+    )?;
+    take_note(&mut tally, Note::Certified(proposal(1, second().payload)))?;
+    take_vote(&mut tally, 2, &Vote::Notarize(again()))?;
+    Ok(tally.owed_vote())
+}
+
+#[test]
+fn the_last_block_of_an_epoch_is_voted_for_again(rt: HostRuntime) -> Result<(), Fail> {
+    let last = vote_again(rt.alloc(), 1)?;
+    assert!(rt; last == Some(Vote::Notarize(again())));
+    let past = vote_again(rt.alloc(), 2)?;
+    assert!(rt; past == Some(Vote::Finalize(proposal(1, second().payload))));
+    Ok(())
+}
+
+// a member of two committees is in epoch 1, where a proposal is certified
+fn in_second_epoch(alloc: Global, id: u16) -> Result<Tally<SumHasher>, Fail>
+    requires { id < 5 }
+{
+    let mut tally = in_two_committees(alloc, id)?;
+    take_note(&mut tally, Note::Epoch(1, second().payload))?;
+    take_note(
+        &mut tally,
+        Note::Certified(Proposal {
+            epoch: 1,
+            ..first()
+        }),
+    )?;
+    Ok(tally)
+}
+
+// whether it is there, and owes a vote
+fn votes_in_second_epoch(alloc: Global, id: u16) -> Result<bool, Fail>
+    requires { id < 5 }
+{
+    let tally = in_second_epoch(alloc, id)?;
+    if tally.epoch() != 1 {
+        return Err("an epoch that is entered".into());
+    }
+    Ok(tally.owed_vote().is_some())
+}
+
+#[test]
+fn only_members_of_an_epoch_vote_in_it(rt: HostRuntime) -> Result<(), Fail> {
+    assert!(rt; !votes_in_second_epoch(rt.alloc(), 0)?);
+    assert!(rt; votes_in_second_epoch(rt.alloc(), 4)?);
+    Ok(())
+}

@@ -1,0 +1,169 @@
+// Each trait of the surface at a type of its own, and generic code over its bounds.
+
+use super::*;
+use cw_base::NoMemory;
+use std::alloc::Global;
+
+// proposes the next number of each context, and takes those above it
+#[derive(Drop)]
+struct Counter {
+    last: u64,
+}
+
+impl Automaton for Counter {
+    type Context = u64;
+
+    type Digest = u64;
+
+    ghost use Rattle.std.specs.Prelude.{◌≡◌, Some, nat_lt};
+
+    ghost proposes = { λ counter context payload. payload ≡ Some context };
+
+    ghost verifies = { λ counter context payload. nat_lt context payload };
+
+    fn propose(&mut self, _alloc: Global, context: u64) -> Result<Option<u64>, NoMemory> {
+        self.last = context;
+        Ok(Some(context))
+    }
+
+    fn verify(&mut self, context: u64, payload: u64) -> bool {
+        context < payload
+    }
+}
+
+impl CertifiableAutomaton for Counter {}
+
+// stages what it is asked for, and certifies nothing
+#[derive(Drop)]
+struct Stager;
+
+impl Automaton for Stager {
+    type Context = u64;
+
+    type Digest = u64;
+
+    ghost use Rattle.std.specs.Prelude.{◌≡◌, None, false};
+
+    ghost proposes = { λ stager context payload. payload ≡ None };
+
+    ghost verifies = { λ stager context payload. false };
+
+    fn propose(&mut self, _alloc: Global, _context: u64) -> Result<Option<u64>, NoMemory> {
+        Ok(None)
+    }
+
+    fn verify(&mut self, _context: u64, _payload: u64) -> bool {
+        false
+    }
+}
+
+impl CertifiableAutomaton for Stager {
+    ghost use Rattle.std.specs.Prelude.{⊥};
+
+    ghost waits = { λ stager context. ⊥ };
+
+    ghost certifies = { λ stager round payload. ⊥ };
+
+    fn prepare(&mut self, context: u64) -> Handoff<u64> {
+        Handoff::Stage(context)
+    }
+
+    fn certify(&mut self, _round: Round, _payload: u64) -> bool {
+        false
+    }
+}
+
+fn is_made_ready<A: CertifiableAutomaton<Context = u64, Digest = u64>>(automaton: &mut A) -> bool {
+    !automaton.prepare(7).is_wait() || !automaton.certify(Round::zero(), 7)
+}
+
+#[test]
+fn an_automaton_waits_and_certifies_unless_it_says_otherwise(rt: HostRuntime) -> Result<(), Fail> {
+    let mut counter = Counter { last: 0 };
+    assert_eq!(rt; counter.propose(rt.alloc(), 7)?, Some(7));
+    assert_eq!(rt; counter.last, 7);
+    assert!(rt; counter.verify(7, 8));
+    assert!(rt; counter.prepare(7) == Handoff::Wait);
+    assert!(rt; counter.certify(Round::zero(), 7));
+    assert!(rt; !is_made_ready(&mut counter));
+    assert!(rt; is_made_ready(&mut Stager));
+    assert!(rt; AcceptAll.prepare().is_wait());
+    Ok(())
+}
+
+// takes so many, and is then closed
+#[derive(Drop)]
+struct Inbox {
+    room: u64,
+    taken: u64,
+}
+
+impl Inbox {
+    fn take(&mut self) -> Feedback {
+        if self.room == self.taken {
+            return Feedback::Closed;
+        }
+        if self.taken < u64::MAX {
+            self.taken += 1;
+        }
+        Feedback::Ok
+    }
+}
+
+impl Relay for Inbox {
+    type Digest = u64;
+
+    type PublicKey = u16;
+
+    type Plan = To;
+
+    fn broadcast(&mut self, _payload: u64, _plan: To) -> Feedback {
+        self.take()
+    }
+}
+
+impl Reporter for Inbox {
+    type Activity = Vote;
+
+    fn report(&mut self, _activity: Vote) -> Feedback {
+        self.take()
+    }
+}
+
+impl Monitor for Inbox {
+    type Index = u64;
+
+    ghost latest = { λ inbox. inbox.taken };
+
+    fn subscribe(&mut self) -> u64 {
+        self.taken
+    }
+}
+
+fn told<R: Relay<Digest = u64, Plan = To> + Reporter<Activity = Vote>>(
+    all: &mut R,
+) -> [Feedback; 2] {
+    [
+        all.broadcast(1, To::All),
+        all.report(Vote::Nullify { epoch: 0, view: 1 }),
+    ]
+}
+
+#[test]
+fn what_is_handed_over_is_taken_until_the_end(rt: HostRuntime) {
+    let mut inbox = Inbox { room: 1, taken: 0 };
+    assert!(rt; told(&mut inbox) == [Feedback::Ok, Feedback::Closed]);
+    assert_eq!(rt; inbox.subscribe(), 1);
+}
+
+#[test]
+fn a_payload_is_mapped_in_its_place(rt: HostRuntime) {
+    let cases = [
+        (Handoff::Vote(1u8), Handoff::Vote(2u8)),
+        (Handoff::Stage(1), Handoff::Stage(2)),
+        (Handoff::Wait, Handoff::Wait),
+    ];
+    for (before, after) in cases {
+        assert!(rt; before.map(|x: u8| x.wrapping_add(1)) == after);
+    }
+}

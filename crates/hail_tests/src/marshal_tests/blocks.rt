@@ -1,0 +1,83 @@
+//! Blocks, certificates and disks for the tests of a store.
+
+use cw_base::{Items, Sequential, SumHasher};
+use cw_types::{
+    Cert, ChainBlock, Commitment, Context, Payload, Proposal, Vote, commit, genesis_commitment,
+};
+use node_disk::{Disk, MemoryDisk};
+use std::alloc::Global;
+use std::test::Fail;
+use std::thread::Threads;
+
+/// A block and what names it among four members.
+#[derive(Drop)]
+pub(crate) struct Made {
+    pub block: ChainBlock,
+    pub commitment: Commitment,
+}
+
+/// The block of a height, in a view, over another, whose payload is one byte 97 times.
+pub(crate) fn block_in<R: Threads + Sync>(
+    rt: &R,
+    alloc: Global,
+    height: u64,
+    view: u64,
+    below: &Commitment,
+    byte: u8,
+) -> Result<Made, Fail> {
+    let context = Context {
+        epoch: 0,
+        view,
+        leader: (view % 4) as u16,
+        parent_view: view.saturating_sub(1),
+        parent: *below,
+    };
+    let Ok(payload) = Payload::new(vec![in alloc; byte; 97]?) else {
+        return Err("a short payload".into());
+    };
+    if height == u64::MAX {
+        return Err("a height that a block may have".into());
+    }
+    let block = ChainBlock::new(context, below.block, height, payload);
+    let commitment = commit::<SumHasher, R, Sequential>(rt, alloc, 4, &block, &Sequential)?;
+    Ok(Made { block, commitment })
+}
+
+/// The blocks of these heights, each in the view of its number and over the one before it, the first
+/// over genesis.
+pub(crate) fn chain<R: Threads + Sync>(
+    rt: &R,
+    alloc: Global,
+    first: u64,
+    last: u64,
+) -> Result<Vec<Made>, Fail> {
+    let mut blocks = Vec::new(alloc);
+    let mut below = genesis_commitment::<SumHasher>();
+    for height in first..last + 1 {
+        let made = block_in(rt, alloc, height, height, &below, height as u8)?;
+        below = made.commitment;
+        blocks.push(made)?;
+    }
+    Ok(blocks)
+}
+
+/// The finalization of a block in a view, by members 0, 1 and 2.
+pub(crate) fn finalization(alloc: Global, made: &Made, view: u64) -> Result<Cert, Fail> {
+    Ok(Cert {
+        vote: Vote::Finalize(Proposal {
+            epoch: 0,
+            view,
+            parent: made.block.context().parent_view,
+            payload: made.commitment,
+        }),
+        signers: Items::from_vec(vec![in alloc; 0, 1, 2]?),
+    })
+}
+
+/// A disk that gives these bytes.
+pub(crate) fn disk_of(alloc: Global, bytes: &[u8]) -> Result<MemoryDisk, Fail> {
+    let mut disk = MemoryDisk::new(alloc, Vec::new(alloc));
+    disk.write_at(0, bytes)?;
+    disk.sync()?;
+    Ok(disk)
+}

@@ -1,0 +1,167 @@
+//! A store with nothing staged, as a user of the writing calls has it.
+
+ghost use Rattle.std.specs.Prelude.{◌≡◌, []};
+
+use super::blocks::Made;
+use cw_base::{Sequential, SumHasher};
+use cw_types::{Cert, Commitment, Committees, Epoch, Height, Round, View, Vote, well_formed};
+use marshal::{Identifier, Marshal, MarshalError};
+use node_disk::MemoryDisk;
+use std::alloc::Global;
+use std::test::Fail;
+use std::thread::Threads;
+
+/// A store of a member of four, with nothing staged.
+#[derive(Drop)]
+pub(crate) struct Store {
+    marshal: Marshal<SumHasher, MemoryDisk>,
+    ghost quiet: { marshal.staged ≡ [] },
+}
+
+impl Store {
+    /// On a new disk.
+    pub(crate) fn new(alloc: Global, backlog: u64) -> Result<Store, Fail> {
+        Store::on(alloc, backlog, MemoryDisk::new(alloc, Vec::new(alloc)))
+    }
+
+    /// On a disk.
+    pub(crate) fn on(alloc: Global, backlog: u64, disk: MemoryDisk) -> Result<Store, Fail> {
+        match open(alloc, backlog, disk)? {
+            Ok(marshal) => Ok(Store { marshal }),
+            Err(error) => Err(Fail::from(error)),
+        }
+    }
+
+    /// Started again on its disk.
+    pub(crate) fn restart(self, alloc: Global, backlog: u64) -> Result<Store, Fail> {
+        let Store { marshal } = self;
+        Store::on(alloc, backlog, marshal.into_disk().reopen())
+    }
+
+    /// The store itself.
+    pub(crate) fn get(&self) -> &Marshal<SumHasher, MemoryDisk> {
+        &self.marshal
+    }
+
+    /// Notes a block as verified in its round.
+    pub(crate) fn verify<R: Threads + Sync>(&mut self, rt: &R, made: &Made) -> Result<bool, Fail> {
+        let context = made.block.context();
+        let round = Round::new(Epoch::new(context.epoch), View::new(context.view));
+        Ok(self.marshal.verified(rt, round, &made.block, &Sequential)?)
+    }
+
+    /// Notes a block as certified in a view.
+    pub(crate) fn certify<R: Threads + Sync>(
+        &mut self,
+        rt: &R,
+        made: &Made,
+        view: u64,
+    ) -> Result<bool, Fail> {
+        let context = made.block.context();
+        if view == u64::MAX || view < context.view || view <= context.parent_view {
+            return Err("a view to certify in".into());
+        }
+        let round = Round::new(Epoch::new(context.epoch), View::new(view));
+        Ok(self.marshal.certified(rt, round, &made.block, &Sequential)?)
+    }
+
+    /// Notes a certificate.
+    pub(crate) fn report(&mut self, cert: &Cert) -> Result<bool, Fail> {
+        if !well_formed(&cert.vote) || cert.signers.len() > 65535 {
+            return Err("a certificate that can be noted".into());
+        }
+        Ok(self.marshal.report(cert)?)
+    }
+
+    /// Asks for a floor.
+    pub(crate) fn set_floor(&mut self, cert: &Cert) -> Result<bool, Fail> {
+        if !well_formed(&cert.vote) || cert.signers.len() > 65535 {
+            return Err("a certificate that can be noted".into());
+        }
+        match cert.vote {
+            Vote::Finalize(_) => Ok(self.marshal.set_floor(cert)?),
+            _ => Err("a finalization".into()),
+        }
+    }
+
+    /// Acknowledges the least pending height.
+    pub(crate) fn acknowledge(&mut self) -> Result<Option<u64>, Fail> {
+        match self.marshal.acknowledge()? {
+            Some(height) => Ok(Some(height.get())),
+            None => Ok(None),
+        }
+    }
+
+    /// Lets blocks below a height go.
+    pub(crate) fn prune(&mut self, height: u64) -> Result<bool, Fail> {
+        Ok(self.marshal.prune(height)?)
+    }
+
+    /// The heights that are handed out next.
+    pub(crate) fn deliver(&mut self, alloc: Global) -> Result<Vec<u64>, Fail> {
+        let mut heights = Vec::new(alloc);
+        for handed in &self.marshal.next_deliveries(alloc)? {
+            heights.push(handed.height)?;
+        }
+        Ok(heights)
+    }
+
+    /// A ticket for the block of a digest.
+    pub(crate) fn watch_digest(&mut self, made: &Made) -> Result<u64, Fail> {
+        Ok(self.marshal.subscribe_by_digest(made.commitment.block)?)
+    }
+
+    /// A ticket for the block under a commitment.
+    pub(crate) fn watch_commitment(&mut self, made: &Made) -> Result<u64, Fail> {
+        Ok(self.marshal.subscribe_by_commitment(made.commitment)?)
+    }
+
+    /// Lets a ticket go.
+    pub(crate) fn cancel(&mut self, ticket: u64) -> bool {
+        self.marshal.cancel(ticket)
+    }
+
+    /// The tickets that are served.
+    pub(crate) fn take_tickets(&mut self, alloc: Global) -> Result<Vec<(u64, Commitment)>, Fail> {
+        Ok(self.marshal.take_tickets(alloc)?)
+    }
+
+    /// Whether the block is found under its commitment and, as the first of it, by its digest.
+    pub(crate) fn has(&self, made: &Made) -> bool {
+        let by_name = self
+            .marshal
+            .get_block(Identifier::Commitment(made.commitment));
+        let by_digest = self
+            .marshal
+            .get_block(Identifier::Digest(made.commitment.block));
+        match (by_name, by_digest) {
+            (Some(one), Some(two)) => *one == made.block && *two == made.block,
+            _ => false,
+        }
+    }
+
+    /// Whether the block is at its height, with its digest, and has a finalization there.
+    pub(crate) fn is_final(&self, made: &Made) -> bool {
+        let height = made.block.height();
+        let info = self.marshal.get_info(Identifier::Height(height));
+        info == Some((Height::new(height), made.commitment.block))
+            && self.marshal.commitment_at(height) == Some(made.commitment)
+            && self.marshal.get_finalization(height).is_some()
+            && !self.marshal.hint_finalized(height)
+    }
+}
+
+/// What a start answers on a disk.
+pub(crate) fn open(
+    alloc: Global,
+    backlog: u64,
+    disk: MemoryDisk,
+) -> Result<Result<Marshal<SumHasher, MemoryDisk>, MarshalError>, Fail> {
+    if backlog == 0 {
+        return Err("a backlog".into());
+    }
+    match Marshal::start(alloc, Committees::single(alloc, 4)?, backlog, disk) {
+        Ok(marshal) => Ok(Ok(marshal)),
+        Err((_, error)) => Ok(Err(error)),
+    }
+}

@@ -1,0 +1,168 @@
+//! Sums of rows for eight targets at once: each entry of a table has eight factors' products side by
+//! side, so that one look-up serves eight targets.
+
+ghost use Rattle.std.specs.Prelude.{◌≡◌, ℕ, ◌<◌, ◌≤◌, ◌+◌, ◌*◌, ◌^◌, bit_xor, length, slice_index, IfOk};
+ghost use Rattle.rs_code.specs.Codeword.{sum_below};
+ghost use Rattle.rs_code.specs.Coefficients.{lane, AreTables};
+ghost use Rattle.rs_code.specs.Field.{times};
+ghost use Rattle.rs_code.specs.Rows.{symbol};
+
+use crate::lanes::{
+    Eight, each_by_2, each_by_4, each_by_16, each_by_256, sum_of_three, sum_of_two,
+};
+use std::alloc::{AllocError, Global};
+
+// Copies the first `count` entries behind themselves, with a step added in each lane.
+fn double(table: &mut [Eight], count: usize, step: &Eight)
+    requires { 2 * count ≤ length table.old }
+    ensures count { length table.new ≡ length table.old }
+    ensures first { (b l : ℕ) → b < count → l < 8 → lane table.new b l ≡ lane table.old b l }
+    ensures second { (b l : ℕ) → b < count → l < 8 → lane table.new (count + b) l ≡ bit_xor (lane table.old b l) (slice_index step.now l) }
+{
+    for place in 0..count {
+        table[count + place] = sum_of_two(&table[place], step);
+    }
+}
+
+// Doubles a table of eight factors' products with the bytes below a power of two. The step is the
+// product with that power.
+fn double_products(table: &mut [Eight], count: usize, factors: &Eight, step: &Eight)
+    requires { 2 * count ≤ length table.old }
+    ensures count { length table.new ≡ length table.old }
+    ensures each { (n : ℕ) → count ≡ 2 ^ n → count ≤ 128 →
+        ((l : ℕ) → l < 8 → slice_index step.now l ≡ times (slice_index factors.now l) count) →
+        ((b l : ℕ) → b < count → l < 8 → lane table.old b l ≡ times (slice_index factors.now l) b) →
+        (b l : ℕ) → b < 2 * count → l < 8 → lane table.new b l ≡ times (slice_index factors.now l) b }
+{
+    double(table, count, step);
+}
+
+/// The products of eight factors with each byte.
+pub fn spread(table: &mut [Eight], factors: &Eight)
+    requires { length table.old ≡ 256 }
+    ensures { AreTables factors.now table.new }
+{
+    let two = each_by_2(factors);
+    let four = each_by_4(factors);
+    let eight = each_by_4(&two);
+    table[0] = [0; 8];
+    double_products(table, 1, factors, factors);
+    double_products(table, 2, factors, &two);
+    double_products(table, 4, factors, &four);
+    double_products(table, 8, factors, &eight);
+    double_products(table, 16, factors, &each_by_16(factors));
+    double_products(table, 32, factors, &each_by_16(&two));
+    double_products(table, 64, factors, &each_by_16(&four));
+    double_products(table, 128, factors, &each_by_16(&eight));
+}
+
+// Adds to the sums the products of eight factors with the row's symbols, from a first column on.
+// `low` has the factors' products with each lower byte, `high` with each upper byte.
+fn add_by_tables(
+    sums: &mut [Eight],
+    low: &[Eight],
+    high: &[Eight],
+    rows: &[u8],
+    width: usize,
+    row: usize,
+    first: usize,
+)
+    requires room { row * width + 2 * (first + length sums.old) ≤ length rows.now }
+    requires low { length low.now ≡ 256 }
+    requires high { length high.now ≡ 256 }
+    ensures count { length sums.new ≡ length sums.old }
+    ensures each { (j l : ℕ) → j < length sums.old → l < 8 → lane sums.new j l ≡ bit_xor (lane sums.old j l)
+        (bit_xor (lane high.now (slice_index rows.now (row * width + 2 * (first + j))) l)
+        (lane low.now (slice_index rows.now (row * width + 2 * (first + j) + 1)) l)) }
+{
+    for column in 0..sums.len() {
+        let place = row * width + 2 * (first + column);
+        let upper = &high[usize::from(rows[place])];
+        let lower = &low[usize::from(rows[place + 1])];
+        sums[column] = sum_of_three(&sums[column], upper, lower);
+    }
+}
+
+// Adds to the sums the products of eight factors with the row's symbols, from a first column on.
+fn add_row(
+    sums: &mut [Eight],
+    low: &mut [Eight],
+    high: &mut [Eight],
+    factors: &Eight,
+    rows: &[u8],
+    width: usize,
+    row: usize,
+    first: usize,
+)
+    requires room { row * width + 2 * (first + length sums.old) ≤ length rows.now }
+    requires low { length low.old ≡ 256 }
+    requires high { length high.old ≡ 256 }
+    ensures count { length sums.new ≡ length sums.old }
+    ensures low { length low.new ≡ 256 }
+    ensures high { length high.new ≡ 256 }
+    ensures each { (j l : ℕ) → j < length sums.old → l < 8 → lane sums.new j l
+        ≡ bit_xor (lane sums.old j l) (times (symbol rows.now width row (first + j)) (slice_index factors.now l)) }
+{
+    spread(low, factors);
+    spread(high, &each_by_256(factors));
+    add_by_tables(sums, low, high, rows, width, row, first);
+}
+
+/// For each of eight targets, one in a lane, the sums over the rows of a row's symbol times its factor
+/// for the target, in `count` columns from the column `first` on.
+pub fn group_sums(
+    alloc: Global,
+    factors: &[Eight],
+    rows: &[u8],
+    width: usize,
+    first: usize,
+    count: usize,
+) -> Result<Vec<Eight>, AllocError>
+    requires rows { length rows.now ≡ length factors.now * width }
+    requires columns { 2 * (first + count) ≤ width }
+    ensures count { IfOk result (λ v. length v.items ≡ count) }
+    ensures each { IfOk result (λ v. (j l : ℕ) → j < count → l < 8 → lane v.items j l
+        ≡ sum_below (length factors.now) (λ s. times (symbol rows.now width s (first + j)) (lane factors.now s l))) }
+{
+    let mut sums = vec![in alloc; [0u16; 8]; count]?;
+    let mut low = vec![in alloc; [0u16; 8]; 256]?;
+    let mut high = vec![in alloc; [0u16; 8]; 256]?;
+    for row in 0..factors.len() {
+        add_row(
+            &mut sums,
+            &mut low,
+            &mut high,
+            &factors[row],
+            rows,
+            width,
+            row,
+            first,
+        );
+    }
+    Ok(sums)
+}
+
+/// Writes the symbols of one lane into a row, from a first column on, each as two big-endian bytes.
+pub fn fill_lane(
+    rows: &mut [u8],
+    width: usize,
+    row: usize,
+    first: usize,
+    sums: &[Eight],
+    place: usize,
+)
+    requires row { (row + 1) * width ≤ length rows.old }
+    requires columns { 2 * (first + length sums.now) ≤ width }
+    requires place { place < 8 }
+    ensures count { length rows.new ≡ length rows.old }
+    ensures written { (j : ℕ) → j < length sums.now → symbol rows.new width row (first + j) ≡ lane sums.now j place }
+    ensures others { (i j : ℕ) → 2 * (j + 1) ≤ width → (i ≡ row → first ≤ j → j < first + length sums.now → ⊥) →
+        symbol rows.new width i j ≡ symbol rows.old width i j }
+{
+    for column in 0..sums.len() {
+        let symbol = sums[column][place];
+        let at = row * width + 2 * (first + column);
+        rows[at] = (symbol / 256) as u8;
+        rows[at + 1] = (symbol % 256) as u8;
+    }
+}

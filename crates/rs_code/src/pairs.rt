@@ -1,0 +1,149 @@
+//! Sums of rows for two targets at once, where no more are left.
+
+ghost use Rattle.std.specs.Prelude.{◌≡◌, ℕ, ◌<◌, ◌≤◌, ◌+◌, ◌*◌, bit_xor, length, slice_index, IfOk, OnOk};
+ghost use Rattle.rs_code.specs.Codeword.{sum_below};
+ghost use Rattle.rs_code.specs.Coefficients.{lane};
+ghost use Rattle.rs_code.specs.Field.{times};
+ghost use Rattle.rs_code.specs.Rows.{symbol};
+
+use crate::eights::spread;
+use crate::lanes::{Eight, each_by_256};
+use std::alloc::{AllocError, Global};
+
+/// An element for each of two targets.
+pub type Pair = [u16; 2];
+
+/// For each of two targets, one in a lane, the sums over the rows of a row's symbol times its factor
+/// for the target, in `count` columns from the column `first` on. The factors of the other lanes are
+/// not used.
+pub fn pair_sums(
+    alloc: Global,
+    factors: &[Eight],
+    rows: &[u8],
+    width: usize,
+    first: usize,
+    count: usize,
+) -> Result<Vec<Pair>, AllocError>
+    requires rows { length rows.now ≡ length factors.now * width }
+    requires columns { 2 * (first + count) ≤ width }
+    ensures count { IfOk result (λ v. length v.items ≡ count) }
+    ensures each { IfOk result (λ v. (j l : ℕ) → j < count → l < 2 → lane v.items j l
+        ≡ sum_below (length factors.now) (λ s. times (symbol rows.now width s (first + j)) (lane factors.now s l))) }
+{
+    let mut sums = vec![in alloc; [0u16; 2]; count]?;
+    for row in 0..factors.len() {
+        add_row(alloc, &mut sums, &factors[row], rows, width, row, first)?;
+    }
+    Ok(sums)
+}
+
+// Adds to the sums the products of two factors with the row's symbols, from a first column on.
+fn add_row(
+    alloc: Global,
+    sums: &mut [Pair],
+    factors: &Eight,
+    rows: &[u8],
+    width: usize,
+    row: usize,
+    first: usize,
+) -> Result<(), AllocError>
+    requires room { row * width + 2 * (first + length sums.old) ≤ length rows.now }
+    ensures count { length sums.new ≡ length sums.old }
+    ensures each { OnOk result ((j l : ℕ) → j < length sums.old → l < 2 → lane sums.new j l
+        ≡ bit_xor (lane sums.old j l) (times (symbol rows.now width row (first + j)) (slice_index factors.now l))) }
+{
+    let low = pair_table(alloc, factors)?;
+    let high = pair_table(alloc, &each_by_256(factors))?;
+    add_by_tables(sums, &low, &high, rows, width, row, first);
+    Ok(())
+}
+
+// The products of the first two of eight factors with each byte.
+fn pair_table(alloc: Global, factors: &Eight) -> Result<Vec<Pair>, AllocError>
+    ensures count { IfOk result (λ v. length v.items ≡ 256) }
+    ensures each { IfOk result (λ v. (b l : ℕ) → b < 256 → l < 2 → lane v.items b l ≡ times (slice_index factors.now l) b) }
+{
+    let mut table = vec![in alloc; [0u16; 8]; 256]?;
+    spread(&mut table, factors);
+    let pairs = first_lanes(alloc, &table)?;
+    Ok(pairs)
+}
+
+// The first two lanes of each entry.
+fn first_lanes(alloc: Global, table: &[Eight]) -> Result<Vec<Pair>, AllocError>
+    ensures count { IfOk result (λ v. length v.items ≡ length table.now) }
+    ensures each { IfOk result (λ v. (b l : ℕ) → b < length table.now → l < 2 → lane v.items b l ≡ lane table.now b l) }
+{
+    let mut pairs = Vec::with_capacity(alloc, table.len())?;
+    for place in 0..table.len() {
+        pairs.push(first_two(&table[place]))?;
+    }
+    Ok(pairs)
+}
+
+// The first two lanes.
+fn first_two(eight: &Eight) -> Pair
+    ensures { (l : ℕ) → l < 2 → slice_index result l ≡ slice_index eight.now l }
+{
+    [eight[0], eight[1]]
+}
+
+// The sum of three in each lane.
+fn sum_of_three(a: &Pair, b: &Pair, c: &Pair) -> Pair
+    ensures { (l : ℕ) → l < 2 →
+        slice_index result l ≡ bit_xor (slice_index a.now l) (bit_xor (slice_index b.now l) (slice_index c.now l)) }
+{
+    [a[0] ^ (b[0] ^ c[0]), a[1] ^ (b[1] ^ c[1])]
+}
+
+// Adds to the sums the products of two factors with the row's symbols, from a first column on.
+// `low` has the factors' products with each lower byte, `high` with each upper byte.
+fn add_by_tables(
+    sums: &mut [Pair],
+    low: &[Pair],
+    high: &[Pair],
+    rows: &[u8],
+    width: usize,
+    row: usize,
+    first: usize,
+)
+    requires room { row * width + 2 * (first + length sums.old) ≤ length rows.now }
+    requires low { length low.now ≡ 256 }
+    requires high { length high.now ≡ 256 }
+    ensures count { length sums.new ≡ length sums.old }
+    ensures each { (j l : ℕ) → j < length sums.old → l < 2 → lane sums.new j l ≡ bit_xor (lane sums.old j l)
+        (bit_xor (lane high.now (slice_index rows.now (row * width + 2 * (first + j))) l)
+        (lane low.now (slice_index rows.now (row * width + 2 * (first + j) + 1)) l)) }
+{
+    for column in 0..sums.len() {
+        let place = row * width + 2 * (first + column);
+        let upper = &high[usize::from(rows[place])];
+        let lower = &low[usize::from(rows[place + 1])];
+        sums[column] = sum_of_three(&sums[column], upper, lower);
+    }
+}
+
+/// Writes the symbols of one lane into a row, from a first column on, each as two big-endian bytes.
+pub fn fill_pair_lane(
+    rows: &mut [u8],
+    width: usize,
+    row: usize,
+    first: usize,
+    sums: &[Pair],
+    place: usize,
+)
+    requires row { (row + 1) * width ≤ length rows.old }
+    requires columns { 2 * (first + length sums.now) ≤ width }
+    requires place { place < 2 }
+    ensures count { length rows.new ≡ length rows.old }
+    ensures written { (j : ℕ) → j < length sums.now → symbol rows.new width row (first + j) ≡ lane sums.now j place }
+    ensures others { (i j : ℕ) → 2 * (j + 1) ≤ width → (i ≡ row → first ≤ j → j < first + length sums.now → ⊥) →
+        symbol rows.new width i j ≡ symbol rows.old width i j }
+{
+    for column in 0..sums.len() {
+        let symbol = sums[column][place];
+        let at = row * width + 2 * (first + column);
+        rows[at] = (symbol / 256) as u8;
+        rows[at + 1] = (symbol % 256) as u8;
+    }
+}
