@@ -4,6 +4,7 @@ use Rattle.cw_types.specs.declared.event.StepOut.{StepOut}
 use Rattle.cw_rules.specs.Step.{Member, start}
 use Rattle.cw_rules_coded.specs.Coded.{coded}
 use Rattle.hailstorm.specs.Seats.{out_of}
+use Rattle.node_disk.specs.MemoryLaws.{calm_stays}
 use Rattle.hailstorm.proofs.turn.restart.Goals as goal
 
 pub returns-clause-started : goal.returns-clause-started
@@ -15,3 +16,10 @@ returns-clause-started g c frames held =
     let what = ap (λ (x : Epochs). out_of (start (coded g.H.Hasher.digest_of x c.backlog.result (λ b a. true)) c.args.id frames)) c.in_ok-committees.ensures
     ∙ ap (λ (k : ℕ). out_of (start (coded g.H.Hasher.digest_of c.args.script.now.committees k (λ b a. true)) c.args.id frames)) c.backlog.ensures.value in
     (h.member ∙ who, h.gives ∙ what)
+
+pub returns-clause-sound : goal.returns-clause-sound
+returns-clause-sound g c =
+    let h = c.in_ok-seat.ensures c.requires.holds.0 c.requires.holds.1 in
+    let who = ap (λ (x : Epochs). coded g.H.Hasher.digest_of x c.backlog.result (λ b a. true)) c.in_ok-committees.ensures
+    ∙ ap (λ (k : ℕ). coded g.H.Hasher.digest_of c.args.script.now.committees k (λ b a. true)) c.backlog.ensures.value in
+    (h.rules ∙ who, h.number, h.works, calm_stays _ _ h.went_on c.requires.calm)
