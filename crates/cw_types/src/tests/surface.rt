@@ -58,8 +58,6 @@ impl Automaton for Stager {
 }
 
 impl CertifiableAutomaton for Stager {
-    ghost use Rattle.std.specs.Prelude.{⊥};
-
     ghost waits = { λ stager context. ⊥ };
 
     ghost certifies = { λ stager round payload. ⊥ };
