@@ -6,8 +6,12 @@ mod code;
 #[cfg(test)]
 mod coding;
 #[cfg(test)]
+mod disk_tests;
+#[cfg(test)]
 mod gate;
 #[cfg(test)]
 mod shards_tests;
+#[cfg(test)]
+mod types_tests;
 #[cfg(test)]
 mod voter_tests;

@@ -37,6 +37,3 @@ pub use note::Note;
 pub use numbers::{config_for, max_faults, quorum};
 pub use round::{Epoch, Epochable, Height, Heightable, Round, Roundable, View, Viewable};
 pub use vote::{Cert, Proposal, Vote, well_formed};
-
-#[cfg(test)]
-mod tests;

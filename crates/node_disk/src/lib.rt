@@ -19,6 +19,3 @@ pub use log::{Log, StoreError};
 pub use memory::MemoryDisk;
 pub use reading::read_log;
 pub use record::{Outcome, Stop};
-
-#[cfg(test)]
-mod tests;

@@ -1,10 +1,10 @@
 //! Each format read back, cut, changed and refused.
 
 use super::{first_block, is_junk, nullify, proposal, read_message};
-use crate::{
+use cw_base::{CodecError, Reader, SumHasher, put_bytes};
+use cw_types::{
     Cert, ChainBlock, Commitment, Context, Message, Note, Proposal, Vote, genesis_commitment,
 };
-use cw_base::{CodecError, Reader, SumHasher, put_bytes};
 use std::alloc::Global;
 use std::test::Fail;
 

@@ -1,8 +1,15 @@
+//! Worked bytes of values, committees, equality and copies.
+
 mod reading;
 mod surface;
 
-use super::*;
 use cw_base::{CodecError, Digest32, Items, Reader, Sequential, SumHasher};
+use cw_types::{
+    Block, BoundedBlock, Cert, CertifiableBlock, ChainBlock, Committees, Context, Digested, Event,
+    Height, Heightable, Message, Note, Out, Payload, Proposal, Round, Roundable, StepOut,
+    TicketOut, To, Vote, commit, commit_with_chunks, committees, config_for, genesis,
+    genesis_commitment, max_faults, quorum, well_formed,
+};
 use std::alloc::Global;
 use std::test::Fail;
 

@@ -1,4 +1,6 @@
-use super::*;
+//! Logs over a disk in memory that stops, fails and is cut.
+
+use node_disk::{Disk, DiskError, Log, MemoryDisk, StoreError, read_log};
 use std::alloc::Global;
 use std::test::Fail;
 

@@ -1,8 +1,12 @@
-// Each trait of the surface at a type of its own, and generic code over its bounds.
+//! Each trait of the surface at a type of its own, and generic code over its bounds.
 
-use super::*;
 use cw_base::NoMemory;
+use cw_types::{
+    AcceptAll, Application, Automaton, CertifiableAutomaton, Context, Feedback, Handoff, Monitor,
+    Relay, Reporter, Round, To, Vote,
+};
 use std::alloc::Global;
+use std::test::Fail;
 
 // proposes the next number of each context, and takes those above it
 #[derive(Drop)]
