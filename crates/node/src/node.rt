@@ -3,6 +3,7 @@
 ghost use Rattle.std.specs.Prelude.{◌≡◌, ℕ, ◌<◌, ◌≤◌, [], IfErr, IfOk, IsErrOf, OnErr, OnOk, false, true};
 ghost use Rattle.cw_rules.specs.Notes.{epoch_of, view_of};
 ghost use Rattle.cw_rules.specs.Step as rule;
+ghost use Rattle.marshal.specs.Stored.{log_of};
 ghost use Rattle.node.specs.Disks.{HasFound, HasTried, WasRefused};
 ghost use Rattle.node.specs.State.{IsAtWork, IsMarshalOf, IsNodeOf, IsSameNode, notes_of_step, rules_of, stepped};
 
@@ -191,21 +192,24 @@ impl<H: Hasher<Digest = Digest32>, D: Disk, A: Application + Drop> Node<H, D, A>
     }
 
     /// Its marshal, which answers from its notes. Once a step was refused, some of that step's may
-    /// be staged in it.
+    /// be staged in it, behind the frames of the steps before.
     pub fn marshal(&self) -> &Marshal<H, D>
         ensures value { self.now.member.live ≡ true → IsMarshalOf self.now result.now }
+        // Of a node that is out too.
+        ensures frames { result.now.frames ≡ self.now.member.frames }
+        ensures log { log_of result.now ≡ self.now.log }
     {
         self.holding.marshal()
     }
 
-    /// Its notes, in order.
+    /// Its notes, in order. Of a node that is out nothing is said: its marshal has the frames.
     pub fn notes(&self) -> &[Note]
         ensures { self.now.member.live ≡ true → result.now ≡ rule.member_notes self.now.member }
     {
         self.holding.store.notes()
     }
 
-    /// The epoch that the member is in.
+    /// The epoch that the member is in. Of a node that is out nothing is said.
     pub fn epoch(&self) -> u64
         ensures { self.now.member.live ≡ true → result
             ≡ epoch_of (rule.member_notes self.now.member) }
@@ -213,7 +217,7 @@ impl<H: Hasher<Digest = Digest32>, D: Disk, A: Application + Drop> Node<H, D, A>
         self.holding.tally.epoch()
     }
 
-    /// The view of this epoch that the member is in.
+    /// The view of this epoch that the member is in. Of a node that is out nothing is said.
     pub fn view(&self) -> u64
         ensures { self.now.member.live ≡ true
             → result ≡ view_of (rule.member_notes self.now.member)

@@ -1,0 +1,201 @@
+//! What happens to a member, about blocks by their places in a list, and what it answers, as text.
+
+use super::blocks::{Scene, certificate};
+use super::member::Member;
+use super::said::text_of;
+use cw_types::{Event, Message, Vote};
+use std::alloc::Global;
+use std::test::Fail;
+use std::thread::Threads;
+
+/// What happens to a member.
+#[derive(Clone, Copy)]
+pub(crate) enum NodeCall {
+    /// It is asked for a block with the payload of a block of the list.
+    Propose(usize),
+    /// The view is over.
+    Timeout(u64),
+    /// The chunk of that index of a block comes.
+    Shard(usize, usize),
+    /// A member's vote to notarize a block in a view comes.
+    Notarize(u16, usize, u64),
+    /// A member's vote to finalize a block in a view comes.
+    Finalize(u16, usize, u64),
+    /// The certificate by members 0, 1 and 2 of votes to notarize a block in a view comes.
+    Notarization(usize, u64),
+    /// The certificate by members 0, 1 and 2 of votes to finalize a block in a view comes.
+    Finalization(usize, u64),
+    /// A whole block comes.
+    Block(usize),
+    /// A member asks for a block.
+    Ask(u16, usize),
+    /// The least pending height is acknowledged.
+    Ack,
+    /// A ticket for the block of a digest.
+    WatchDigest(usize),
+    /// A ticket for the block under a commitment.
+    WatchCommitment(usize),
+    /// Lets a ticket go.
+    Cancel(u64),
+    /// Its disk is to stop at a device call from now, behind so many bytes, with a fill for the rest.
+    StopAt(u64, u64, u8),
+    /// It is started on its disk again: what the start gives.
+    Restart,
+    /// How many notes it has.
+    Notes,
+    /// The bytes that a read of its disk gives.
+    Disk,
+}
+
+/// The first call of a table that a member answers otherwise, with that answer; none where it
+/// answers all so.
+pub(crate) fn first_wrong<R: Threads + Sync>(
+    rt: &R,
+    alloc: Global,
+    scene: &Scene,
+    mut member: Member,
+    table: &[(NodeCall, &str)],
+) -> Result<Option<(usize, String)>, Fail> {
+    for (place, (call, want)) in table.iter().enumerate() {
+        if matches!(call, NodeCall::Restart) {
+            member = member.restart(rt, alloc, scene)?;
+        }
+        let said = answer(rt, alloc, scene, &mut member, *call)?;
+        if said.as_str() != *want {
+            return Ok(Some((place, said)));
+        }
+    }
+    Ok(None)
+}
+
+/// A new member that has played a table without a restart, and answered all as it says.
+pub(crate) fn after<R: Threads + Sync>(
+    rt: &R,
+    alloc: Global,
+    scene: &Scene,
+    id: u16,
+    table: &[(NodeCall, &str)],
+) -> Result<Member, Fail> {
+    let mut member = Member::new(rt, alloc, scene, id)?;
+    for (call, want) in table {
+        if answer(rt, alloc, scene, &mut member, *call)?.as_str() != *want {
+            return Err("the answers of the table".into());
+        }
+    }
+    Ok(member)
+}
+
+/// The same where each event comes twice: the first where the first time is answered otherwise, or
+/// the second time isn't answered by nothing, or changes the notes.
+pub(crate) fn first_changed<R: Threads + Sync>(
+    rt: &R,
+    alloc: Global,
+    scene: &Scene,
+    id: u16,
+    table: &[(NodeCall, &str)],
+) -> Result<Option<(usize, String)>, Fail> {
+    let mut member = Member::new(rt, alloc, scene, id)?;
+    for (place, (call, want)) in table.iter().enumerate() {
+        let said = answer(rt, alloc, scene, &mut member, *call)?;
+        let notes = member.node.notes().len();
+        let again = repeated(rt, alloc, scene, &mut member, *call)?;
+        if said.as_str() != *want || !again.is_empty() || member.node.notes().len() != notes {
+            return Ok(Some((place, again)));
+        }
+    }
+    Ok(None)
+}
+
+// What it answers to the same event; nothing is asked for twice.
+fn repeated<R: Threads + Sync>(
+    rt: &R,
+    alloc: Global,
+    scene: &Scene,
+    member: &mut Member,
+    call: NodeCall,
+) -> Result<String, Fail> {
+    match call {
+        NodeCall::Notes => Ok(String::new(alloc)),
+        _ => answer(rt, alloc, scene, member, call),
+    }
+}
+
+/// What a member answers.
+pub(crate) fn answer<R: Threads + Sync>(
+    rt: &R,
+    alloc: Global,
+    scene: &Scene,
+    member: &mut Member,
+    call: NodeCall,
+) -> Result<String, Fail> {
+    match call {
+        NodeCall::StopAt(device_call, cut, fill) => {
+            member.node.stop_at(device_call, cut, fill);
+            Ok(String::new(alloc))
+        }
+        NodeCall::Notes => Ok(format!(in alloc; "{}", member.node.notes().len())?),
+        NodeCall::Disk => Ok(format!(in alloc; "{:?}", member.node.bytes())?),
+        NodeCall::Restart => text_of(alloc, scene, &member.opening),
+        _ => {
+            let event = event_of(alloc, scene, call)?;
+            match member.step(rt, alloc, scene, &event) {
+                Ok(out) => text_of(alloc, scene, &out),
+                Err(error) => Ok(format!(in alloc; "{error:?}")?),
+            }
+        }
+    }
+}
+
+// The event that the member takes.
+fn event_of(alloc: Global, scene: &Scene, call: NodeCall) -> Result<Event, Fail> {
+    match call {
+        NodeCall::Propose(place) => {
+            let payload = scene.block(place)?.block.payload().copy(alloc)?;
+            Ok(Event::Propose(payload))
+        }
+        NodeCall::Timeout(view) => Ok(Event::Timeout(view)),
+        NodeCall::Ack => Ok(Event::Ack),
+        NodeCall::WatchDigest(place) => {
+            Ok(Event::WatchDigest(scene.block(place)?.commitment.block))
+        }
+        NodeCall::WatchCommitment(place) => {
+            Ok(Event::WatchCommitment(scene.block(place)?.commitment))
+        }
+        NodeCall::Cancel(ticket) => Ok(Event::Cancel(ticket)),
+        _ => Ok(Event::Deliver(message_of(alloc, scene, call)?)),
+    }
+}
+
+// The message that comes.
+fn message_of(alloc: Global, scene: &Scene, call: NodeCall) -> Result<Message, Fail> {
+    match call {
+        NodeCall::Shard(place, index) => shard(alloc, scene, place, index),
+        NodeCall::Notarize(signer, place, view) => Ok(Message::Vote(
+            signer,
+            Vote::Notarize(scene.proposal(place, view)?),
+        )),
+        NodeCall::Finalize(signer, place, view) => Ok(Message::Vote(
+            signer,
+            Vote::Finalize(scene.proposal(place, view)?),
+        )),
+        NodeCall::Notarization(place, view) => {
+            let vote = Vote::Notarize(scene.proposal(place, view)?);
+            Ok(Message::Cert(certificate(alloc, vote)?))
+        }
+        NodeCall::Finalization(place, view) => {
+            let vote = Vote::Finalize(scene.proposal(place, view)?);
+            Ok(Message::Cert(certificate(alloc, vote)?))
+        }
+        NodeCall::Block(place) => Ok(Message::Block(scene.block(place)?.block.copy(alloc)?)),
+        NodeCall::Ask(from, place) => Ok(Message::Ask(from, scene.block(place)?.commitment)),
+        _ => Err("a message".into()),
+    }
+}
+
+fn shard(alloc: Global, scene: &Scene, place: usize, index: usize) -> Result<Message, Fail> {
+    let made = scene.block(place)?;
+    match made.chunks.get(index) {
+        Some(chunk) => Ok(Message::Shard(made.commitment, chunk.copy(alloc)?)),
+        None => Err("a chunk of that index".into()),
+    }
+}
