@@ -92,7 +92,7 @@ fn a_node_says_where_its_disk_fails(rt: HostRuntime) -> Result<(), Fail> {
         (5, [None, disk, failed], 0),
         (6, [None, disk, failed], 0),
         (7, [None, disk, failed], 1),
-        (8, [None, None, None], 1),
+        (20, [None, None, None], 1),
     ] {
         assert_eq!(rt;
             with_failing(&rt, rt.alloc(), call)?,

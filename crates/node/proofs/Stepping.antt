@@ -1,5 +1,5 @@
 -- A step as a whole.
-use Rattle.std.proofs.Common.{◌≡◌, ℕ, Bool, true, ◌+◌, ◌≤◌, arith, length-append, List, [], ◌++◌, length, map, drop, filter_map, flat_map, refl, sym, ◌∙◌, ap, subst, append-nil}
+use Rattle.std.proofs.Common.{◌≡◌, ℕ, Bool, true, ◌≤◌, arith, length-append, List, [], ◌++◌, length, map, drop, filter_map, flat_map, refl, sym, ◌∙◌, ap, subst, append-nil}
 use Rattle.std.proofs.lemmas.List.{drop_at}
 use Rattle.cw_base.specs.declared.hash.Digest32.{Digest32}
 use Rattle.cw_types.specs.Block.{Block}

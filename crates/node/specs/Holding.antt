@@ -1,5 +1,5 @@
 -- What a node holds between its calls, and how the rules see it.
-use Rattle.std.specs.Prelude.{ℕ, ◌+◌, ◌++◌, ◌∷◌, [], Bool, List, Option, None, Some, option_and_then, drop, filter, is_none, length, map, take, false, if◌then◌else◌}
+use Rattle.std.specs.Prelude.{ℕ, ◌++◌, ◌∷◌, [], Bool, List, Option, None, Some, option_and_then, drop, filter, is_none, length, map, take, false, if◌then◌else◌}
 use Rattle.std.specs.Option.{option_map_or}
 use Rattle.cw_base.specs.declared.hash.Digest32.{Digest32}
 use Rattle.cw_types.specs.Block.{Block}

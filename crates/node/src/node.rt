@@ -1,6 +1,6 @@
 //! A member, which acts by the rules.
 
-ghost use Rattle.std.specs.Prelude.{◌≡◌, ℕ, ◌<◌, ◌≤◌, [], IfErr, IfOk, IsErrOf, OnErr, OnOk, false, true};
+ghost use Rattle.std.specs.Prelude.{◌≡◌, ℕ, ◌<◌, ◌≤◌, IfErr, IfOk, IsErrOf, OnErr, OnOk, false, true};
 ghost use Rattle.cw_rules.specs.Notes.{epoch_of, view_of};
 ghost use Rattle.cw_rules.specs.Step as rule;
 ghost use Rattle.marshal.specs.Stored.{log_of};

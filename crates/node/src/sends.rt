@@ -2,7 +2,7 @@
 
 ghost use Rattle.std.specs.Prelude.{◌≡◌, ◌++◌, ◌∷◌, ◌==◌, [], ℕ, IfOk, OnOk, None, Some, filter_map, flat_map, if◌then◌else◌, slice_get};
 ghost use Rattle.cw_base.specs.Config.{same_shards};
-ghost use Rattle.cw_rules.specs.Rules.{config as config_of, genesis_commitment};
+ghost use Rattle.cw_rules.specs.Rules.{config as config_of};
 ghost use Rattle.cw_types.specs.declared.event.Event.TheVariants as event;
 ghost use Rattle.cw_types.specs.declared.note.Note.{Note as NoteValue};
 ghost use Rattle.std.specs.Option.{option_map, option_map_or};

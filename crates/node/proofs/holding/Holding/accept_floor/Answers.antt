@@ -1,5 +1,4 @@
 use Rattle.std.proofs.Common.{sym, ◌∙◌}
-use Rattle.cw_rules.specs.Accepted.{is_valid}
 use Rattle.node.proofs.Accepting.{valid_signers}
 use Rattle.node.specs.Holding.{rules_of}
 use Rattle.node.proofs.holding.Holding.accept_floor.Goals as goal

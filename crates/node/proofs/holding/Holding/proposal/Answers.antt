@@ -1,4 +1,4 @@
-use Rattle.std.proofs.Common.{◌≡◌, ℕ, sym, ◌∙◌, ap, subst, refl, ◌&&◌, ◌==◌, ◌-◌, ◌^◌, nat_lt, List, [], option_map, Bor, arith, true}
+use Rattle.std.proofs.Common.{◌≡◌, ℕ, sym, ◌∙◌, ap, subst, refl, ◌&&◌, ◌==◌, ◌-◌, ◌^◌, nat_lt, List, option_map, Bor, arith, true}
 use Rattle.std.specs.Prelude.{IfOk, not}
 use Rattle.std.proofs.lemmas.Bool.{and_from, and_parts}
 use Rattle.cw_types.specs.Block.{Block}

@@ -1,4 +1,4 @@
-use Rattle.std.proofs.Common.{◌∙◌, ap, ◌++◌, List, [], filter_map, true}
+use Rattle.std.proofs.Common.{◌∙◌, ap, ◌++◌, List, filter_map, true}
 use Rattle.cw_types.specs.declared.event.TicketOut.{TicketOut}
 use Rattle.cw_rules.specs.Step.{served, ticket_given, ticketed, unserved}
 use Rattle.cw_rules_coded.specs.Coded.{coded}
