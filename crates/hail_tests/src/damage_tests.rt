@@ -1,37 +1,24 @@
 //! Tests of disks that fail or hold something else: what a log, a store and a node answer on them.
 
-ghost use Rattle.std.specs.Prelude.{false};
-
+use crate::disks::{Nobody, disk_of, start};
 use cw_base::{Sequential, SumHasher};
-use cw_types::{AcceptAll, Committees, Event, Verifier, Vote};
+use cw_types::{AcceptAll, Committees, Event};
 use marshal::Marshal;
 use node::{Node, NodeError};
-use node_disk::{Disk, Log, MemoryDisk, StoreError};
+use node_disk::{Log, MemoryDisk, StoreError};
 use std::alloc::Global;
 use std::test::Fail;
 use std::thread::Threads;
 
-// No member signed anything.
-struct Nobody;
-
-impl Verifier for Nobody {
-    ghost signs = { λ _ _ _. false };
-
-    fn signed(&self, _member: u16, _vote: &Vote) -> bool {
-        false
-    }
-}
-
 type SumNode = Node<SumHasher, MemoryDisk, AcceptAll>;
 
 // What a start of member 0 of four answers on a disk, which it hands back where it refuses.
-fn start<R: Threads + Sync>(
+fn start_first<R: Threads + Sync>(
     rt: &R,
     alloc: Global,
     disk: MemoryDisk,
 ) -> Result<Result<SumNode, (MemoryDisk, NodeError)>, Fail> {
-    let committees = Committees::single(alloc, 4)?;
-    match Node::start(rt, alloc, 0, committees, 3, disk, AcceptAll, &Sequential) {
+    match start(rt, alloc, 0, Committees::single(alloc, 4)?, disk)? {
         Ok((node, _)) => Ok(Ok(node)),
         Err(refused) => Ok(Err(refused)),
     }
@@ -39,7 +26,7 @@ fn start<R: Threads + Sync>(
 
 // What is found on a disk once it is started again.
 fn found_again<R: Threads + Sync>(rt: &R, alloc: Global, disk: MemoryDisk) -> Result<usize, Fail> {
-    match start(rt, alloc, disk.reopen())? {
+    match start_first(rt, alloc, disk.reopen())? {
         Ok(node) => Ok(node.notes().len()),
         Err((_, error)) => Err(Fail::from(error)),
     }
@@ -66,7 +53,7 @@ fn with_failing<R: Threads + Sync>(
     call: u64,
 ) -> Result<([Option<NodeError>; 3], usize), Fail> {
     let disk = MemoryDisk::new(alloc, vec![in alloc; call]?);
-    match start(rt, alloc, disk)? {
+    match start_first(rt, alloc, disk)? {
         Err((disk, error)) => Ok(([Some(error), None, None], found_again(rt, alloc, disk)?)),
         Ok(mut node) => {
             let first = refused_by(rt, alloc, &mut node, 1);
@@ -110,13 +97,6 @@ const EMPTY_FRAME: [u8; 10] = [1, 0, 0, 0, 0, 0, 0, 0, 0, 0];
 
 const UNKNOWN_BYTE: [u8; 11] = [1, 0, 0, 0, 0, 0, 0, 0, 1, 9, 0];
 
-fn disk_of(alloc: Global, bytes: &[u8]) -> Result<MemoryDisk, Fail> {
-    let mut disk = MemoryDisk::new(alloc, Vec::new(alloc));
-    disk.write_at(0, bytes)?;
-    disk.sync()?;
-    Ok(disk)
-}
-
 // How many frames a log finds on a disk of these bytes, or how it refuses them.
 fn frames_on(alloc: Global, bytes: &[u8]) -> Result<Result<usize, StoreError>, Fail> {
     match Log::start(alloc, disk_of(alloc, bytes)?) {
@@ -150,7 +130,7 @@ fn node_on<R: Threads + Sync>(
     alloc: Global,
     disk: MemoryDisk,
 ) -> Result<(MemoryDisk, Option<StoreError>), Fail> {
-    match start(rt, alloc, disk)? {
+    match start_first(rt, alloc, disk)? {
         Ok(node) => Ok((node.into_disk(), None)),
         Err((disk, error)) => Ok((disk, Some(error))),
     }

@@ -5,6 +5,8 @@
 #[cfg(test)]
 mod damage_tests;
 #[cfg(test)]
+mod disks;
+#[cfg(test)]
 mod marshal_tests;
 #[cfg(test)]
 mod node_tests;

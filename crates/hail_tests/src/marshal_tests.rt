@@ -4,11 +4,12 @@ mod blocks;
 mod calls;
 mod store;
 
-use blocks::{block_in, chain, disk_of, rivals};
+use crate::disks::disk_of;
+use blocks::{block_in, chain, rivals};
 use calls::StoreCall::{
-    Acknowledge, Ancestry, At, Cancel, Certify, CountAt, Deliver, DeliverRun, Final, Finalization, Floor, Has, Latest,
-    Of, Process, Prune, Report, ReportTo, Restart, SetFloor, Tickets, Verify, VerifyTo,
-    WatchCommitment, WatchDigest,
+    Acknowledge, Ancestry, At, Cancel, Certify, CountAt, Deliver, DeliverRun, Final, Finalization,
+    Floor, Has, Latest, Of, Process, Prune, Report, ReportTo, Restart, SetFloor, Tickets, Verify,
+    VerifyTo, WatchCommitment, WatchDigest,
 };
 use calls::first_wrong;
 use cw_base::SumHasher;

@@ -1,10 +1,9 @@
 //! A member alone, over a disk in memory, with what it answered last.
 
-ghost use Rattle.std.specs.Prelude.{◌≡◌};
-
 use super::blocks::Scene;
-use cw_base::{Digest32, Hasher, Sequential, SumHasher};
-use cw_types::{AcceptAll, Committees, Event, StepOut, Verifier};
+use crate::disks::start;
+use cw_base::{Sequential, SumHasher};
+use cw_types::{AcceptAll, Event, StepOut};
 use node::{Node, NodeError};
 use node_disk::MemoryDisk;
 use std::alloc::Global;
@@ -20,7 +19,7 @@ pub(crate) struct Member {
 }
 
 impl Member {
-    /// Started on a new disk of which these device calls fail.
+    /// Started on a new disk.
     pub(crate) fn new<R: Threads + Sync>(
         rt: &R,
         alloc: Global,
@@ -41,7 +40,7 @@ impl Member {
         let committees = scene.committees.copy(alloc)?;
         match start(rt, alloc, id, committees, disk)? {
             Ok((node, opening)) => Ok(Member { id, node, opening }),
-            Err(error) => Err(Fail::from(error)),
+            Err((_, error)) => Err(Fail::from(error)),
         }
     }
 
@@ -69,24 +68,5 @@ impl Member {
         event: &Event,
     ) -> Result<StepOut, NodeError> {
         self.node.step(rt, alloc, event, &scene.signed, &Sequential)
-    }
-}
-
-type Started<H> = (Node<H, MemoryDisk, AcceptAll>, StepOut);
-
-/// What a start with backlog 3 answers on a disk.
-pub(crate) fn start<H: Hasher<Digest = Digest32>, R: Threads + Sync>(
-    rt: &R,
-    alloc: Global,
-    id: u16,
-    committees: Committees,
-    disk: MemoryDisk,
-) -> Result<Result<Started<H>, NodeError>, Fail> {
-    if id >= committees.total() {
-        return Err("a member of the cluster".into());
-    }
-    match Node::start(rt, alloc, id, committees, 3, disk, AcceptAll, &Sequential) {
-        Ok(started) => Ok(Ok(started)),
-        Err((_, error)) => Ok(Err(error)),
     }
 }

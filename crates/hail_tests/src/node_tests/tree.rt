@@ -1,29 +1,18 @@
 //! Rows under a tree that are no codeword, as a node takes them.
 
-ghost use Rattle.std.specs.Prelude.{◌≡◌, ◌<◌, IfOk, false, length};
+ghost use Rattle.std.specs.Prelude.{◌≡◌, ◌<◌, IfOk, length};
 
-use super::member::start;
+use crate::disks::{Nobody, start};
 use bytes::Bytes;
 use cw_base::{Config, Digest32, Hasher, Items, Sequential, Sha256};
 use cw_coding::Chunk;
 use cw_tree::bmt::{Builder, Tree};
-use cw_types::{Commitment, Committees, Event, Message, Verifier, Vote};
+use cw_types::{Commitment, Committees, Event, Message};
 use node_disk::MemoryDisk;
 use std::alloc::Global;
 use std::num::NonZeroU16;
 use std::test::Fail;
 use std::thread::Threads;
-
-// No member signed anything.
-struct Nobody;
-
-impl Verifier for Nobody {
-    ghost signs = { λ _ _ _. false };
-
-    fn signed(&self, _member: u16, _vote: &Vote) -> bool {
-        false
-    }
-}
 
 const ROWS: [[u8; 4]; 4] = [[0, 0, 0, 1], [1, 0, 0, 0], [2, 0, 0, 4], [3, 0, 0, 2]];
 
@@ -79,7 +68,7 @@ pub(crate) fn sent_for_rows<R: Threads + Sync>(
         disk,
     )? {
         Ok(started) => started,
-        Err(error) => return Err(Fail::from(error)),
+        Err((_, error)) => return Err(Fail::from(error)),
     };
     let mut sent = Vec::new(alloc);
     for at in rows {
