@@ -8,8 +8,8 @@ mod tree;
 
 use blocks::Scene;
 use calls::NodeCall::{
-    Ask, Block, Cancel, Disk, Finalize, Notarization, Notarize, Notes, Propose, Restart, Shard,
-    StopAt, Timeout, WatchCommitment, WatchDigest,
+    Ack, Ask, AskHeight, Block, Cancel, Disk, Finalization, Finalize, Floor, Hint, Notarization,
+    Notarize, Notes, Propose, Prune, Restart, Shard, StopAt, Timeout, WatchCommitment, WatchDigest,
 };
 use calls::{NodeCall, after, answer, first_changed, first_wrong};
 use cw_types::Committees;
@@ -279,6 +279,57 @@ fn a_member_asks_answers_and_serves(rt: HostRuntime) -> Result<(), Fail> {
             first_wrong(&rt, alloc, &scene, member, table)?,
             None,
             "{name}"
+        );
+    }
+    Ok(())
+}
+
+// Member 2 has the finalized block of height 1, and handed it out.
+const FINAL: [(NodeCall, &str); 12] = [
+    (Hint(1), ""),
+    (Hint(2), "all ask 2 height 2"),
+    (
+        AskHeight(0, 1),
+        "0 cert finalize 1 in 0/1 over 0 by [0, 1, 2]; 0 block 1",
+    ),
+    (AskHeight(0, 2), ""),
+    (Prune(1), ""),
+    (Ack, ""),
+    (Ack, ""),
+    (Ack, ""),
+    (Notes, "8"),
+    (Prune(1), ""),
+    (Prune(1), ""),
+    (Notes, "9"),
+];
+
+// Member 0 holds it, and has it only certified.
+const CERTIFIED: [(NodeCall, &str); 4] = [
+    (
+        Floor(1, 1),
+        "all cert finalize 1 in 0/1 over 0 by [0, 1, 2]; hand 1",
+    ),
+    (Notes, "7"),
+    (Finalization(1, 1), ""),
+    (
+        Restart,
+        "all cert finalize 1 in 0/1 over 0 by [0, 1, 2]; hand 1",
+    ),
+];
+
+#[test]
+fn what_is_final_is_told_acknowledged_and_pruned(rt: HostRuntime) -> Result<(), Fail> {
+    let alloc = rt.alloc();
+    let scene = one_epoch(&rt, alloc)?;
+    for (id, before, table) in [
+        (2, &THIRD[..7], FINAL.as_slice()),
+        (0, &FIRST[..4], CERTIFIED.as_slice()),
+    ] {
+        let member = after(&rt, alloc, &scene, id, before)?;
+        assert_eq!(rt;
+            first_wrong(&rt, alloc, &scene, member, table)?,
+            None,
+            "at {id}"
         );
     }
     Ok(())

@@ -106,12 +106,17 @@ impl Scene {
     fn sign(&mut self, place: usize) -> Result<(), Fail> {
         let view = at(&self.blocks, place)?.block.context().view;
         for signer in 0..3u16 {
-            for in_view in [view, view.saturating_add(1)] {
-                let proposal = self.proposal(place, in_view)?;
-                self.signed.votes.push((signer, Vote::Notarize(proposal)))?;
-                self.signed.votes.push((signer, Vote::Finalize(proposal)))?;
-            }
+            self.sign_in(signer, place, view)?;
+            self.sign_in(signer, place, view.saturating_add(1))?;
         }
+        Ok(())
+    }
+
+    // A member signs both votes on a block in a view.
+    fn sign_in(&mut self, signer: u16, place: usize, view: u64) -> Result<(), Fail> {
+        let proposal = self.proposal(place, view)?;
+        self.signed.votes.push((signer, Vote::Notarize(proposal)))?;
+        self.signed.votes.push((signer, Vote::Finalize(proposal)))?;
         Ok(())
     }
 

@@ -3,7 +3,7 @@
 use super::blocks::{Scene, certificate};
 use super::member::Member;
 use super::said::text_of;
-use cw_types::{Event, Message, Vote};
+use cw_types::{Cert, Event, Message, Vote};
 use std::alloc::Global;
 use std::test::Fail;
 use std::thread::Threads;
@@ -29,8 +29,16 @@ pub(crate) enum NodeCall {
     Block(usize),
     /// A member asks for a block.
     Ask(u16, usize),
+    /// A member asks for the finalized block of a height.
+    AskHeight(u16, u64),
     /// The least pending height is acknowledged.
     Ack,
+    /// Blocks below a height are to be let go.
+    Prune(u64),
+    /// The finalization of a block in a view, by members 0, 1 and 2, is to be the floor.
+    Floor(usize, u64),
+    /// The finalized block of a height is wanted.
+    Hint(u64),
     /// A ticket for the block of a digest.
     WatchDigest(usize),
     /// A ticket for the block under a commitment.
@@ -155,6 +163,9 @@ fn event_of(alloc: Global, scene: &Scene, call: NodeCall) -> Result<Event, Fail>
         }
         NodeCall::Timeout(view) => Ok(Event::Timeout(view)),
         NodeCall::Ack => Ok(Event::Ack),
+        NodeCall::Prune(height) => Ok(Event::Prune(height)),
+        NodeCall::Hint(height) => Ok(Event::Hint(height)),
+        NodeCall::Floor(place, view) => Ok(Event::Floor(finalization(alloc, scene, place, view)?)),
         NodeCall::WatchDigest(place) => {
             Ok(Event::WatchDigest(scene.block(place)?.commitment.block))
         }
@@ -183,13 +194,17 @@ fn message_of(alloc: Global, scene: &Scene, call: NodeCall) -> Result<Message, F
             Ok(Message::Cert(certificate(alloc, vote)?))
         }
         NodeCall::Finalization(place, view) => {
-            let vote = Vote::Finalize(scene.proposal(place, view)?);
-            Ok(Message::Cert(certificate(alloc, vote)?))
+            Ok(Message::Cert(finalization(alloc, scene, place, view)?))
         }
         NodeCall::Block(place) => Ok(Message::Block(scene.block(place)?.block.copy(alloc)?)),
         NodeCall::Ask(from, place) => Ok(Message::Ask(from, scene.block(place)?.commitment)),
+        NodeCall::AskHeight(from, height) => Ok(Message::AskHeight(from, height)),
         _ => Err("a message".into()),
     }
+}
+
+fn finalization(alloc: Global, scene: &Scene, place: usize, view: u64) -> Result<Cert, Fail> {
+    certificate(alloc, Vote::Finalize(scene.proposal(place, view)?))
 }
 
 fn shard(alloc: Global, scene: &Scene, place: usize, index: usize) -> Result<Message, Fail> {
