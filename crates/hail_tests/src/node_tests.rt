@@ -1,4 +1,4 @@
-//! Tests of a member alone: what it answers to each event, with a table of the votes that were signed.
+//! Tests of a member alone: what it answers to each event, by a table of the votes that were signed.
 
 mod blocks;
 mod calls;
@@ -35,7 +35,8 @@ const FIRST: [(NodeCall, &str); 5] = [
 const SECOND: [(NodeCall, &str); 3] = [
     (
         Propose(1),
-        "0 shard 0 of 1; all shard 1 of 1; 2 shard 2 of 1; 3 shard 3 of 1; all vote 1 notarize 1 in 0/1 over 0",
+        "0 shard 0 of 1; all shard 1 of 1; 2 shard 2 of 1; 3 shard 3 of 1; \
+         all vote 1 notarize 1 in 0/1 over 0",
     ),
     (
         Notarization(1, 1),
@@ -160,7 +161,8 @@ const TORN: [(NodeCall, &str); 5] = [
     (Timeout(1), "Disk"),
     (
         Disk,
-        "[0, 0, 0, 0, 255, 255, 255, 255, 255, 255, 255, 255, 255, 255, 255, 255, 255, 255, 255, 255]",
+        "[0, 0, 0, 0, 255, 255, 255, 255, 255, 255, 255, 255, \
+         255, 255, 255, 255, 255, 255, 255, 255]",
     ),
     (Restart, "hand 0"),
     (Notes, "0"),
@@ -369,7 +371,8 @@ const VOTED_AGAIN_BY_1: [(NodeCall, &str); 1] = [(
 // Where the epoch has no end, the next block is proposed, and the last one never again.
 const PROPOSED_ABOVE: [(NodeCall, &str); 1] = [(
     Propose(2),
-    "0 shard 0 of 2; 1 shard 1 of 2; all shard 2 of 2; 3 shard 3 of 2; all vote 2 notarize 2 in 0/2 over 1",
+    "0 shard 0 of 2; 1 shard 1 of 2; all shard 2 of 2; 3 shard 3 of 2; \
+     all vote 2 notarize 2 in 0/2 over 1",
 )];
 
 const VOTED_NEVER_AGAIN: [(NodeCall, &str); 1] = [(Notarize(2, 1, 2), "")];
@@ -383,7 +386,8 @@ const NEXT_EPOCH: [(NodeCall, &str); 4] = [
     (Notes, "7"),
     (
         Propose(2),
-        "1 shard 0 of 2; all shard 1 of 2; 3 shard 2 of 2; 4 shard 3 of 2; all vote 2 notarize 2 in 1/1 over 0",
+        "1 shard 0 of 2; all shard 1 of 2; 3 shard 2 of 2; 4 shard 3 of 2; \
+         all vote 2 notarize 2 in 1/1 over 0",
     ),
     (Notes, "10"),
 ];

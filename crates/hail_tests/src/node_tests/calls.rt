@@ -45,7 +45,7 @@ pub(crate) enum NodeCall {
     WatchCommitment(usize),
     /// Lets a ticket go.
     Cancel(u64),
-    /// Its disk is to stop at a device call from now, behind so many bytes, with a fill for the rest.
+    /// Its disk is to stop at a device call from now, behind so many bytes, and fills the rest.
     StopAt(u64, u64, u8),
     /// It is started on its disk again: what the start gives.
     Restart,
