@@ -6,19 +6,24 @@ use Rattle.node.specs.Store.{Store}
 use Rattle.node.proofs.node.Node.marshal.Goals as goal
 
 pub returns : goal.returns
-returns g c = record {
-  value = λ alive.
-      let e = c.self.view_is in
-      let live : not c.self.inside.failed ≡ true = ap (λ (n : NodeState g.row.D.Denot g.row.A.Denot). n.member.live) e ∙ alive in
-      let ready = c.self.invariant (not_live c.self.inside.failed live) in
-      let store = c.marshal.ensures.store in
-      record {
-        epochs = ap (λ (s : Store). s.epochs) store ∙ (ready.stands.epochs ∙ ap (λ (n : NodeState g.row.D.Denot g.row.A.Denot). n.epochs) e);
-        backlog = ap (λ (s : Store). s.backlog) store ∙ (ready.stands.backlog ∙ ap (λ (n : NodeState g.row.D.Denot g.row.A.Denot). n.backlog) e);
-        frames = ap (λ (s : Store). s.frames) store ∙ ap (λ (n : NodeState g.row.D.Denot g.row.A.Denot). n.member.frames) e;
-        staged = ap (λ (s : Store). s.staged) store ∙ ready.quiet;
-        given = ap (λ (s : Store). s.given) store ∙ ap (λ (n : NodeState g.row.D.Denot g.row.A.Denot). n.member.given) e;
-        tickets = ap (λ (s : Store). s.tickets) store ∙ ap (λ (n : NodeState g.row.D.Denot g.row.A.Denot). n.member.tickets) e;
-        log = c.marshal.ensures.log ∙ ap (λ (n : NodeState g.row.D.Denot g.row.A.Denot). n.log) e;
-      };
-}
+returns g c =
+    let e = c.self.view_is in
+    let store = c.marshal.ensures.store in
+    let frames = ap (λ (s : Store). s.frames) store ∙ ap (λ (n : NodeState g.row.D.Denot g.row.A.Denot). n.member.frames) e in
+    let log = c.marshal.ensures.log ∙ ap (λ (n : NodeState g.row.D.Denot g.row.A.Denot). n.log) e in
+    record {
+      value = λ alive.
+          let live : not c.self.inside.failed ≡ true = ap (λ (n : NodeState g.row.D.Denot g.row.A.Denot). n.member.live) e ∙ alive in
+          let ready = c.self.invariant (not_live c.self.inside.failed live) in
+          record {
+            epochs = ap (λ (s : Store). s.epochs) store ∙ (ready.stands.epochs ∙ ap (λ (n : NodeState g.row.D.Denot g.row.A.Denot). n.epochs) e);
+            backlog = ap (λ (s : Store). s.backlog) store ∙ (ready.stands.backlog ∙ ap (λ (n : NodeState g.row.D.Denot g.row.A.Denot). n.backlog) e);
+            frames = frames;
+            staged = ap (λ (s : Store). s.staged) store ∙ ready.quiet;
+            given = ap (λ (s : Store). s.given) store ∙ ap (λ (n : NodeState g.row.D.Denot g.row.A.Denot). n.member.given) e;
+            tickets = ap (λ (s : Store). s.tickets) store ∙ ap (λ (n : NodeState g.row.D.Denot g.row.A.Denot). n.member.tickets) e;
+            log = log;
+          };
+      frames = frames;
+      log = log;
+    }
