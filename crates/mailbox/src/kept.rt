@@ -1,87 +1,72 @@
-//! The value under the lock of a mailbox.
-ghost use Rattle.std.specs.Prelude.{◌≡◌, ◌+◌, ◌<◌, ◌≤◌, ℕ, [], ◌∷◌, ◌++◌, true, Option, Some, None, IfOk, OnOk, OnErr, vec_len};
-ghost use Rattle.mailbox.specs.Replay.{IsReplay, IsEntry};
+//! The value under the lock of a session.
+
+ghost use Rattle.std.specs.Prelude.{◌≡◌, ◌+◌, ◌<◌, ◌≤◌, [], length, map, true, Some, IfOk, OnOk, OnErr};
+ghost use Rattle.mailbox.specs.Replay.{HasTurned, IsReplay};
 ghost use Rattle.mailbox.specs.Turning.{TurnsBy};
 
+use crate::mark::Mark;
 use crate::room::put;
-use crate::turn::Turn;
+use crate::session::Session;
+use crate::turn::{Turn, TurnAlone};
 use cw_base::NoMemory;
 use std::alloc::Global;
-use std::marker::{Brand, PhantomData};
-use std::sync::ledger::{Book, Ledger, Share};
-
-/// One session: the number of parts of its ledger, and the state that it opens with.
-pub trait Session<T>: Ledger {
-    ghost all: { ℕ };
-
-    ghost opening: { Option T };
-}
-
-impl<T> Session<T> for Brand {
-    ghost all = { 0 };
-
-    ghost opening = { None };
-}
+use std::marker::Model;
+use std::sync::ledger::{Book, Share};
 
 /// A state beside the history that led to it, and the book of its session's ledger.
+///
+/// Contracts see the state, the entries, and how many calls the book has counted. What each such
+/// value keeps is [`Kept::law`].
 #[derive(Drop)]
 pub struct Kept<T: Turn, L: Session<T>> {
     state: T,
     history: Vec<(T::Event, T::Reply)>,
+    // one for each entry, for a close
+    marks: Vec<Mark>,
     book: Book<L>,
-    pub ghost replayed: { IsReplay T.turns L.opening history.items state },
-    pub ghost counted: { vec_len history ≡ book.total },
 }
 
-/// That the session's number of parts is its ledger's. A struct with a token can't say so itself.
-#[derive(Drop)]
-pub struct Whole<T, L: Session<T>> {
-    state: PhantomData<T>,
-    session: PhantomData<L>,
-    ghost whole: { L.all ≡ L.parts },
-}
+impl<T: Turn, L: Session<T>> Model for Kept<T, L> {
+    ghost use Rattle.std.specs.Prelude.{◌≡◌, length, map};
+    ghost use Rattle.mailbox.specs.Replay.{Course, IsReplay};
+    ghost use Rattle.mailbox.specs.declared.mark.Mark.TheVariants.{Empty};
 
-impl<T, L: Session<T>> Whole<T, L> {
-    pub fn new() -> Whole<T, L>
-        requires { L.all ≡ L.parts }
-    {
-        Whole {
-            state: PhantomData,
-            session: PhantomData,
-        }
-    }
+    ghost Value = { Course T T.Event T.Reply };
 
-    /// Once more.
-    pub fn again(&self) -> Whole<T, L> {
-        Whole {
-            state: PhantomData,
-            session: PhantomData,
-        }
-    }
+    ghost view = { λ k. record { state = k.state; history = k.history.items; booked = k.book.total } };
 
-    /// What it says.
-    pub fn tell(&self)
-        ensures { L.all ≡ L.parts }
-    {
-        let _ = &self.state;
-    }
+    ghost invariant = { λ k. IsReplay T.turns L.opening k.history.items k.state
+        × (length k.history.items ≡ k.book.total)
+        × (k.marks.items ≡ map (λ x. Empty) k.history.items) };
 }
 
 impl<T: Turn, L: Session<T>> Kept<T, L> {
     /// A state before its first turn.
-    pub fn open(alloc: Global, book: Book<L>, state: T) -> Kept<T, L>
+    pub fn new(alloc: Global, book: Book<L>, state: T) -> Kept<T, L>
         requires opening { L.opening ≡ Some state }
-        requires empty { book.total ≡ 0 }
-        ensures { vec_len result.history ≡ 0 }
+        requires unused { book.total ≡ 0 }
+        ensures { result ≡ record { state = state; history = []; booked = 0 } }
     {
         Kept {
             state,
             history: Vec::new(alloc),
+            marks: Vec::new(alloc),
             book,
         }
     }
 
-    /// The same, turned by a function. What it calls may start threads, where a trait's method may not.
+    /// What it keeps: its history is a replay from the state that the session names to its own
+    /// state, and its book has counted each entry once.
+    pub fn law(&self)
+        ensures replay { IsReplay T.turns L.opening self.now.history self.now.state }
+        ensures booked { length self.now.history ≡ self.now.booked }
+    {
+        let _ = &self.state;
+    }
+
+    /// Turns the state once by a closure, adds the entry, and counts the call on a share of the
+    /// ledger. What the closure calls may start threads, where a trait's method may not. Refused for
+    /// memory it makes no turn. Answers the entry's place and the reply.
     pub fn enter_by<F: FnOnce(&mut T, &T::Event) -> (T::Reply, T::Reply)>(
         &mut self,
         share: &mut Share<L>,
@@ -90,52 +75,63 @@ impl<T: Turn, L: Session<T>> Kept<T, L> {
     ) -> Result<(u64, T::Reply), NoMemory>
         requires parts { 0 < share.old.parts }
         requires turn { TurnsBy F.FnOnce T.turns T.Reply.eq turn }
-        ensures entry { IfOk result (λ r. IsEntry T.Reply.eq self.old.history.items event r.1 self.new.history.items) }
-        ensures place { IfOk result (λ r. r.0 ≡ vec_len self.old.history) }
-        ensures booked { OnOk result (share.new.amount ≡ share.old.amount + 1) }
+
+        ensures turned { IfOk result (λ r. HasTurned T.turns T.Reply.eq event r.1 self.old self.new) }
+        ensures place { IfOk result (λ r. r.0 ≡ length self.old.history) }
+        ensures counted { OnOk result (share.new.amount ≡ share.old.amount + 1) }
+        // A share has counted no more calls than there are entries.
         ensures within { IfOk result (λ r. share.new.amount ≤ r.0 + 1) }
         ensures parts { share.new.parts ≡ share.old.parts }
-        ensures not_booked { OnErr result (share.new.amount ≡ share.old.amount) }
-        ensures kept { OnErr result ((self.new.history.items ≡ self.old.history.items) × (self.new.state ≡ self.old.state)) }
+
+        ensures err { OnErr result (self.new ≡ self.old) }
+        ensures not_counted { OnErr result (share.new.amount ≡ share.old.amount) }
     {
         let Kept {
             state,
             history,
+            marks,
             book,
         } = self;
         history.reserve(1)?;
+        marks.reserve(1)?;
         let place = history.len() as u64;
         let (stored, reply) = turned(state, &event, turn);
         book.add(share, 1);
         book.audit(share);
         put(history, (event, stored));
+        put(marks, Mark::Empty);
         Ok((place, reply))
     }
 
-    /// The seats with all parts were booked once for each entry.
-    pub fn audit(&mut self, share: &mut Share<L>)
+    /// A share with all parts has counted as many calls as there are entries.
+    pub(crate) fn audit(&mut self, share: &mut Share<L>)
         requires { share.old.parts ≡ L.parts }
-        ensures counted { vec_len self.new.history ≡ share.new.amount }
+        ensures counted { length self.new.history ≡ share.new.amount }
         ensures parts { share.new.parts ≡ share.old.parts }
         ensures amount { share.new.amount ≡ share.old.amount }
     {
         self.book.audit(share);
     }
 
-    /// The state and its history.
-    pub fn into_parts(self) -> (T, Vec<(T::Event, T::Reply)>)
+    /// The state, its history, and an empty mark for each entry.
+    pub(crate) fn into_parts(self) -> (T, Vec<(T::Event, T::Reply)>, Vec<Mark>)
         ensures replay { IsReplay T.turns L.opening result.1.items result.0 }
-        ensures history { result.1 ≡ self.history }
+        ensures history { result.1.items ≡ self.history }
+        ensures marks { result.2.items ≡ map (λ x. Mark.Empty) result.1.items }
     {
         let Kept {
             state,
             history,
+            marks,
             book: _,
         } = self;
-        (state, history)
+        (state, history, marks)
     }
+}
 
-    /// Turns the state, and adds the entry.
+impl<T: TurnAlone, L: Session<T>> Kept<T, L> {
+    /// Turns the state once, adds the entry, and counts the call on a share of the ledger, as
+    /// [`Kept::enter_by`] does.
     pub fn enter(
         &mut self,
         alloc: Global,
@@ -143,36 +139,27 @@ impl<T: Turn, L: Session<T>> Kept<T, L> {
         event: T::Event,
     ) -> Result<(u64, T::Reply), NoMemory>
         requires { 0 < share.old.parts }
-        ensures entry { IfOk result (λ r. IsEntry T.Reply.eq self.old.history.items event r.1 self.new.history.items) }
-        ensures place { IfOk result (λ r. r.0 ≡ vec_len self.old.history) }
-        ensures booked { OnOk result (share.new.amount ≡ share.old.amount + 1) }
+
+        ensures turned { IfOk result (λ r. HasTurned T.turns T.Reply.eq event r.1 self.old self.new) }
+        ensures place { IfOk result (λ r. r.0 ≡ length self.old.history) }
+        ensures counted { OnOk result (share.new.amount ≡ share.old.amount + 1) }
         ensures within { IfOk result (λ r. share.new.amount ≤ r.0 + 1) }
         ensures parts { share.new.parts ≡ share.old.parts }
-        ensures kept { OnErr result ((self.new.history.items ≡ self.old.history.items) × (self.new.state ≡ self.old.state)) }
-        ensures not_booked { OnErr result (share.new.amount ≡ share.old.amount) }
+
+        ensures err { OnErr result (self.new ≡ self.old) }
+        ensures not_counted { OnErr result (share.new.amount ≡ share.old.amount) }
     {
-        let Kept {
-            state,
-            history,
-            book,
-        } = self;
-        history.reserve(1)?;
-        let place = history.len() as u64;
-        let (stored, reply) = state.turn(alloc, &event);
-        book.add(share, 1);
-        book.audit(share);
-        put(history, (event, stored));
-        Ok((place, reply))
+        self.enter_by(share, event, |state, event| state.turn(alloc, event))
     }
 }
 
-// One turn, by a function.
+// One turn, by a closure.
 fn turned<T: Turn, F: FnOnce(&mut T, &T::Event) -> (T::Reply, T::Reply)>(
     state: &mut T,
     event: &T::Event,
     turn: F,
 ) -> (T::Reply, T::Reply)
-    requires turn { TurnsBy F.FnOnce T.turns T.Reply.eq turn }
+    requires { TurnsBy F.FnOnce T.turns T.Reply.eq turn }
     ensures lawful { T.turns state.old event.now result.0 state.new }
     ensures twice { T.Reply.eq result.0 result.1 ≡ true }
 {

@@ -1,17 +1,21 @@
-//! A state that turns on events, shared by threads under one lock whose content knows its history.
+//! A state that turns on events, shared by threads under one lock. What lies under the lock knows
+//! its history, and whoever closes the session learns that it is the calls that were made.
 #![tactic(auto)]
 
-mod counter;
+mod call;
 mod kept;
 mod mailbox;
-mod merge;
+mod mark;
 mod room;
+mod session;
+mod slot;
 mod turn;
 
-pub use counter::{Counter, two_turns};
-pub use kept::{Kept, Session, Whole};
-pub use mailbox::{Call, CloseError, Mailbox, Seats, Slot};
-pub use turn::Turn;
+pub use call::Call;
+pub use kept::Kept;
+pub use mailbox::{CloseError, Mailbox};
+pub use session::Session;
+pub use turn::{Turn, TurnAlone};
 
 #[cfg(test)]
 mod tests;

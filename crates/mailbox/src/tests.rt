@@ -1,7 +1,7 @@
-ghost use Rattle.std.specs.Prelude.{◌≡◌, Some};
+ghost use Rattle.std.specs.Prelude.{◌≡◌, ◌+◌, ◌%◌, ◌^◌, Some};
 
 use super::*;
-use cw_base::Gate;
+use cw_base::{Gate, NoMemory};
 use std::alloc::Global;
 use std::marker::Brand;
 use std::sync::Wait;
@@ -10,6 +10,31 @@ use std::sync::ledger::Blank;
 use std::test::*;
 use std::thread;
 use std::thread::Threads;
+
+// A number that events are added to.
+#[derive(Drop)]
+struct Counter {
+    value: u64,
+}
+
+impl Turn for Counter {
+    type Event = u64;
+
+    type Reply = u64;
+
+    ghost turns = { λ old event reply new. (new.value ≡ (old.value + event) % 2 ^ 64) × (reply ≡ new.value) };
+
+    fn copy(_alloc: Global, event: &u64) -> Result<u64, NoMemory> {
+        Ok(*event)
+    }
+}
+
+impl TurnAlone for Counter {
+    fn turn(&mut self, _alloc: Global, event: &u64) -> (u64, u64) {
+        self.value = self.value.wrapping_add(*event);
+        (self.value, self.value)
+    }
+}
 
 // Holds lane 0 until lane 1 arrives, for so many turns.
 #[derive(Drop)]
@@ -35,6 +60,7 @@ impl Gate for Door {
     }
 }
 
+// Passes the gate, and steps twice.
 fn lane<G: Gate, L: Session<Counter>, R: Wait>(
     rt: &R,
     gate: &G,
@@ -50,40 +76,48 @@ fn lane<G: Gate, L: Session<Counter>, R: Wait>(
     mailbox
 }
 
-fn two_behind_a_gate<G: Gate, L: Session<Counter> + Send + Sync, R: Threads + Wait + Sync>(
+// Two lanes on threads of their own, one at 5, one at 7: the sum and the number of entries.
+fn two_lanes<G: Gate, L: Session<Counter> + Send + Sync, R: Threads + Wait + Sync>(
     rt: &R,
     gate: &G,
     alloc: Global,
     blank: Blank,
-) -> Result<u64, Fail>
+) -> Result<Option<(u64, usize)>, NoMemory>
     requires name { blank.name ≡ L.name }
-    requires parts { (blank.parts ≡ L.parts) × (L.all ≡ L.parts) × (L.all ≡ 2) }
+    requires blank { blank.parts ≡ L.parts }
+    requires agreed { L.all ≡ L.parts }
+    requires parts { L.all ≡ 2 }
     requires opening { L.opening ≡ Some (record { value = 0 }) }
 {
     let mut mailbox: Mailbox<Counter, L> = Mailbox::new(2, alloc, blank, Counter { value: 0 })?;
     let other = mailbox.split(alloc)?;
-    let (mailbox, other) = thread::join(
+    let (mut mailbox, other) = thread::join(
         rt,
         move || lane(rt, gate, 0, alloc, mailbox, 5),
         move || lane(rt, gate, 1, alloc, other, 7),
     );
-    let mut mailbox = mailbox;
-    let Ok(()) = mailbox.join(other) else {
-        return Ok(1);
-    };
-    match mailbox.close(rt) {
-        Ok((counter, _)) => Ok(counter.value),
-        Err(_) => Ok(2),
+    if mailbox.join(alloc, other).is_err() {
+        return Err(NoMemory);
     }
+    Ok(
+        mailbox
+            .close(rt)
+            .ok()
+            .map(|(counter, history)| (counter.value, history.len())),
+    )
 }
 
+// What a close answers before the other mailbox is joined (1 for Open), and the number of entries
+// after it.
 fn one_left_out<L: Session<Counter>, R: Wait>(
     rt: &R,
     alloc: Global,
     blank: Blank,
-) -> Result<u64, Fail>
+) -> Result<(u64, usize), NoMemory>
     requires name { blank.name ≡ L.name }
-    requires parts { (blank.parts ≡ L.parts) × (L.all ≡ L.parts) × (L.all ≡ 2) }
+    requires blank { blank.parts ≡ L.parts }
+    requires agreed { L.all ≡ L.parts }
+    requires parts { L.all ≡ 2 }
     requires opening { L.opening ≡ Some (record { value = 0 }) }
 {
     let mut mailbox: Mailbox<Counter, L> = Mailbox::new(2, alloc, blank, Counter { value: 0 })?;
@@ -91,27 +125,26 @@ fn one_left_out<L: Session<Counter>, R: Wait>(
     let _ = mailbox.step(rt, alloc, 3)?;
     let mut mailbox = match mailbox.close(rt) {
         Err(CloseError::Open(mailbox)) => mailbox,
-        _ => return Ok(1),
+        _ => return Ok((0, 0)),
     };
-    let Ok(()) = mailbox.join(other) else {
-        return Ok(2);
-    };
+    if mailbox.join(alloc, other).is_err() {
+        return Err(NoMemory);
+    }
     match mailbox.close(rt) {
-        Ok((counter, history)) => Ok(
-            counter
-                .value
-                .wrapping_mul(10)
-                .wrapping_add(history.len() as u64),
-        ),
-        Err(_) => Ok(3),
+        Ok((_, history)) => Ok((1, history.len())),
+        Err(_) => Ok((1, 0)),
     }
 }
 
-fn gated<G: Gate, R: Threads + Wait + Sync>(rt: &R, gate: &G, alloc: Global) -> Result<u64, Fail> {
-    two_behind_a_gate::<G, Brand, R>(rt, gate, alloc, Blank::new(2))
+fn gated<G: Gate, R: Threads + Wait + Sync>(
+    rt: &R,
+    gate: &G,
+    alloc: Global,
+) -> Result<Option<(u64, usize)>, NoMemory> {
+    two_lanes::<G, Brand, R>(rt, gate, alloc, Blank::new(2))
 }
 
-fn left_out<R: Wait>(rt: &R, alloc: Global) -> Result<u64, Fail> {
+fn left_out<R: Wait>(rt: &R, alloc: Global) -> Result<(u64, usize), NoMemory> {
     one_left_out::<Brand, R>(rt, alloc, Blank::new(2))
 }
 
@@ -121,13 +154,13 @@ fn lanes_run_beside_each_other(rt: HostRuntime) -> Result<(), Fail> {
         open: AtomicU64::new(0),
         late: AtomicU64::new(0),
     };
-    assert_eq!(rt; gated(&rt, &door, rt.alloc())?, 24);
+    assert_eq!(rt; gated(&rt, &door, rt.alloc())?, Some((24, 4)));
     assert_eq!(rt; door.late.load(Ordering::SeqCst), 0);
     Ok(())
 }
 
 #[test]
-fn open_until_it_is_joined(rt: HostRuntime) -> Result<(), Fail> {
-    assert_eq!(rt; left_out(&rt, rt.alloc())?, 31);
+fn open_until_all_are_joined(rt: HostRuntime) -> Result<(), Fail> {
+    assert_eq!(rt; left_out(&rt, rt.alloc())?, (1, 1));
     Ok(())
 }
