@@ -4,3 +4,5 @@
 
 #[cfg(test)]
 mod marshal_tests;
+#[cfg(test)]
+mod seat_tests;

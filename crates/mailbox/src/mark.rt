@@ -2,7 +2,7 @@
 
 ghost use Rattle.std.specs.Prelude.{◌≡◌, ◌<◌, ℕ, ◌&&◌, length, map, true, false, MatchOption, Some, get_or, slice_get};
 ghost use Rattle.mailbox.specs.Calls.{IsFirstFault, is_entry, place_holds};
-ghost use Rattle.mailbox.specs.Marks.{is_empty, is_filled, marked, marked_by};
+ghost use Rattle.mailbox.specs.Marks.{is_empty, is_filled, marked, marked_by, next_mark};
 
 use crate::call::Call;
 use crate::turn::Turn;
@@ -82,11 +82,20 @@ fn mark_call<T: Turn>(
         → get_or marks.new k Mark.Empty
         ≡ marked (is_entry T.Event.eq T.Reply.eq x) k (get_or marks.old k Mark.Empty) top call.now }
 {
-    let place = call.place;
-    if place < history.len() as u64 {
-        let place = place as usize;
-        let fills = marks[place].is_empty() && top <= call.place && is_entry(call, &history[place]);
-        marks[place] = if fills { Mark::Filled } else { Mark::Failed };
+    if call.place < history.len() as u64 {
+        let place = call.place as usize;
+        marks[place] = next_mark(marks[place], top, call, &history[place]);
+    }
+}
+
+// The mark of the call's own place behind it.
+fn next_mark<T: Turn>(mark: Mark, top: u64, call: &Call<T>, entry: &(T::Event, T::Reply)) -> Mark
+    ensures { result ≡ next_mark (is_entry T.Event.eq T.Reply.eq entry.now) mark top call.now }
+{
+    if mark.is_empty() && top <= call.place && is_entry(call, entry) {
+        Mark::Filled
+    } else {
+        Mark::Failed
     }
 }
 
