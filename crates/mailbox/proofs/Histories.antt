@@ -6,7 +6,7 @@ use Rattle.std.specs.List.{list_all}
 use Rattle.std.proofs.lemmas.List.Sums.{count_by-le-length}
 use Rattle.std.proofs.lemmas.Bool.Decides.{nat_tests}
 use Rattle.mailbox.specs.declared.call.Call.{Call}
-use Rattle.mailbox.specs.Calls.{AreCalls, Each, IsEntryAt, Rises, holds_at, holds_in, none_at, place_holds, rises_at, times_at, times_in}
+use Rattle.mailbox.specs.Calls.{AreCalls, Each, IsEntryAt, IsFirstFault, Rises, holds_at, holds_in, none_at, place_holds, rises_at, times_at, times_in}
 use Rattle.mailbox.proofs.Tests.{and_both, and_left, and_right, is_less, is_same, itself, none_rises, read_at, sum_cons, times_cons}
 
 sum_split : {A : Type 0} (f g h : A → ℕ) (e : (x : A) → f x ≡ g x + h x) (xs : List A) → sum_by f xs ≡ sum_by g xs + sum_by h xs
@@ -224,6 +224,14 @@ calls_hold {T} {E} {R} {X} same history lists calls k less =
         → list_all (holds_in (same x) k) ls ≡ true
     each_list x at [] entries rising = refl
     each_list x at (l ∷ ls) entries rising =
-        and_both (holds_in (same x) k l) (list_all (holds_in (same x) k) ls)
-    (and_both (list_all (λ c. not (c.place == k) || same x c) l) (rises_at k l) (entries_hold same history k x l at entries.0) (rising_holds k l rising.0))
-    (each_list x at ls entries.1 rising.1)
+        let first : holds_in (same x) k l ≡ true = and_both (list_all (λ c. not (c.place == k) || same x c) l) (rises_at k l) (entries_hold same history k x l at entries.0) (rising_holds k l rising.0) in
+        and_both (holds_in (same x) k l) (list_all (holds_in (same x) k) ls) first (each_list x at ls entries.1 rising.1)
+
+-- where a place fails, the history isn't the calls of all lists
+pub fault_refutes : {T E R X : Type 0} (same : X → Call T E R → Bool) (history : List X) (lists : List (List (Call T E R))) (k : ℕ)
+    → IsFirstFault same history lists k → AreCalls same history lists → ⊥
+fault_refutes same history lists k fault calls =
+    let fails = fault.fails in
+    let holds = calls_hold same history lists calls k fault.within in
+    let e : true ≡ false = sym holds ∙ fails in
+    cc

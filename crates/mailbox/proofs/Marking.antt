@@ -1,6 +1,6 @@
 -- What the marks of a history tell.
-use Rattle.std.proofs.Common.{◌≡◌, ◌≢◌, ◌+◌, ◌<◌, ◌≤◌, ◌∙◌, ℕ, Bool, true, false, not, ◌&&◌, ◌||◌, ◌==◌, List, [], ◌∷◌, length, get_or, map, set, max, refl, sym, subst, arith, cond, ap}
-use Rattle.std.specs.Prelude.{slice_get, Some, nat_lt, if◌then◌else◌}
+use Rattle.std.proofs.Common.{◌≡◌, ◌≢◌, ◌+◌, ◌<◌, ◌≤◌, ◌∙◌, ℕ, zero, suc, Bool, true, false, not, ◌&&◌, ◌||◌, ◌==◌, List, [], ◌∷◌, length, get_or, map, set, max, refl, sym, subst, arith, cond, ap}
+use Rattle.std.specs.Prelude.{slice_get, Option, None, Some, MatchOption, nat_lt, if◌then◌else◌}
 use Rattle.std.specs.List.{list_all}
 use Rattle.std.proofs.lemmas.Bool.Decides.{nat_tests}
 use Rattle.std.proofs.lemmas.List.{get_or-set_same, get_or-set_other}
@@ -8,7 +8,7 @@ use Rattle.std.proofs.lemmas.Option.{slice_get_read, slice_get_within}
 use Rattle.mailbox.specs.declared.call.Call.{Call}
 use Rattle.mailbox.specs.declared.mark.Mark.{Mark}
 use Rattle.mailbox.specs.declared.mark.Mark.TheVariants.{Empty, Filled, Failed}
-use Rattle.mailbox.specs.Calls.{none_at, rises_at, holds_in, holds_at, times_in, times_at, place_holds}
+use Rattle.mailbox.specs.Calls.{IsFirstFault, none_at, rises_at, holds_in, holds_at, times_in, times_at, place_holds}
 use Rattle.mailbox.specs.Marks.{is_empty, is_filled, next_mark, marked, marked_by, marked_by_all}
 use Rattle.mailbox.proofs.Tests.{and_left, and_right, and_both, is_same, itself, none_all, none_holds, none_rises, none_times, read_at, some_times, sum_cons, times_cons}
 
@@ -139,7 +139,7 @@ passes is_it k cs = list_all (λ c. not (c.place == k) || is_it c) cs
 empty_by : {T E R : Type 0} (is_it : Call T E R → Bool) (k top : ℕ) (cs : List (Call T E R))
     → marked_by is_it k Empty top cs ≡ verdict (none_at k cs) (times_in k cs) (nat_lt k top) (holds_in is_it k cs)
 empty_by is_it k top [] = unfold verdict in refl
-empty_by {T} {E} {R} is_it k top (c ∷ cs) = step (c.place == k) refl
+empty_by {T} {E} {R} is_it k top (c ∷ cs) = step (c.place == k) refl (empty_by is_it k (max top c.place) cs)
   where
     own : marked_by is_it c.place (next_mark is_it Empty top c) (max top c.place) cs
         ≡ verdict (none_at c.place (c ∷ cs)) (times_in c.place (c ∷ cs)) (nat_lt c.place top) (holds_in is_it c.place (c ∷ cs))
@@ -153,17 +153,18 @@ empty_by {T} {E} {R} is_it k top (c ∷ cs) = step (c.place == k) refl
         ∙ sym (verdict_same _ _ _ _ _ _ _ _ none times refl holds))
 
     step : (b : Bool) → (c.place == k) ≡ b
+        → marked_by is_it k Empty (max top c.place) cs ≡ verdict (none_at k cs) (times_in k cs) (nat_lt k (max top c.place)) (holds_in is_it k cs)
         → marked_by is_it k (marked is_it k Empty top c) (max top c.place) cs
         ≡ verdict (none_at k (c ∷ cs)) (times_in k (c ∷ cs)) (nat_lt k top) (holds_in is_it k (c ∷ cs))
-    step true h =
+    step true h rest =
         let P : ℕ → Type 0 = λ q. marked_by is_it q (marked is_it q Empty top c) (max top c.place) cs ≡ verdict (none_at q (c ∷ cs)) (times_in q (c ∷ cs)) (nat_lt q top) (holds_in is_it q (c ∷ cs)) in
         subst P (is_same c.place k h) (ap (λ m. marked_by is_it c.place m (max top c.place) cs) (marked_own is_it Empty top c) ∙ own)
-    step false h =
+    step false h rest =
         let none : none_at k (c ∷ cs) ≡ none_at k cs = rw h refl in
         let times : times_in k (c ∷ cs) ≡ times_in k cs = omega (arith, times_cons k c cs, ap {B = ℕ} (λ (b : Bool). cond b 1 0) h) in
         let holds : holds_in is_it k (c ∷ cs) ≡ (passes is_it k cs && (if nat_lt k c.place then none_at k cs else rises_at k cs)) = rw h refl in
         ap (λ m. marked_by is_it k m (max top c.place) cs) (marked_other is_it k Empty top c h)
-        ∙ (empty_by is_it k (max top c.place) cs
+        ∙ (rest
         ∙ (verdict_same _ _ _ _ _ _ _ _ refl refl (over_max k top c.place) refl
         ∙ (other_verdict (none_at k cs) (nat_lt k top) (nat_lt k c.place) (passes is_it k cs) (rises_at k cs) (times_in k cs)
         ∙ sym (verdict_same _ _ _ _ _ _ _ _ none times refl holds))))
@@ -213,14 +214,14 @@ filled_if false = refl
 
 -- what one list and those behind it leave of an empty mark
 list_verdict : (n h rest : Bool) (t u : ℕ) → (n ≡ true → t ≡ 0) → (n ≡ true → h ≡ true) → (n ≡ false → 0 < t) → (u ≡ 0 → rest ≡ true)
-    → (empty filled failed : Mark) → is_filled empty ≡ ((u == 1) && rest) → filled ≡ (if u == 0 then Filled else Failed) → failed ≡ Failed
-    → (after : Mark → Mark) → after Empty ≡ empty → after Filled ≡ filled → after Failed ≡ failed
+    → (mark_0 mark_1 mark_2 : Mark) → is_filled mark_0 ≡ ((u == 1) && rest) → mark_1 ≡ (if u == 0 then Filled else Failed) → mark_2 ≡ Failed
+    → (after : Mark → Mark) → after Empty ≡ mark_0 → after Filled ≡ mark_1 → after Failed ≡ mark_2
     → is_filled (after (verdict n t false h)) ≡ ((t + u == 1) && (h && rest))
 unfolding verdict
-list_verdict true h rest t u z a s w empty filled failed e f g after ae af ag =
+list_verdict true h rest t u z a s w mark_0 mark_1 mark_2 e f g after ae af ag =
     let nothing : t + u ≡ u = omega (arith, z refl) in
     ap is_filled ae ∙ (e ∙ rw (nothing, a refl) refl)
-list_verdict false h rest t u z a s w empty filled failed e f g after ae af ag = one (t == 1) refl
+list_verdict false h rest t u z a s w mark_0 mark_1 mark_2 e f g after ae af ag = one (t == 1) refl
   where
     more : t ≢ 1 → (t + u == 1) ≡ false
     more other = let over = s refl in grind (arith, nat_tests)
@@ -273,3 +274,20 @@ pub filled_holds : {T E R X : Type 0} (same : X → Call T E R → Bool) (histor
 filled_holds {X = X} same history ls k mark less is =
     let here = read_at history k less in
     rw here.1 (ap is_filled (is here.0 here.1) ∙ marks_tell (same here.0) k ls)
+
+-- what the first mark that isn't filled tells
+pub fault_of : {T E R X : Type 0} (same : X → Call T E R → Bool) (history : List X) (ls : List (List (Call T E R))) (marks : List Mark) (found : Option ℕ)
+    → length marks ≡ length history
+    → ((k : ℕ) (x : X) → slice_get history k ≡ Some x → get_or marks k Empty ≡ marked_by_all (same x) k Empty ls)
+    → MatchOption found ((k : ℕ) → k < length marks → is_filled (get_or marks k Empty) ≡ true) (λ place. (place < length marks)
+    × (is_filled (get_or marks place Empty) ≡ false) × ((k : ℕ) → k < place → is_filled (get_or marks k Empty) ≡ true))
+    → MatchOption found ((k : ℕ) → k < length history → place_holds same history ls k ≡ true) (IsFirstFault same history ls)
+fault_of same history ls marks None len is found =
+    λ k less. sym (filled_holds same history ls k (get_or marks k Empty) less (is k)) ∙ found k (omega (arith, len, less))
+fault_of same history ls marks (Some place) len is found =
+    let within : place < length history = omega (arith, len, found.0) in
+    record {
+      within = within;
+      fails = sym (filled_holds same history ls place (get_or marks place Empty) within (is place)) ∙ found.1;
+      least = λ i less. sym (filled_holds same history ls i (get_or marks i Empty) (omega (arith, within, less)) (is i)) ∙ found.2 i less;
+    }

@@ -262,6 +262,9 @@ impl<T: Turn, L: Session<T>> Mailbox<T, L> {
         ensures differs { (place : ℕ) (history : _) (lists : _)
             → result ≡ Err (CloseError.Differs place history lists)
             → IsFirstFault (is_entry T.Event.eq T.Reply.eq) history.items (lists_of self) place }
+        ensures differs_not { (place : ℕ) (history : _) (lists : _)
+            → result ≡ Err (CloseError.Differs place history lists)
+            → AreCalls (is_entry T.Event.eq T.Reply.eq) history.items (lists_of self) → ⊥ }
         ensures differs_lists { (place : ℕ) (history : _) (lists : _)
             → result ≡ Err (CloseError.Differs place history lists)
             → (self.parts ≡ L.all) × (map (λ v. v.items) lists.items ≡ lists_of self) }

@@ -2,9 +2,14 @@ use Rattle.mailbox.proofs.Marking.{marked_past, marked_set}
 use Rattle.mailbox.specs.Calls.{is_entry}
 use Rattle.mailbox.proofs.mark.mark_call.Goals as goal
 
-pub returns-then-place-history : goal.returns-then-place-history
-returns-then-place-history g c = ?
+pub returns-then-call-history : goal.returns-then-call-history
+returns-then-call-history g c k x at =
+    marked_set (is_entry {T = g.row.T.Denot} g.T.Event.PartialEq.eq g.T.Reply.PartialEq.eq)
+    c.args.history.now c.args.marks.now k c.args.top c.args.call.now
+    c.next_mark.result c.index-history-place.result x c.if-call-history.true c.requires
+    c.index-history-place.is at c.next_mark.ensures
 
-pub returns-else-place-history : goal.returns-else-place-history
-returns-else-place-history g c k x at =
-    marked_past (is_entry {T = g.row.T.Denot} g.T.Event.PartialEq.eq g.T.Reply.PartialEq.eq) c.args.history.now _ k c.args.top c.args.call.now x c.if-place-history.false at
+pub returns-else-call-history : goal.returns-else-call-history
+returns-else-call-history g c k x at =
+    marked_past (is_entry {T = g.row.T.Denot} g.T.Event.PartialEq.eq g.T.Reply.PartialEq.eq)
+    c.args.history.now _ k c.args.top c.args.call.now x c.if-call-history.false at
