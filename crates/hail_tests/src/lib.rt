@@ -10,3 +10,5 @@ mod disks;
 mod marshal_tests;
 #[cfg(test)]
 mod node_tests;
+#[cfg(test)]
+mod seat_tests;

@@ -10,3 +10,4 @@ pub mod Asking
 pub mod Acting
 pub mod Answering
 pub mod Lives
+pub mod Seating

@@ -13,6 +13,7 @@ mod laws;
 mod missing;
 mod node;
 mod owed;
+mod seat;
 mod sends;
 mod start;
 mod store;
@@ -20,4 +21,6 @@ mod write;
 
 pub use arrival::{Arrival, Shown};
 pub use laws::life_laws;
+pub use mailbox;
 pub use node::{Node, NodeError};
+pub use seat::{Seat, step_seat};

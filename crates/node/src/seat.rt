@@ -1,0 +1,180 @@
+//! A node that takes turns, for mailboxes.
+
+ghost use Rattle.std.specs.Prelude.{◌≡◌, false, true, IfOk, OnErr};
+ghost use Rattle.std.specs.Thread.{IsSync};
+ghost use Rattle.mailbox.specs.Calls.{HasCalled};
+ghost use Rattle.node.specs.Seating.{IsSeatTurn};
+
+use crate::node::{Node, NodeError};
+use cw_base::{Digest32, Hasher, NoMemory, Strategy};
+use cw_types::{Application, Event, StepOut, Verifier};
+use mailbox::{Mailbox, Session, Turn};
+use node_disk::{Disk, StoreError};
+use std::alloc::Global;
+use std::marker::Model;
+use std::sync::Wait;
+use std::thread::Threads;
+
+/// A node beside its verifier and its strategy. Contracts see the node, the verifier, and whether an
+/// answer was lost.
+///
+/// Its turns may start threads, so a mailbox of it is stepped by [`step_seat`].
+///
+/// ```text
+/// let seat = Seat::new(node, verifier, Sequential);
+/// // in a session over L
+/// let mut mailbox: Mailbox<Seat<..>, L> = Mailbox::new(1, alloc, blank, seat)?;
+/// let place = step_seat(&rt, alloc, &mut mailbox, Event::Ack)?;
+/// ```
+#[derive(Drop)]
+pub struct Seat<
+    H: Hasher<Digest = Digest32>,
+    D: Disk,
+    A: Application + Drop,
+    V: Verifier + Drop,
+    S: Strategy + Drop,
+> {
+    node: Node<H, D, A>,
+    verifier: V,
+    strategy: S,
+    // No memory was left for the second copy of an answer.
+    lost: bool,
+}
+
+impl<
+    H: Hasher<Digest = Digest32>,
+    D: Disk,
+    A: Application + Drop,
+    V: Verifier + Drop,
+    S: Strategy + Drop,
+> Model for Seat<H, D, A, V, S> {
+    ghost use Rattle.node.specs.Seating.{SeatState};
+
+    ghost Value = { SeatState D A V };
+
+    ghost view = { λ s. record { node = s.node; verifier = s.verifier; lost = s.lost } };
+}
+
+impl<
+    H: Hasher<Digest = Digest32>,
+    D: Disk,
+    A: Application + Drop,
+    V: Verifier + Drop,
+    S: Strategy + Drop,
+> Turn for Seat<H, D, A, V, S> {
+    type Event = Event;
+
+    type Reply = Result<StepOut, NodeError>;
+
+    ghost use Rattle.node.specs.Seating.{IsSeatTurn};
+
+    ghost turns = { λ old event reply new.
+        IsSeatTurn H.digest_of A.accepts V.signs D.state D.continues old event reply new };
+
+    fn copy(alloc: Global, event: &Event) -> Result<Event, NoMemory> {
+        let copy = event.copy(alloc)?;
+        law_of_equality(&copy);
+        Ok(copy)
+    }
+}
+
+impl<
+    H: Hasher<Digest = Digest32>,
+    D: Disk,
+    A: Application + Drop,
+    V: Verifier + Drop,
+    S: Strategy + Drop,
+> Seat<H, D, A, V, S> {
+    /// Joins the three.
+    pub fn new(node: Node<H, D, A>, verifier: V, strategy: S) -> Seat<H, D, A, V, S>
+        ensures { result ≡ record { node = node; verifier = verifier; lost = false } }
+    {
+        Seat {
+            node,
+            verifier,
+            strategy,
+            lost: false,
+        }
+    }
+
+    /// Its node.
+    pub fn node(&self) -> &Node<H, D, A>
+        ensures { result.now ≡ self.now.node }
+    {
+        &self.node
+    }
+
+    /// The node takes the event, and what it answers is given twice. Where no memory is left for the
+    /// second copy it answers `NoMemory` twice, and `Failed` from then on.
+    pub fn turn<R: Threads + Sync>(
+        &mut self,
+        rt: &R,
+        alloc: Global,
+        event: &Event,
+    ) -> (Result<StepOut, NodeError>, Result<StepOut, NodeError>)
+        ensures lawful { IsSeatTurn H.digest_of A.accepts V.signs D.state D.continues self.old event.now result.0 self.new }
+        ensures twice { result.1 ≡ result.0 }
+    {
+        if self.lost {
+            return (Err(StoreError::Failed), Err(StoreError::Failed));
+        }
+        match self
+            .node
+            .step(rt, alloc, event, &self.verifier, &self.strategy)
+        {
+            Ok(out) => match out.copy(alloc) {
+                Ok(copy) => (Ok(out), Ok(copy)),
+                Err(NoMemory) => {
+                    self.lost = true;
+                    (Err(StoreError::NoMemory), Err(StoreError::NoMemory))
+                }
+            },
+            Err(error) => (Err(error), Err(error)),
+        }
+    }
+}
+
+/// Steps a mailbox of a seat: its node takes the event, under the lock. Answers the place of the
+/// entry in the history, as [`Mailbox::step_by`] does.
+pub fn step_seat<
+    H: Hasher<Digest = Digest32>,
+    D: Disk,
+    A: Application + Drop,
+    V: Verifier + Drop,
+    S: Strategy + Drop,
+    L: Session<Seat<H, D, A, V, S>>,
+    R: Threads + Wait + Sync,
+>(
+    rt: &R,
+    alloc: Global,
+    mailbox: &mut Mailbox<Seat<H, D, A, V, S>, L>,
+    event: Event,
+) -> Result<u64, NoMemory>
+    ensures ok { IfOk result (λ place. HasCalled ⟦<Event as PartialEq>⟧.eq event place mailbox.old mailbox.new) }
+    ensures err { OnErr result (mailbox.new ≡ mailbox.old) }
+{
+    mailbox.step_by(
+        rt,
+        alloc,
+        event,
+        |seat: &mut Seat<H, D, A, V, S>, event: &Event| -> (
+            Result<StepOut, NodeError>,
+            Result<StepOut, NodeError>,
+        )
+            requires { IsSync R.row }
+            ensures lawful { IsSeatTurn H.digest_of A.accepts V.signs D.state D.continues seat.old event.now result.0 seat.new }
+            ensures twice { ⟦<Result<StepOut, NodeError> as PartialEq>⟧.eq result.0 result.1 ≡ true }
+        {
+            let (stored, reply) = seat.turn(rt, alloc, event);
+            law_of_equality(&stored);
+            (stored, reply)
+        },
+    )
+}
+
+// What is equal is so to itself.
+fn law_of_equality<T: Eq>(value: &T)
+    ensures { T.eq value.now value.now ≡ true }
+{
+    let _ = value;
+}
