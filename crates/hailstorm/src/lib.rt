@@ -6,6 +6,7 @@ mod clash;
 mod entry;
 mod event;
 mod fault;
+mod frame;
 mod place;
 mod play;
 mod pool;
@@ -18,7 +19,8 @@ mod text;
 mod turn;
 mod world;
 
-pub use program::{Exit, run_program};
+pub use frame::{Early, Exit, end_early, finish, run_source};
+pub use program::run_program;
 pub use report::{Acked, Entry, Report, Sent};
 pub use storm::storm_script;
 pub use text::report_text;
