@@ -16,12 +16,13 @@ use Rattle.hailstorm.specs.declared.frame.Early.{Early}
 use Rattle.hailstorm.specs.declared.frame.Early.TheVariants as early
 use Rattle.hailstorm.specs.declared.frame.Exit.{Exit}
 use Rattle.hailstorm.specs.declared.frame.Exit.TheVariants.{Clash, Done, NoMemory, ReadFault, Refused, TooLong, Usage, WriteFault}
+use Rattle.hailstorm.specs.declared.report.Ran.{Ran}
 use Rattle.hailstorm.specs.declared.report.Report.{Report}
 use Rattle.hailstorm.specs.Headline.{Answers, EndsWith, Means, due_for, due_input, due_of, due_text, text_of}
 use Rattle.hailstorm.specs.Places.{rules_of}
 use Rattle.hailstorm.specs.Programs.{EndsEarly, HasFault, IsEarly, IsRead, early_of}
 use Rattle.hailstorm.specs.Reading.{script_limit}
-use Rattle.hailstorm.specs.Reports.{Clashing, IsCause, IsReport, shown_report}
+use Rattle.hailstorm.specs.Reports.{Clashing, IsCause, IsReport, IsRun, shown_report}
 use Rattle.hailstorm.specs.Text.{error_line, too_long_line}
 use Rattle.hailstorm.specs.Writing.{WritesFront}
 
@@ -93,8 +94,8 @@ module _ {H : Type 0} (hash : List ℕ → Digest32) (text : List ℕ) (rest hel
   meaning TooLong e l a = absurd a
   meaning ReadFault e l a = absurd a
 
-  pub done_means : (report : Report H) (result : Exit (Report H)) → IsRead hash text rest report → EndsWith hash None held written w later report result → Means hash text rest held written result
-  done_means report result read ends = meaning result read.0 read.1 (done_answer hash None text held written w later report result read.2 ends)
+  pub done_means : (ran : Ran H) (result : Exit (Report H)) → IsRead hash text rest ran → EndsWith hash None held written w later ran.report result → Means hash text rest held written result
+  done_means ran result read ends = meaning result read.at_end read.short (done_answer hash None text held written w later ran.report result read.report ends)
 
   pub early_means : (e : Early) (result : Exit (Report H)) → IsEarly hash text rest e → EndsEarly held written w later e result → Means hash text rest held written result
   early_means early.TooLong result cause (inl h) = rw h.0 (cause.0, cause.1, h.1)
@@ -118,8 +119,9 @@ module _ {H : Type 0} (hash : List ℕ → Digest32) (text given : List ℕ) (le
   within : length text ≤ script_limit
   within = subst (λ (t : List ℕ). length t ≤ script_limit) same_text l
 
-  pub run_read : (report : Report H) → IsReport hash given report → IsRead hash text rest report
-  run_read report run = (e, within, subst (λ (t : List ℕ). IsReport hash t report) same_text run)
+  pub run_read : (ran : Ran H) → script_of given ≡ Ok ran.script → IsRun hash ran.script ran.report → IsReport hash given ran.report → IsRead hash text rest ran
+  run_read ran spells run report =
+      record { at_end = e; short = within; spells = subst (λ (t : List ℕ). script_of t ≡ Ok ran.script) same_text spells; run = run; report = subst (λ (t : List ℕ). IsReport hash t ran.report) same_text report }
 
   -- why the run has no report
   pub cause_early : (x : RunError) → IsCause hash given x → IsEarly hash text rest (early_of x)

@@ -1,5 +1,5 @@
 -- What each answer of a program means that reads a script, runs it, and writes what it makes of the report.
-use Rattle.std.specs.Prelude.{ℕ, ◌+◌, ◌<◌, ◌≡◌, ◌≤◌, ◌⊎◌, Err, List, Option, length}
+use Rattle.std.specs.Prelude.{ℕ, ◌+◌, ◌<◌, ◌≡◌, ◌≤◌, ◌⊎◌, Err, List, Ok, Option, length}
 use Rattle.std.specs.Io.KnownBytes.{Appends, IsAtEnd, Keeps}
 use Rattle.cw_base.specs.Causes.{Rose}
 use Rattle.cw_base.specs.declared.hash.Digest32.{Digest32}
@@ -10,9 +10,9 @@ use Rattle.hailstorm.specs.declared.frame.Early.{Early}
 use Rattle.hailstorm.specs.declared.frame.Early.TheVariants as early
 use Rattle.hailstorm.specs.declared.frame.Exit.{Exit}
 use Rattle.hailstorm.specs.declared.frame.Exit.TheVariants.{Clash, Done, NoMemory, ReadFault, Refused, TooLong, Usage, WriteFault}
-use Rattle.hailstorm.specs.declared.report.Report.{Report}
+use Rattle.hailstorm.specs.declared.report.Ran.{Ran}
 use Rattle.hailstorm.specs.Reading.{HasRead, script_limit}
-use Rattle.hailstorm.specs.Reports.{Clashing, IsReport}
+use Rattle.hailstorm.specs.Reports.{Clashing, IsReport, IsRun}
 use Rattle.hailstorm.specs.Text.{error_line, too_long_line}
 use Rattle.hailstorm.specs.Writing.{WritesFront}
 
@@ -29,9 +29,13 @@ status_of NoMemory = 7
 
 -- ---- the parts of a program
 
--- a source that had this text left was read to its end, the text is no longer than a script, and this is the report of its run
-abbrev pub IsRead : {H : Type 0} → (List ℕ → Digest32) → List ℕ → Option (List ℕ) → Report H → Type 0
-IsRead hash text rest r = IsAtEnd rest × (length text ≤ script_limit) × IsReport hash text r
+-- a source that had this text left was read to its end, the text is no longer than a script and spells the one that was run, and this is the report of its run
+pub record IsRead {H : Type 0} (hash : List ℕ → Digest32) (text : List ℕ) (rest : Option (List ℕ)) (ran : Ran H) : Type 0 where
+  pub at_end : IsAtEnd rest
+  pub short : length text ≤ script_limit
+  pub spells : script_of text ≡ Ok ran.script
+  pub run : IsRun hash ran.script ran.report
+  pub report : IsReport hash text ran.report
 
 -- Why there is no report, for a source that had this text left. A text that is refused, or whose run ends in a clash, was read to its end, and is no longer than a script.
 abbrev pub IsEarly : (List ℕ → Digest32) → List ℕ → Option (List ℕ) → Early → Type 0

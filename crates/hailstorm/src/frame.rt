@@ -5,9 +5,9 @@ ghost use Rattle.hailstorm.specs.Programs.{EndsEarly, Finishes, HasReadFault, Is
 ghost use Rattle.hailstorm.specs.declared.frame.Early.TheVariants as cause;
 
 use crate::reading::{Reading, read_script, write_all};
-use crate::report::Report;
+use crate::report::Ran;
 use crate::text::{clash_text, error_text};
-use crate::world::World;
+use crate::world::run_text;
 use cw_base::{Digest32, Failed, Hasher, Items, Sink, Source, Strategy};
 use hail_script::RunError;
 use std::alloc::Global;
@@ -76,9 +76,9 @@ pub fn run_source<H: Hasher<Digest = Digest32>, R: Threads + Sync, I: Source, S:
     alloc: Global,
     input: &mut I,
     strategy: &S,
-) -> Result<Report<H>, Early>
-    // The source is at its end, its text is no longer than a script, and this is the report of its run.
-    ensures ok { (text : List ℕ) → I.left input.old ≡ Some text → IfOk result (λ report. IsRead H.digest_of text (I.left input.new) report) }
+) -> Result<Ran<H>, Early>
+    // The source is at its end, its text is no longer than a script and spells this one, and this is the report of its run.
+    ensures ok { (text : List ℕ) → I.left input.old ≡ Some text → IfOk result (λ ran. IsRead H.digest_of text (I.left input.new) ran) }
 
     // Each cause has its meaning for the bytes that the source had left.
     ensures err { (text : List ℕ) → I.left input.old ≡ Some text → IfErr result (λ early. IsEarly H.digest_of text (I.left input.new) early) }
@@ -87,8 +87,8 @@ pub fn run_source<H: Hasher<Digest = Digest32>, R: Threads + Sync, I: Source, S:
     ensures fault { IfErr result (λ early. HasReadFault (I.faults input.old) (I.faults input.new) early) }
 {
     match read_script(alloc, input) {
-        Reading::Whole(text) => match World::run::<H, R, S>(rt, alloc, &text, strategy) {
-            Ok(report) => Ok(report),
+        Reading::Whole(text) => match run_text::<H, R, S>(rt, alloc, &text, strategy) {
+            Ok(ran) => Ok(ran),
             Err(error) => Err(early_of(error)),
         },
         Reading::TooLong => Err(Early::TooLong),

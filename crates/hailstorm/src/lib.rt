@@ -21,7 +21,7 @@ mod world;
 
 pub use frame::{Early, Exit, end_early, finish, run_source};
 pub use program::run_program;
-pub use report::{Acked, Entry, Report, Sent};
+pub use report::{Acked, Entry, Ran, Report, Sent};
 pub use storm::storm_script;
 pub use text::report_text;
 pub use world::World;

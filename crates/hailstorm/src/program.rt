@@ -8,7 +8,7 @@ ghost use Rattle.hailstorm.specs.Reports.{shown_report};
 ghost use Rattle.hailstorm.specs.Storm as spec;
 
 use crate::frame::{Exit, early_of, end_early, finish, run_source};
-use crate::report::Report;
+use crate::report::{Ran, Report};
 use crate::seat::Seat;
 use crate::storm::{storm_script, summary_text};
 use crate::text::report_text;
@@ -97,7 +97,7 @@ fn run_input<H: Hasher<Digest = Digest32>, R: Threads + Sync, I: Source, O: Sink
     ensures silent { IsSilent (O.held output.old) (O.held output.new) result }
 {
     match run_source::<H, R, I, S>(rt, alloc, input, strategy) {
-        Ok(report) => end_with::<H, O>(alloc, None, output, report),
+        Ok(Ran { script: _, report }) => end_with::<H, O>(alloc, None, output, report),
         Err(early) => end_early(alloc, output, early),
     }
 }
