@@ -12,7 +12,9 @@ fn a_stopped_step_is_kept_whole_or_lost_whole(rt: HostRuntime) -> Result<(), Fai
     for call in 1..=5u64 {
         for cut in 0..=2u64 {
             for fill in [0u64, 1, 255] {
-                let script = format!(in rt.alloc(); "{front}cut {call} {cut} {fill} deliver 12 2\nrestart 2\n")?;
+                let script = format!(in rt.alloc();
+                    "{front}cut {call} {cut} {fill} deliver 12 2\nrestart 2\n"
+                )?;
                 let ended = run(&rt, rt.alloc(), &script)?;
                 let kept = call == 5 || (call >= 3 && (cut >= 1 || fill == 1));
                 let want = if kept { 6 } else { 5 };

@@ -14,7 +14,10 @@ use std::test::Fail;
 #[test]
 fn a_header_alone_opens_each_member(rt: HostRuntime) -> Result<(), Fail> {
     let ended = run(&rt, rt.alloc(), "cluster 4 3\n")?;
-    assert_eq!(rt; (ended.exit.status(), ended.text.as_str()), (0, HEADER_ALONE));
+    assert_eq!(rt;
+        (ended.exit.status(), ended.text.as_str()),
+        (0, HEADER_ALONE)
+    );
     Ok(())
 }
 
@@ -63,8 +66,8 @@ fn disks_hold_what_was_written(rt: HostRuntime) -> Result<(), Fail> {
         (
             "cluster 4 3\ncut 1 3 255 timeout 0 1\n",
             [
-                0, 0, 0, 0, 255, 255, 255, 255, 255, 255, 255, 255, 255, 255, 255, 255, 255, 255, 255,
-                255,
+                0, 0, 0, 0, 255, 255, 255, 255, 255, 255, 255, 255, 255, 255, 255, 255, 255, 255,
+                255, 255,
             ],
         ),
     ] {
@@ -83,7 +86,11 @@ fn disks_hold_what_was_written(rt: HostRuntime) -> Result<(), Fail> {
 fn what_is_not_run_is_answered_by_one_line(rt: HostRuntime) -> Result<(), Fail> {
     for (script, want) in REFUSED {
         let ended = run(&rt, rt.alloc(), script)?;
-        assert_eq!(rt; (ended.exit.status(), ended.text.as_str()), (3, want), "at {script}");
+        assert_eq!(rt;
+            (ended.exit.status(), ended.text.as_str()),
+            (3, want),
+            "at {script}"
+        );
     }
     let mut large = String::new(rt.alloc());
     large.push_str("cluster 4 3\npropose 1 ")?;
@@ -102,7 +109,10 @@ fn a_byte_more_than_a_script_has_is_too_long(rt: HostRuntime) -> Result<(), Fail
     bytes.resize(16_777_217, b' ')?;
     let source = MemorySource::new(bytes, 4096, Vec::new(rt.alloc()));
     let ended = run_from(&rt, rt.alloc(), &[], source)?;
-    assert_eq!(rt; (ended.exit.status(), ended.text.as_str()), (3, "error TooLong\n"));
+    assert_eq!(rt;
+        (ended.exit.status(), ended.text.as_str()),
+        (3, "error TooLong\n")
+    );
     Ok(())
 }
 
@@ -162,7 +172,11 @@ fn a_source_that_fails_ends_the_run_with_nothing_written(rt: HostRuntime) -> Res
         let failing = [call].to_vec(rt.alloc())?;
         let source = MemorySource::new(script, piece, failing);
         let ended = run_from(&rt, rt.alloc(), &[], source)?;
-        assert_eq!(rt; (ended.exit.status(), ended.text.as_str()), (5, ""), "at {call}");
+        assert_eq!(rt;
+            (ended.exit.status(), ended.text.as_str()),
+            (5, ""),
+            "at {call}"
+        );
     }
     Ok(())
 }
@@ -194,7 +208,10 @@ fn a_storm_gives_the_same_summary_twice(rt: HostRuntime) -> Result<(), Fail> {
     let first = run_from(&rt, rt.alloc(), &words, nothing(rt.alloc()))?;
     let second = run_from(&rt, rt.alloc(), &words, nothing(rt.alloc()))?;
     assert_eq!(rt; (first.exit.status(), second.exit.status()), (0, 0));
-    assert_eq!(rt; lines_of(rt.alloc(), &first.text)?.first(), Some(&"storm 7"));
+    assert_eq!(rt;
+        lines_of(rt.alloc(), &first.text)?.first(),
+        Some(&"storm 7")
+    );
     assert_eq!(rt; first.text, second.text);
     Ok(())
 }

@@ -44,7 +44,12 @@ impl Ended {
 /// Runs a script.
 pub(crate) fn run<R: Threads + Sync>(rt: &R, alloc: Global, script: &str) -> Result<Ended, Fail> {
     let bytes = script.as_bytes().to_vec(alloc)?;
-    run_from(rt, alloc, &[], MemorySource::new(bytes, 4096, Vec::new(alloc)))
+    run_from(
+        rt,
+        alloc,
+        &[],
+        MemorySource::new(bytes, 4096, Vec::new(alloc)),
+    )
 }
 
 /// Runs the program on words and a source.

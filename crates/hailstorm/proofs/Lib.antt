@@ -23,3 +23,4 @@ pub mod Rounds
 pub mod Tops
 pub mod Seating
 pub mod Numbered
+pub mod Voted

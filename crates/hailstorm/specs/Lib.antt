@@ -1,5 +1,6 @@
 pub mod Seats
 pub mod Pool
+pub mod Votes
 pub mod Places
 pub mod Offers
 pub mod Honest

@@ -17,6 +17,7 @@ mod seat;
 mod storm;
 mod text;
 mod turn;
+mod votes;
 mod world;
 
 pub use frame::{Early, Exit, end_early, finish, run_source};

@@ -206,7 +206,7 @@ fn play_all<H: Hasher<Digest = Digest32>, R: Threads + Sync, S: Strategy>(
         if let Some((earlier, later)) = find_clash::<H>(alloc, places, id, old)? {
             return Err(RunError::HashClash(earlier, later));
         }
-        pool = pool.with(entry)?;
+        pool = pool.with(alloc, entry)?;
     }
     Ok(pool.into_entries())
 }

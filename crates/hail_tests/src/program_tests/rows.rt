@@ -417,8 +417,14 @@ pub(crate) const REFUSED: [(&str, &str); 9] = [
     ("cluster 3 1\n", "error 2 BadCommittee\n"),
     ("cluster 65536 1\n", "error 2 BadCommittee\n"),
     ("cluster 4 3\ntimeout 4 1\n", "error 3 UnknownMember 2\n"),
-    ("cluster 4 3\nfaulty 0 silent\nfaulty 1 silent\n", "error 4 TooManyFaulty\n"),
+    (
+        "cluster 4 3\nfaulty 0 silent\nfaulty 1 silent\n",
+        "error 4 TooManyFaulty\n",
+    ),
     ("epochs 4 3 1 1\nmembers 0 1 2\n", "error 2 BadCommittee\n"),
     ("epochs 4 3 1 1\nmembers 0 2 1 3\n", "error 1 Syntax 2\n"),
-    ("epochs 4 3 1 1\nmembers 0 1 2 4\n", "error 3 UnknownMember 2\n"),
+    (
+        "epochs 4 3 1 1\nmembers 0 1 2 4\n",
+        "error 3 UnknownMember 2\n",
+    ),
 ];
