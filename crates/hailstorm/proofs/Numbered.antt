@@ -1,10 +1,9 @@
 -- The messages of entries, by number.
-use Rattle.std.proofs.Common.{◌≡◌, ℕ, zero, suc, ◌+◌, ◌<◌, ◌||◌, Bool, List, [], ◌∷◌, ◌++◌, length, map, Option, Some, None, refl, sym, ap, ◌∙◌, arith, subst, append_assoc, append-nil}
+use Rattle.std.proofs.Common.{◌≡◌, ℕ, zero, suc, ◌+◌, ◌<◌, List, [], ◌∷◌, ◌++◌, length, map, Option, Some, None, refl, sym, ap, ◌∙◌, arith, subst, append_assoc, append-nil}
 use Rattle.std.specs.Prelude.{flat_map, option_and_then, option_map, slice_get}
-use Rattle.std.specs.List.{list_any, range_with_len}
+use Rattle.std.specs.List.{range_with_len}
 use Rattle.std.proofs.lemmas.Grind.{flat_map-append}
 use Rattle.std.proofs.lemmas.List.{length-append, length-map, map-append}
-use Rattle.std.proofs.lemmas.List.Folds.{list_any-append}
 use Rattle.std.proofs.lemmas.Option.{slice_get-map}
 use Rattle.cw_types.specs.declared.event.Out.{Out}
 use Rattle.cw_rules.specs.Report.{Entry}
@@ -156,8 +155,3 @@ placed_more entry n old now new so pushed =
     let range : range_with_len 0 (n + 1) ≡ range_with_len 0 n ++ n ∷ [] = ap (λ (k : ℕ). range_with_len 0 k) next ∙ range_more 0 n ∙ ap (λ (k : ℕ). range_with_len 0 n ++ k ∷ []) none in
     let whole : map at (range_with_len 0 (n + 1)) ≡ map at (range_with_len 0 n) ++ (entry, n) ∷ [] = ap (λ (l : List ℕ). map at l) range ∙ map_joined at (range_with_len 0 n) n in
     pushed ∙ ap (λ (l : List (ℕ × ℕ)). l ++ (entry, n) ∷ []) so ∙ append_assoc old (map at (range_with_len 0 n)) ((entry, n) ∷ []) ∙ sym (ap (λ (l : List (ℕ × ℕ)). old ++ l) whole)
-
--- a vote among the messages is one among those of an entry
-pub some_vote : (test : Sent → Bool) (entries : List Entry) → list_any (λ e. list_any test e.sent) entries ≡ list_any test (sent_in entries)
-some_vote test [] = refl
-some_vote test (e ∷ entries) = ap (λ (b : Bool). list_any test e.sent || b) (some_vote test entries) ∙ sym (list_any-append test e.sent (sent_in entries))

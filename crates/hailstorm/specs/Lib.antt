@@ -1,5 +1,6 @@
 pub mod Seats
 pub mod Pool
+pub mod Votes
 pub mod Places
 pub mod Offers
 pub mod Honest
@@ -9,4 +10,5 @@ pub mod Storm
 pub mod Reading
 pub mod Writing
 pub mod Text
+pub mod Programs
 pub mod Headline

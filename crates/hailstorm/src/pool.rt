@@ -1,4 +1,4 @@
-//! The entries of the lines so far, and the messages in them by number.
+//! The entries of the lines so far, and the messages and votes in them by number and by signer.
 
 ghost use Rattle.std.specs.Prelude.{◌≡◌, ◌<◌, ◌^◌, ◌++◌, ◌∷◌, [], length, map, option_and_then, slice_get, IfOk, OnOk};
 ghost use Rattle.std.specs.List.{list_any, range_with_len};
@@ -7,30 +7,34 @@ ghost use Rattle.cw_rules.specs.World as rule;
 ghost use Rattle.hailstorm.specs.Pool.{sent_at, sent_in};
 
 use crate::report::{Entry, Sent};
+use crate::votes::Votes;
 use cw_base::{Items, NoMemory};
-use cw_types::{Message, Vote};
+use cw_types::Vote;
 use std::alloc::Global;
 use std::marker::Model;
 
 /// The entries of the lines so far. Each message stands in its entry alone, and is found by its number
-/// without a search. Contracts see the entries.
+/// without a search; a sent vote is looked up among its signer's of that view. Contracts see the
+/// entries.
 #[derive(Drop)]
 pub(crate) struct Pool {
     entries: Items<Entry>,
     // of each message, the number of its entry and its place there
     places: Vec<(usize, usize)>,
+    votes: Votes,
 }
 
 impl Model for Pool {
     ghost use Rattle.std.specs.Prelude.{◌≡◌, List};
     ghost use Rattle.cw_rules.specs.Report.{Entry};
-    ghost use Rattle.hailstorm.specs.Pool.{StandAt};
+    ghost use Rattle.hailstorm.specs.Pool.{StandAt, sent_in};
+    ghost use Rattle.hailstorm.specs.Votes.{TellVotes};
 
     ghost Value = { List Entry };
 
     ghost view = { λ p. p.entries };
 
-    ghost invariant = { λ p. StandAt p.entries p.places.items };
+    ghost invariant = { λ p. StandAt p.entries p.places.items × TellVotes p.votes.rounds (sent_in p.entries) };
 }
 
 impl Pool {
@@ -41,6 +45,7 @@ impl Pool {
         Pool {
             entries: Items::new(alloc),
             places: Vec::new(alloc),
+            votes: Votes::new(alloc),
         }
     }
 
@@ -65,27 +70,37 @@ impl Pool {
     pub(crate) fn has_vote(&self, member: u16, vote: &Vote) -> bool
         ensures { result ≡ list_any (rule.is_sent_vote member vote.now) (sent_in self.now) }
     {
-        some_sends(self.entries.as_slice(), member, vote)
+        self.votes.has(member, vote)
     }
 
     /// One entry more.
-    pub(crate) fn with(self, entry: Entry) -> Result<Pool, NoMemory>
+    pub(crate) fn with(self, alloc: Global, entry: Entry) -> Result<Pool, NoMemory>
         ensures { IfOk result (λ pool. pool ≡ self ++ entry ∷ []) }
     {
         let Pool {
             mut entries,
             mut places,
+            mut votes,
         } = self;
         put_places(&mut places, entries.len(), entry.sent.len())?;
+        votes.take_all(alloc, entry.sent.as_slice())?;
         entries.push(entry)?;
-        Ok(Pool { entries, places })
+        Ok(Pool {
+            entries,
+            places,
+            votes,
+        })
     }
 
     /// The entries.
     pub(crate) fn into_entries(self) -> Items<Entry>
         ensures { result ≡ self }
     {
-        let Pool { entries, places: _ } = self;
+        let Pool {
+            entries,
+            places: _,
+            votes: _,
+        } = self;
         entries
     }
 }
@@ -123,35 +138,4 @@ fn message_of<'a>(entries: &'a [Entry], entry: usize, place: usize) -> Option<&'
         None => None,
         Some(entry) => entry.sent.as_slice().get(place),
     }
-}
-
-fn is_vote_of(message: &Message, member: u16, vote: &Vote) -> bool
-    ensures { result ≡ rule.is_vote_of member vote.now message.now }
-{
-    match message {
-        Message::Vote(signer, other) => *signer == member && vote.is_same(other),
-        _ => false,
-    }
-}
-
-fn is_sent_vote(sent: &Sent, member: u16, vote: &Vote) -> bool
-    ensures { result ≡ rule.is_sent_vote member vote.now sent.now }
-{
-    sent.from == member && is_vote_of(&sent.message, member, vote)
-}
-
-fn some_sends(entries: &[Entry], member: u16, vote: &Vote) -> bool
-    ensures { result ≡ list_any (λ e. list_any (rule.is_sent_vote member vote.now) e.sent) entries.now }
-{
-    entries.iter().any(|entry| sends_vote(entry, member, vote))
-}
-
-fn sends_vote(entry: &Entry, member: u16, vote: &Vote) -> bool
-    ensures { result ≡ list_any (rule.is_sent_vote member vote.now) entry.now.sent }
-{
-    entry
-        .sent
-        .as_slice()
-        .iter()
-        .any(|sent| is_sent_vote(sent, member, vote))
 }

@@ -12,4 +12,4 @@ returns c =
     c.message_at.ensures ∙ ap (λ (o : Option (ℕ × ℕ)). option_and_then (sent_at c.as_slice.result.now) o) c.place_of-place.ensures
     ∙ ap (λ (l : List (ℕ × ℕ)). option_and_then (sent_at c.as_slice.result.now) (slice_get l c.args.number)) c.deref.ensures.value
     ∙ ap (λ (l : List Entry). option_and_then (sent_at l) (slice_get places c.args.number)) c.as_slice.ensures
-    ∙ looked_up entries places c.args.number c.self.invariant ∙ ap (λ (l : List Entry). slice_get (sent_in l) c.args.number) c.self.view_is
+    ∙ looked_up entries places c.args.number c.self.invariant.0 ∙ ap (λ (l : List Entry). slice_get (sent_in l) c.args.number) c.self.view_is

@@ -3,10 +3,9 @@ use Rattle.std.specs.List.{list_any}
 use Rattle.cw_rules.specs.Report.{Entry}
 use Rattle.cw_rules.specs.World.{is_sent_vote}
 use Rattle.hailstorm.specs.Pool.{sent_in}
-use Rattle.hailstorm.proofs.Numbered.{some_vote}
 use Rattle.hailstorm.proofs.pool.Pool.has_vote.Goals as goal
 
 pub returns : goal.returns
 returns c =
     let test = is_sent_vote c.args.member c.args.vote.now in
-    c.some_sends.ensures ∙ ap (λ (l : List Entry). list_any (λ e. list_any test e.sent) l) c.as_slice.ensures ∙ some_vote test c.self.inside.entries ∙ ap (λ (l : List Entry). list_any test (sent_in l)) c.self.view_is
+    c.has.ensures ∙ c.self.invariant.1 c.args.member c.args.vote.now ∙ ap (λ (l : List Entry). list_any test (sent_in l)) c.self.view_is

@@ -1,8 +1,8 @@
 use Rattle.std.proofs.Common.{◌≡◌, ℕ, List, [], ◌∷◌, ◌++◌, length, map, ap, sym, subst, ◌∙◌}
 use Rattle.std.specs.List.{range_with_len}
 use Rattle.cw_rules.specs.Report.{Entry}
-use Rattle.hailstorm.specs.Pool.{StandAt}
-use Rattle.hailstorm.proofs.Numbered.{stand_more}
+use Rattle.hailstorm.specs.Pool.{StandAt, sent_in}
+use Rattle.hailstorm.proofs.Numbered.{sent_more, stand_more}
 use Rattle.hailstorm.proofs.pool.Pool.with.Goals as goal
 
 pub invariant_of-result : goal.invariant_of-result
@@ -14,5 +14,8 @@ invariant_of-result c =
     c.in_ok-put_places.ensures ∙ ap (λ (k : ℕ). places ++ map (λ i. (k, i)) (range_with_len 0 c.len-2.result)) c.len.ensures
     ∙ ap (λ (k : ℕ). places ++ map (λ i. (length entries, i)) (range_with_len 0 k)) c.len-2.ensures
     ∙ ap (λ (e : Entry). places ++ map (λ i. (length entries, i)) (range_with_len 0 (length e.sent))) c.entry.view_is in
-    subst (λ (l : List Entry). StandAt l c.put_places.new.places.items) (sym c.in_ok-push.ensures.ok)
-    (subst (λ (l : List (ℕ × ℕ)). StandAt (entries ++ entry ∷ []) l) (sym put) (stand_more entries entry places c.self.invariant))
+    let stand = subst (λ (l : List Entry). StandAt l c.put_places.new.places.items) (sym c.in_ok-push.ensures.ok)
+    (subst (λ (l : List (ℕ × ℕ)). StandAt (entries ++ entry ∷ []) l) (sym put) (stand_more entries entry places c.self.invariant.0)) in
+    let sent : sent_in (entries ++ entry ∷ []) ≡ sent_in entries ++ entry.sent = sent_more entries entry in
+    let told = c.in_ok-take_all.ensures (sent_in entries) c.self.invariant.1 in
+    (stand, told)
