@@ -3,10 +3,10 @@ use Rattle.std.proofs.Common.{◌≡◌, ◌+◌, ◌<◌, ◌≤◌, ◌∙◌,
 use Rattle.std.specs.Option.{option_map_or}
 use Rattle.std.specs.Prelude.{Option, None, slice_get, Some, nat_lt, if◌then◌else◌}
 use Rattle.std.specs.List.{list_all}
-use Rattle.std.proofs.lemmas.List.Sums.{count_by-le-length}
+use Rattle.std.proofs.lemmas.List.Sums.{count_by-le-length, sum_by-append}
 use Rattle.std.proofs.lemmas.Bool.Decides.{nat_tests}
 use Rattle.mailbox.specs.declared.call.Call.{Call}
-use Rattle.mailbox.specs.Calls.{AreCalls, Each, IsEntryAt, IsFirstFault, Rises, holds_at, holds_in, none_at, place_holds, rises_at, times_at, times_in}
+use Rattle.mailbox.specs.Calls.{AreCalls, Each, calls_in, IsEntryAt, IsFirstFault, Rises, holds_at, holds_in, none_at, place_holds, rises_at, times_at, times_in}
 use Rattle.mailbox.proofs.Tests.{and_both, and_left, and_right, is_less, is_same, itself, none_rises, read_at, sum_cons, times_cons}
 
 sum_split : {A : Type 0} (f g h : A → ℕ) (e : (x : A) → f x ≡ g x + h x) (xs : List A) → sum_by f xs ≡ sum_by g xs + sum_by h xs
@@ -235,3 +235,7 @@ fault_refutes same history lists k fault calls =
     let holds = calls_hold same history lists calls k fault.within in
     let e : true ≡ false = sym holds ∙ fails in
     cc
+
+-- how many calls are in lists and one more
+pub calls_more : {C : Type 0} (lists : List (List C)) (own : List C) → calls_in (lists ++ own ∷ []) ≡ calls_in lists + length own
+calls_more lists own = omega (arith, sum_by-append (λ list. length list) lists (own ∷ []), sum_cons (λ list. length list) own [])
