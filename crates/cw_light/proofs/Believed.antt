@@ -184,7 +184,7 @@ chain_root r w (suc n) b e k = go (block_under r w b.context.parent) refl k (cha
 
 -- ---- known blocks
 
-first_in : (c : Commitment) (notes : List Note) (b : Block) → first_some (noted_block_of c) notes ≡ Some b → In (Note.Block c b) notes
+pub first_in : (c : Commitment) (notes : List Note) (b : Block) → first_some (noted_block_of c) notes ≡ Some b → In (Note.Block c b) notes
 first_in c [] b h = cc
 first_in c (Note.Block d x ∷ notes) b h = go (cases_Bool (same_commitment c d)) (first_in c notes b)
   where
@@ -198,7 +198,7 @@ first_in c (Note.Block d x ∷ notes) b h = go (cases_Bool (same_commitment c d)
 first_in c (_ ∷ notes) b h = inr (first_in c notes b h)
 
 -- the block under a commitment is known
-known_under : (r : Rules) (w : World) (c : Commitment) (b : Block) → block_under r w c ≡ Some b → IsKnown r w b
+pub known_under : (r : Rules) (w : World) (c : Commitment) (b : Block) → block_under r w c ≡ Some b → IsKnown r w b
 known_under r w c b h = go (cases_Bool (same_commitment c (genesis_commitment r)))
   where
     found : Option Block

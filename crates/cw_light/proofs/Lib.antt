@@ -1,1 +1,2 @@
 pub mod Believed
+mod Walks

@@ -14,7 +14,7 @@ use cw_types::{Cert, Committees, Verifier, Vote, quorum, well_formed};
 
 /// Whether a quorum of the members of its epoch, in the order of their numbers, signed the
 /// certificate's well-formed vote.
-pub(crate) fn is_valid<V: Verifier>(committees: &Committees, verifier: &V, cert: &Cert) -> bool
+pub fn is_valid<V: Verifier>(committees: &Committees, verifier: &V, cert: &Cert) -> bool
     ensures { (hash : List ℕ → Digest32) (backlog : ℕ) (accepts : Block → Block → Bool)
         → result ≡ rule.is_valid (coded hash committees.now backlog accepts)
         (V.signs verifier.now) cert.now }
