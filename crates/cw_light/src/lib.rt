@@ -9,6 +9,3 @@ mod signers;
 pub use check::{Answer, light_check};
 pub use laws::light_laws;
 pub use signers::is_valid;
-
-#[cfg(test)]
-mod tests;

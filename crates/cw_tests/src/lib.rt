@@ -8,6 +8,8 @@ mod coding;
 #[cfg(test)]
 mod gate;
 #[cfg(test)]
+mod light_tests;
+#[cfg(test)]
 mod shards_tests;
 #[cfg(test)]
 mod voter_tests;

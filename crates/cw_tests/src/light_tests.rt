@@ -1,7 +1,7 @@
 //! A finalization of the block "hi" of height 1 among four members, and paths down from it.
 
-use crate::{Answer, light_check};
 use cw_base::{Digest32, Hasher, Items, Sequential, Sha256};
+use cw_light::{Answer, light_check};
 use cw_types::{
     Cert, ChainBlock, Committees, Context, Payload, Proposal, Verifier, Vote, commit, genesis,
     genesis_commitment,
