@@ -1,15 +1,22 @@
 -- The blocks from one down to a height.
-use Rattle.std.proofs.Common.{◌≡◌, ℕ, zero, suc, ◌+◌, ◌-◌, ◌<◌, ◌≤◌, true, false, ◌&&◌, ◌==◌, nat_lt, cond, List, [], ◌∷◌, ◌++◌, Option, Some, None, refl, sym, ◌∙◌, ap, subst, inl, inr, ◌⊎◌, arith, eqb-true, eq-eqb, ne_eqb, append_assoc, option_and_then, option_map}
+use Rattle.std.specs.Option.{IfSome, option_map_or}
+use Rattle.std.proofs.Common.{◌≡◌, ℕ, zero, suc, ◌+◌, ◌-◌, ◌<◌, ◌≤◌, true, false, ◌&&◌, ◌==◌, nat_lt, cond, Bool, List, [], ◌∷◌, ◌++◌, Option, Some, None, refl, sym, ◌∙◌, ap, subst, inl, inr, ◌⊎◌, arith, eqb-true, eq-eqb, ne_eqb, append_assoc, option_and_then, option_map}
 use Rattle.std.proofs.lemmas.Bool.{cases_Bool, cond-false, cond-true, eqb-false}
 use Rattle.cw_types.specs.Block.{Block}
 use Rattle.cw_types.specs.declared.commitment.Commitment.{Commitment}
 use Rattle.cw_types.specs.declared.note.Note.{Note}
+use Rattle.cw_types.specs.declared.vote.Cert.{Cert}
+use Rattle.cw_types.specs.declared.vote.Proposal.{Proposal}
+use Rattle.cw_types.specs.declared.vote.Vote.{Vote}
+use Rattle.cw_types.specs.declared.vote.Vote.TheVariants.{Finalize}
 use Rattle.cw_types.specs.Same.{same_commitment}
-use Rattle.cw_rules.specs.Accepted.{first_some}
+use Rattle.cw_types.specs.Votes.{finalized}
+use Rattle.cw_rules.specs.Accepted.{first_some, is_valid}
 use Rattle.cw_rules.specs.Held.{greatest_prune, held, noted_block_of, parent_of}
 use Rattle.cw_rules.specs.Rules.{Rules, genesis, genesis_commitment}
 use Rattle.cw_rules.proofs.Lists.{and_then_some}
-use Rattle.hail_light.specs.Finding.{path_to, path_within}
+use Rattle.hail_light.specs.Finding.{path_to, path_within, shown_by}
+use Rattle.hail_light.specs.declared.search.Shown.{Shown}
 
 module _ (r : Rules) (notes : List Note) (height : ℕ) where
   -- a parent is held, one height lower
@@ -106,3 +113,30 @@ module _ (r : Rules) (notes : List Note) where
 
   pub other_height : (b a : Block) (o : Option Block) → o ≡ held r notes b.context.parent → o ≡ Some a → (a.height + 1 == b.height) ≡ false → parent_of r notes b ≡ None
   other_height b a o e s f = ap (option_and_then (λ a. cond (a.height + 1 == b.height) (Some a) None)) (sym e ∙ s) ∙ cond-false (a.height + 1 == b.height) (Some a) None f
+
+-- ---- the search of a path
+
+pub no_some : {X : Type 0} (o : Option X) → ((x : X) → o ≡ Some x → ⊥) → o ≡ None
+no_some None h = refl
+no_some (Some x) h = absurd (h x refl)
+
+-- heights fall
+pub smaller : (b : Block) (o next : Option Block) → next ≡ Some b → IfSome o (λ a. a.height + 1 ≡ b.height) → suc (option_map_or (λ (x : Block). x.height + 1) o 0) ≤ option_map_or (λ (x : Block). x.height + 1) next 0
+smaller b o next e h = subst (λ (n : Option Block). suc (option_map_or (λ (x : Block). x.height + 1) o 0) ≤ option_map_or (λ (x : Block). x.height + 1) n 0) (sym e) (go o h)
+  where
+    go : (o : Option Block) → IfSome o (λ a. a.height + 1 ≡ b.height) → suc (option_map_or (λ (x : Block). x.height + 1) o 0) ≤ b.height + 1
+    go None h = omega arith
+    go (Some a) h = omega arith
+
+-- ---- what a note shows
+
+abbrev pub pair : Cert → List Block → Shown
+pair s path = record { cert = s; path = path }
+
+-- a valid finalization shows its path
+pub shown_is : (r : Rules) (sign : ℕ → Vote → Bool) (height : ℕ) (notes : List Note) (note : Note) (s : Cert) (p : Proposal) (o : Option (List Block)) → note ≡ Note.Cert s → s.vote ≡ Finalize p → is_valid r sign s ≡ true → o ≡ path_to r notes height p.payload
+    → shown_by r sign height notes note ≡ option_map (pair s) o
+shown_is r sign height notes note s p o is final valid e =
+    ap (shown_by r sign height notes) is
+    ∙ (cond-true (is_valid r sign s) (option_map (pair s) (option_and_then (λ (q : Proposal). path_to r notes height q.payload) (finalized s.vote))) None valid
+    ∙ ap (option_map (pair s)) (ap (λ v. option_and_then (λ (q : Proposal). path_to r notes height q.payload) (finalized v)) final ∙ sym e))

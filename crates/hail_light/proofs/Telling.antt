@@ -1,25 +1,29 @@
 -- The line that is due for what was found.
-use Rattle.std.proofs.Common.{◌≡◌, ℕ, List, Option, Some, None, Ok, refl, sym, ◌∙◌, ap, subst}
+use Rattle.std.proofs.Common.{◌≡◌, ℕ, Bool, true, List, Option, Some, None, Ok, refl, sym, ◌∙◌, ap, subst}
 use Rattle.cw_base.specs.declared.hash.Digest32.{Digest32}
 use Rattle.cw_types.specs.Block.{Block}
+use Rattle.cw_types.specs.Epochs.{Epochs}
 use Rattle.cw_rules.specs.Reached.{IsCluster}
-use Rattle.cw_rules.specs.Report.{Report as Reported}
+use Rattle.cw_rules.specs.Report.{Entry, Report as Reported}
 use Rattle.cw_rules.specs.World.{signed}
 use Rattle.cw_light.specs.Believing.{IsLinkAt}
 use Rattle.cw_light.specs.Checking.{answer}
 use Rattle.cw_light.specs.declared.check.Answer.{Answer}
 use Rattle.cw_light.specs.declared.check.Answer.TheVariants.{Yes}
-use Rattle.hail_script.specs.Grammar.{script_of}
+use Rattle.cw_rules_coded.specs.Coded.{coded}
+use Rattle.hail_script.specs.Grammar.{marks, script_of}
 use Rattle.hail_script.specs.Scenario.{Scenario}
 use Rattle.hailstorm.specs.declared.report.Ran.{Ran}
 use Rattle.hailstorm.specs.declared.report.Report.{Report}
-use Rattle.hailstorm.specs.Places.{rules_of}
+use Rattle.hailstorm.specs.Places.{rules_of, table}
+use Rattle.hailstorm.specs.Pool.{sent_in}
 use Rattle.hailstorm.specs.Programs.{IsRead}
 use Rattle.hailstorm.specs.Reports.{IsRun, honest}
 use Rattle.hail_light.specs.Finding.{found_in}
 use Rattle.hail_light.specs.Telling.{IsToldRun, Tells, TellsOf, none_line, yes_line}
 use Rattle.hail_light.specs.declared.search.Shown.{Shown}
 use Rattle.hail_light.proofs.Showing.{found_told}
+use Rattle.hail_light.proofs.Tables.{table_is}
 
 module _ {H : Type 0} (hash : List ℕ → Digest32) (height : ℕ) (s : Scenario) (report : Report H) (x : IsRun hash s report) (cluster : IsCluster (rules_of hash s) s.lines) where
   abbrev found : Option Shown
@@ -38,6 +42,17 @@ module _ {H : Type 0} (hash : List ℕ → Digest32) (height : ℕ) (s : Scenari
   tells_some shown due e h =
       let (d, yes, link) = told_yes shown e in
       subst (λ (o : Option Shown). Tells (rules_of hash s) report.chain height o due) (sym e) (d, h d yes, link)
+
+  -- the same, by what the program has of the committees, the marks and the entries
+  module _ (committees : Epochs) (faulty : List Bool) (steps : List Entry) (ec : committees ≡ s.committees) (ef : faulty ≡ marks s.lines s.committees.total) (es : steps ≡ report.steps) where
+    sign : table faulty (sent_in steps) ≡ signed x.world
+    sign = ap (λ (l : List Entry). table faulty (sent_in l)) es ∙ table_is hash s report x faulty ef
+
+    pub found_is : found_in (coded hash committees s.backlog (λ b a. true)) (table faulty (sent_in steps)) height (honest x.world) ≡ found
+    found_is = λ i. found_in (coded hash (ec i) s.backlog (λ b a. true)) (sign i) height (honest x.world)
+
+    pub answer_is : (shown : Shown) → answer (coded hash committees s.backlog (λ b a. true)) (table faulty (sent_in steps)) shown.cert shown.path ≡ answer (rules_of hash s) (signed x.world) shown.cert shown.path
+    answer_is shown = λ i. answer (coded hash (ec i) s.backlog (λ b a. true)) (sign i) shown.cert shown.path
 
 -- so for a text that was read
 pub told_run : {H : Type 0} (hash : List ℕ → Digest32) (height : ℕ) (text : List ℕ) (rest : Option (List ℕ)) (ran : Ran H) (due : List ℕ) → IsRead hash text rest ran

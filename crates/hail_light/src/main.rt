@@ -7,6 +7,7 @@ mod program;
 mod search;
 mod table;
 mod text;
+mod told;
 
 use crate::program::light_program;
 use cw_base::{NoGate, Sha256, StdSink, StdSource, Threads};

@@ -1,20 +1,15 @@
 //! The program: from the bytes of a script to the line of what is shown.
 
-ghost use Rattle.std.specs.Prelude.{◌≡◌, Bool, List, ℕ, None, Some, IfOk, map, string_bytes};
-ghost use Rattle.cw_base.specs.declared.hash.Digest32.{Digest32 as DigestValue};
-ghost use Rattle.cw_light.specs.Checking.{answer};
-ghost use Rattle.cw_rules_coded.specs.Coded.{coded};
-ghost use Rattle.cw_types.specs.Block.{Block};
+ghost use Rattle.std.specs.Prelude.{◌≡◌, List, ℕ, None, Some, IfOk, map, string_bytes};
 ghost use Rattle.hailstorm.specs.Programs.{AnswersBy, HasFault, IsSilent, UsageOf};
 ghost use Rattle.hailstorm.specs.Reports.{IsRun};
 ghost use Rattle.hail_light.specs.Telling.{IsToldRun, asked_height, TellsOf, usage_line};
 
-use crate::search::{Shown, found_in};
+use crate::search::found_in;
 use crate::table::Table;
 use crate::text::{none_text, yes_text};
+use crate::told::told_of;
 use cw_base::{Digest32, Hasher, NoMemory, Sink, Source, Strategy};
-use cw_light::{Answer, light_check};
-use cw_types::{Committees, Verifier};
 use hail_script::{Script, number_of};
 use hailstorm::{Exit, Ran, Report, end_early, finish, run_source};
 use std::alloc::Global;
@@ -122,7 +117,7 @@ fn light_text<H: Hasher<Digest = Digest32>, R: Threads + Sync, S: Strategy>(
     match found_in::<H, Table>(alloc, &committees, &table, height, disks)? {
         None => none_text(alloc),
         Some(shown) => {
-            let (height, digest) = checked::<H, R, Table, S>(
+            let (height, digest) = told_of::<H, R, Table, S>(
                 rt,
                 alloc,
                 &committees,
@@ -132,27 +127,5 @@ fn light_text<H: Hasher<Digest = Digest32>, R: Threads + Sync, S: Strategy>(
             )?;
             yes_text(alloc, height, &digest)
         }
-    }
-}
-
-// The height and the digest that a light client is told of what was found.
-fn checked<H: Hasher<Digest = Digest32>, R: Threads + Sync, V: Verifier, S: Strategy>(
-    rt: &R,
-    alloc: Global,
-    committees: &Committees,
-    verifier: &V,
-    shown: &Shown,
-    strategy: &S,
-) -> Result<(u64, Digest32), NoMemory>
-    requires { (backlog : ℕ) × (accepts : Block → Block → Bool) × (height : ℕ) × (d : DigestValue)
-        × (answer (coded H.digest_of committees.now backlog accepts) (V.signs verifier.now) shown.now.cert shown.now.path ≡ Answer.Yes height d) }
-    ensures { (backlog : ℕ) (accepts : Block → Block → Bool) (height : ℕ) (d : DigestValue)
-        → answer (coded H.digest_of committees.now backlog accepts) (V.signs verifier.now) shown.now.cert shown.now.path ≡ Answer.Yes height d
-        → IfOk result (λ told. told ≡ (height, d)) }
-{
-    let path = shown.path.as_slice();
-    match light_check::<H, R, V, S>(rt, alloc, committees, &shown.cert, path, verifier, strategy)? {
-        Answer::Yes { height, digest } => Ok((height, digest)),
-        _ => unreachable!(),
     }
 }

@@ -1,6 +1,6 @@
 //! The first finalization on the disks that shows a height.
 
-ghost use Rattle.std.specs.Prelude.{[], ◌≡◌, ◌++◌, ◌∷◌, ◌==◌, ℕ, Bool, List, None, Ok, Some, IfOk, if◌then◌else◌};
+ghost use Rattle.std.specs.Prelude.{[], ◌≡◌, ◌+◌, ◌++◌, ◌∷◌, ◌==◌, ℕ, Bool, List, None, Ok, Some, IfOk, IfSome, if◌then◌else◌};
 ghost use Rattle.cw_types.specs.Block.{Block};
 ghost use Rattle.cw_types.specs.Epochs.{Epochs};
 ghost use Rattle.cw_types.specs.declared.note.Note.{Note as NoteValue};
@@ -155,8 +155,9 @@ fn parent_of<H: Hasher<Digest = Digest32>>(
     notes: &[Note],
     block: &ChainBlock,
 ) -> Result<Option<ChainBlock>, NoMemory>
-    ensures { (epochs : Epochs) (backlog : ℕ) (accepts : Block → Block → Bool)
+    ensures value { (epochs : Epochs) (backlog : ℕ) (accepts : Block → Block → Bool)
         → IfOk result (λ parent. parent ≡ rule.parent_of (coded H.digest_of epochs backlog accepts) notes.now block.now) }
+    ensures below { IfOk result (λ parent. IfSome parent (λ a. a.height + 1 ≡ block.now.height)) }
 {
     match held::<H>(alloc, notes, &block.context().parent)? {
         None => Ok(None),
