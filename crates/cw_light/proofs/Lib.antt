@@ -1,0 +1,2 @@
+pub mod Believed
+mod Walks

@@ -1,0 +1,2 @@
+pub mod Believing
+pub mod Checking
