@@ -3,4 +3,10 @@
 #![tactic(auto)]
 
 #[cfg(test)]
+mod hostile_tests;
+#[cfg(test)]
 mod marshal_tests;
+#[cfg(test)]
+mod program_tests;
+#[cfg(test)]
+mod runs;

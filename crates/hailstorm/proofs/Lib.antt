@@ -8,6 +8,7 @@ pub mod Reporting
 pub mod Early
 pub mod Outcomes
 pub mod Meaning
+pub mod Framing
 pub mod Standing
 pub mod Standings
 pub mod Closing

@@ -12,13 +12,17 @@ use Rattle.hail_script.specs.declared.error.RunError.{RunError}
 use Rattle.hail_script.specs.declared.error.RunError.TheVariants as error
 use Rattle.hail_script.specs.Grammar.{script_of}
 use Rattle.hail_script.specs.Scenario.{Scenario}
-use Rattle.hailstorm.specs.declared.program.Exit.{Exit}
-use Rattle.hailstorm.specs.declared.program.Exit.TheVariants.{Clash, Done, NoMemory, ReadFault, Refused, TooLong, Usage, WriteFault}
+use Rattle.hailstorm.specs.declared.frame.Early.{Early}
+use Rattle.hailstorm.specs.declared.frame.Early.TheVariants as early
+use Rattle.hailstorm.specs.declared.frame.Exit.{Exit}
+use Rattle.hailstorm.specs.declared.frame.Exit.TheVariants.{Clash, Done, NoMemory, ReadFault, Refused, TooLong, Usage, WriteFault}
+use Rattle.hailstorm.specs.declared.report.Ran.{Ran}
 use Rattle.hailstorm.specs.declared.report.Report.{Report}
-use Rattle.hailstorm.specs.Headline.{Answers, EndsWith, Finishes, HasFault, Means, due_for, due_input, due_of, due_text, text_of}
+use Rattle.hailstorm.specs.Headline.{Answers, EndsWith, Means, due_for, due_input, due_of, due_text, text_of}
 use Rattle.hailstorm.specs.Places.{rules_of}
+use Rattle.hailstorm.specs.Programs.{EndsEarly, HasFault, IsEarly, IsRead, early_of}
 use Rattle.hailstorm.specs.Reading.{script_limit}
-use Rattle.hailstorm.specs.Reports.{Clashing, IsCause, IsReport, shown_report}
+use Rattle.hailstorm.specs.Reports.{Clashing, IsCause, IsReport, IsRun, shown_report}
 use Rattle.hailstorm.specs.Text.{error_line, too_long_line}
 use Rattle.hailstorm.specs.Writing.{WritesFront}
 
@@ -26,55 +30,111 @@ use Rattle.hailstorm.specs.Writing.{WritesFront}
 due_clash : (hash : List ℕ → Digest32) (storm : Option ℕ) (script earlier later : List ℕ) → Clashing hash script earlier later → error_line (error.HashClash earlier later) ≡ due_text hash storm script
 due_clash hash storm script earlier later h = sym (ap (due_for hash storm h.0) h.2.ends) ∙ sym (ap (due_of hash storm) h.1)
 
-module _ {H : Type 0} (hash : List ℕ → Digest32) (storm : Option ℕ) (script : List ℕ) (held written : Option (List ℕ)) where
+-- the line of a refusal is the text that is due
+due_refused : (hash : List ℕ → Digest32) (storm : Option ℕ) (script : List ℕ) (e : RunError) → script_of script ≡ Err e → error_line e ≡ due_text hash storm script
+due_refused hash storm script e spells = sym (ap (due_of hash storm) spells)
+
+module _ {H : Type 0} (hash : List ℕ → Digest32) (storm : Option ℕ) (script : List ℕ) where
   -- the text of a report is the one that is due
   due_done : (r : Report H) → IsReport hash script r → text_of hash storm (shown_report r) ≡ due_text hash storm script
   due_done r h =
       ap (text_of hash storm) h.run.told ∙ sym (ap (due_for hash storm h.script) h.run.ends) ∙ sym (ap (due_of hash storm) h.in_grammar)
 
-  pub done_answer : (w later : ℕ) (report : Report H) (text : List ℕ) (result : Exit (Report H)) → IsReport hash script report → text ≡ text_of hash storm (shown_report report) → Finishes held written w later text (Done report) result → Answers hash storm script held written result
-  done_answer w later report text result run is (inl h) = rw h.0 (run, subst (λ (t : List ℕ). Appends held written t) is h.1)
-  done_answer w later report text result run is (inr h) = rw h.0 (subst (λ (t : List ℕ). WritesFront held written t) (is ∙ due_done report run) h.2)
+-- the same text is due
+same_front : (held written : Option (List ℕ)) (text due : List ℕ) → text ≡ due → WritesFront held written text → WritesFront held written due
+same_front held written text due is h = subst (λ (t : List ℕ). WritesFront held written t) is h
 
-  refused_answer : (w later : ℕ) (e : RunError) (text : List ℕ) (result : Exit (Report H)) → script_of script ≡ Err e → text ≡ error_line e → Finishes held written w later text (Refused e) result → Answers hash storm script held written result
-  refused_answer w later e text result spells is (inl h) = rw h.0 (spells, subst (λ (t : List ℕ). Appends held written t) is h.1)
-  refused_answer w later e text result spells is (inr h) = rw h.0 (subst (λ (t : List ℕ). WritesFront held written t) (is ∙ sym (ap (due_of hash storm) spells)) h.2)
+-- ---- of a script
 
-  pub error_answer : (w later : ℕ) (e : RunError) (text : List ℕ) (result : Exit (Report H)) → IsCause hash script e → text ≡ error_line e → EndsWith held written w later text e result → Answers hash storm script held written result
-  error_answer w later error.NoMemory text result cause is h = rw h.0 h.1
-  error_answer w later (error.HashClash earlier later') text result cause is (inl h) = rw h.0 (cause, subst (λ (t : List ℕ). Appends held written t) is h.1)
-  error_answer w later (error.HashClash earlier later') text result cause is (inr h) = rw h.0 (subst (λ (t : List ℕ). WritesFront held written t) (is ∙ due_clash hash storm script earlier later' cause) h.2)
-  error_answer w later error.BadCommittee text result cause is h = refused_answer w later error.BadCommittee text result cause is h
-  error_answer w later error.TooManyFaulty text result cause is h = refused_answer w later error.TooManyFaulty text result cause is h
-  error_answer w later (error.Syntax line) text result cause is h = refused_answer w later (error.Syntax line) text result cause is h
-  error_answer w later (error.UnknownMember line) text result cause is h = refused_answer w later (error.UnknownMember line) text result cause is h
-  error_answer w later (error.OversizeBlock line) text result cause is h = refused_answer w later (error.OversizeBlock line) text result cause is h
+module _ {H : Type 0} (hash : List ℕ → Digest32) (storm : Option ℕ) (script : List ℕ) (held written : Option (List ℕ)) (w later : ℕ) where
+  pub done_answer : (report : Report H) (result : Exit (Report H)) → IsReport hash script report → EndsWith hash storm held written w later report result → Answers hash storm script held written result
+  done_answer report result run (inl (inl h)) = rw h.0 (run, h.1)
+  done_answer report result run (inl (inr h)) = rw h.0 (same_front held written _ _ (due_done hash storm script report run) h.2)
+  done_answer report result run (inr h) = rw h.0 h.1
+
+  refused_answer : (e : RunError) (result : Exit (Report H)) → script_of script ≡ Err e → EndsEarly held written w later (early.Refused e) result → Answers hash storm script held written result
+  refused_answer e result spells (inl (inl h)) = rw h.0 (spells, h.1)
+  refused_answer e result spells (inl (inr h)) = rw h.0 (same_front held written _ _ (due_refused hash storm script e spells) h.2)
+  refused_answer e result spells (inr h) = rw h.0 h.1
+
+  clash_answer : (earlier later' : List ℕ) (result : Exit (Report H)) → Clashing hash script earlier later' → EndsEarly held written w later (early.Clash earlier later') result → Answers hash storm script held written result
+  clash_answer earlier later' result cause (inl (inl h)) = rw h.0 (cause, h.1)
+  clash_answer earlier later' result cause (inl (inr h)) = rw h.0 (same_front held written _ _ (due_clash hash storm script earlier later' cause) h.2)
+  clash_answer earlier later' result cause (inr h) = rw h.0 h.1
+
+  pub error_answer : (e : RunError) (result : Exit (Report H)) → IsCause hash script e → EndsEarly held written w later (early_of e) result → Answers hash storm script held written result
+  error_answer error.NoMemory result cause h = rw h.0 h.1
+  error_answer (error.HashClash earlier later') result cause h = clash_answer earlier later' result cause h
+  error_answer error.BadCommittee result cause h = refused_answer error.BadCommittee result cause h
+  error_answer error.TooManyFaulty result cause h = refused_answer error.TooManyFaulty result cause h
+  error_answer (error.Syntax line) result cause h = refused_answer (error.Syntax line) result cause h
+  error_answer (error.UnknownMember line) result cause h = refused_answer (error.UnknownMember line) result cause h
+  error_answer (error.OversizeBlock line) result cause h = refused_answer (error.OversizeBlock line) result cause h
+
+-- ---- of what a source gave
+
+-- within the bound it is the text that is due for the input
+due_short : (hash : List ℕ → Digest32) (text : List ℕ) → length text ≤ script_limit → due_text hash None text ≡ due_input hash text
+due_short hash text h = rw (le-ltb script_limit (length text) h) refl
+
+is_above : (limit n : ℕ) → limit < n → nat_lt limit n ≡ true
+is_above limit n h = grind (arith, nat_tests)
+
+due_long : (hash : List ℕ → Digest32) (text : List ℕ) → script_limit < length text → due_input hash text ≡ too_long_line
+due_long hash text h = rw (is_above script_limit (length text) h) refl
+
+module _ {H : Type 0} (hash : List ℕ → Digest32) (text : List ℕ) (rest held written : Option (List ℕ)) (w later : ℕ) where
+  meaning : (result : Exit (Report H)) → IsAtEnd rest → length text ≤ script_limit → Answers hash None text held written result → Means hash text rest held written result
+  meaning (Done r) e l a = (e, l, a.0, a.1)
+  meaning (Refused x) e l a = (e, l, a.0, a.1)
+  meaning (Clash x y) e l a = (e, l, a.0, a.1)
+  meaning WriteFault e l a = same_front held written _ _ (due_short hash text l) a
+  meaning NoMemory e l a = a
+  meaning Usage e l a = absurd a
+  meaning TooLong e l a = absurd a
+  meaning ReadFault e l a = absurd a
+
+  pub done_means : (ran : Ran H) (result : Exit (Report H)) → IsRead hash text rest ran → EndsWith hash None held written w later ran.report result → Means hash text rest held written result
+  done_means ran result read ends = meaning result read.at_end read.short (done_answer hash None text held written w later ran.report result read.report ends)
+
+  pub early_means : (e : Early) (result : Exit (Report H)) → IsEarly hash text rest e → EndsEarly held written w later e result → Means hash text rest held written result
+  early_means early.TooLong result cause (inl h) = rw h.0 (cause.0, cause.1, h.1)
+  early_means early.TooLong result cause (inr h) = rw h.0 (same_front held written _ _ (sym (due_long hash text cause.0)) h.2)
+  early_means (early.Refused e) result cause ends = meaning result cause.0 cause.1 (refused_answer hash None text held written w later e result cause.2 ends)
+  early_means (early.Clash earlier later') result cause ends = meaning result cause.0 cause.1 (clash_answer hash None text held written w later earlier later' result cause.2 ends)
+  early_means early.ReadFault result cause ends = rw ends.0 ends.1
+  early_means early.NoMemory result cause ends = rw ends.0 ends.1
+
+-- ---- reading and running
 
 -- what was read to the end is what the source had left
 all_read : (text given : List ℕ) (rest : Option (List ℕ)) → Consumes (Some text) rest given → IsAtEnd rest → given ≡ text
 all_read text given None c e = absurd c
 all_read text given (Some ys) c e = sym (c ∙ rw e (append-nil given))
 
--- within the bound it is the text that is due for the input
-due_short : (hash : List ℕ → Digest32) (text : List ℕ) → length text ≤ script_limit → due_text hash None text ≡ due_input hash text
-due_short hash text h = rw (le-ltb script_limit (length text) h) refl
+module _ {H : Type 0} (hash : List ℕ → Digest32) (text given : List ℕ) (left rest : Option (List ℕ)) (is : left ≡ Some text) (c : Consumes left rest given) (e : IsAtEnd rest) (l : length given ≤ script_limit) where
+  same_text : given ≡ text
+  same_text = all_read text given rest (subst (λ (o : Option (List ℕ)). Consumes o rest given) is c) e
 
-module _ {H : Type 0} (hash : List ℕ → Digest32) where
-  meaning : (text : List ℕ) (rest held written : Option (List ℕ)) (result : Exit (Report H)) → IsAtEnd rest → length text ≤ script_limit → Answers hash None text held written result → Means hash text rest held written result
-  meaning text rest held written (Done r) e l a = (e, l, a.0, a.1)
-  meaning text rest held written (Refused x) e l a = (e, l, a.0, a.1)
-  meaning text rest held written (Clash x y) e l a = (e, l, a.0, a.1)
-  meaning text rest held written WriteFault e l a = subst (λ (t : List ℕ). WritesFront held written t) (due_short hash text l) a
-  meaning text rest held written NoMemory e l a = a
-  meaning text rest held written Usage e l a = absurd a
-  meaning text rest held written TooLong e l a = absurd a
-  meaning text rest held written ReadFault e l a = absurd a
+  within : length text ≤ script_limit
+  within = subst (λ (t : List ℕ). length t ≤ script_limit) same_text l
 
-  pub whole_means : (text given : List ℕ) (left rest held written : Option (List ℕ)) (result : Exit (Report H)) → left ≡ Some text → Consumes left rest given → IsAtEnd rest → length given ≤ script_limit → Answers hash None given held written result → Means hash text rest held written result
-  whole_means text given left rest held written result is c e l a =
-      let c' = subst (λ (o : Option (List ℕ)). Consumes o rest given) is c in
-      let same = all_read text given rest c' e in
-      meaning text rest held written result e (subst (λ (t : List ℕ). length t ≤ script_limit) same l) (subst (λ (t : List ℕ). Answers hash None t held written result) same a)
+  pub run_read : (ran : Ran H) → script_of given ≡ Ok ran.script → IsRun hash ran.script ran.report → IsReport hash given ran.report → IsRead hash text rest ran
+  run_read ran spells run report =
+      record { at_end = e; short = within; spells = subst (λ (t : List ℕ). script_of t ≡ Ok ran.script) same_text spells; run = run; report = subst (λ (t : List ℕ). IsReport hash t ran.report) same_text report }
+
+  -- why the run has no report
+  pub cause_early : (x : RunError) → IsCause hash given x → IsEarly hash text rest (early_of x)
+  cause_early x cause = go x (subst (λ (t : List ℕ). IsCause hash t x) same_text cause)
+    where
+      go : (x : RunError) → IsCause hash text x → IsEarly hash text rest (early_of x)
+      go error.NoMemory cause = tt
+      go (error.HashClash earlier later) cause = (e, within, cause)
+      go error.BadCommittee cause = (e, within, cause)
+      go error.TooManyFaulty cause = (e, within, cause)
+      go (error.Syntax line) cause = (e, within, cause)
+      go (error.UnknownMember line) cause = (e, within, cause)
+      go (error.OversizeBlock line) cause = (e, within, cause)
 
 -- ---- too long a script
 
@@ -90,20 +150,11 @@ long_read limit text gave (Some ys) c n =
     let behind : ys ≡ drop (limit + 1) text = sym (drop_front gave ys) ∙ ap (λ (k : ℕ). drop k (gave ++ ys)) n ∙ sym (ap (λ (l : List ℕ). drop (limit + 1) l) c) in
     (omega (arith, many, n), ap (λ (l : List ℕ). let o : Option (List ℕ) = Some l in o) behind)
 
-is_above : (limit n : ℕ) → limit < n → nat_lt limit n ≡ true
-is_above limit n h = grind (arith, nat_tests)
+pub too_long_early : (hash : List ℕ → Digest32) (text : List ℕ) (left rest : Option (List ℕ)) → left ≡ Some text → (gave : List ℕ) × Consumes left rest gave × (length gave ≡ script_limit + 1)
+    → IsEarly hash text rest early.TooLong
+too_long_early hash text left rest is read = long_read script_limit text read.0 rest (subst (λ (o : Option (List ℕ)). Consumes o rest read.0) is read.1) read.2
 
-due_long : (hash : List ℕ → Digest32) (text : List ℕ) → script_limit < length text → due_input hash text ≡ too_long_line
-due_long hash text h = rw (is_above script_limit (length text) h) refl
-
-pub too_long_answer : {H : Type 0} (hash : List ℕ → Digest32) (text : List ℕ) (left rest held written : Option (List ℕ)) (w later : ℕ) (result : Exit (Report H)) → left ≡ Some text
-    → (gave : List ℕ) × Consumes left rest gave × (length gave ≡ script_limit + 1) → Finishes held written w later too_long_line TooLong result → Means hash text rest held written result
-too_long_answer hash text left rest held written w later result is read (inl h) =
-    let long = long_read script_limit text read.0 rest (subst (λ (o : Option (List ℕ)). Consumes o rest read.0) is read.1) read.2 in
-    rw h.0 (long.0, long.1, h.1)
-too_long_answer hash text left rest held written w later result is read (inr h) =
-    let long = long_read script_limit text read.0 rest (subst (λ (o : Option (List ℕ)). Consumes o rest read.0) is read.1) read.2 in
-    rw h.0 (subst (λ (t : List ℕ). WritesFront held written t) (sym (due_long hash text long.0)) h.2)
+-- ---- faults
 
 no_rose : Rose 0 0 → ⊥
 no_rose h = omega arith

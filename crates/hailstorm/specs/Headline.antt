@@ -1,7 +1,6 @@
 -- What each answer of the program means.
 use Rattle.std.specs.Prelude.{[], ℕ, ◌+◌, ◌<◌, ◌∷◌, ◌≡◌, ◌≤◌, ◌⊎◌, Err, List, None, Ok, Option, Result, Some, bytes_eq, codes, drop, if◌then◌else◌, length, nat_lt, option_map}
 use Rattle.std.specs.Io.KnownBytes.{Appends, IsAtEnd, Keeps}
-use Rattle.cw_base.specs.Causes.{Rose}
 use Rattle.cw_base.specs.declared.hash.Digest32.{Digest32}
 use Rattle.cw_rules.specs.Chains.{Clashes, Ends, Outcome, outcome}
 use Rattle.cw_rules.specs.Report.{Report as Reported, report_of}
@@ -11,25 +10,15 @@ use Rattle.hail_script.specs.declared.error.RunError.TheVariants as error
 use Rattle.hail_script.specs.Grammar.{script_of}
 use Rattle.hail_script.specs.Pieces.{number}
 use Rattle.hail_script.specs.Scenario.{Scenario}
-use Rattle.hailstorm.specs.declared.program.Exit.{Exit}
-use Rattle.hailstorm.specs.declared.program.Exit.TheVariants.{Clash, Done, NoMemory, ReadFault, Refused, TooLong, Usage, WriteFault}
+use Rattle.hailstorm.specs.declared.frame.Exit.{Exit}
+use Rattle.hailstorm.specs.declared.frame.Exit.TheVariants.{Clash, Done, NoMemory, ReadFault, Refused, TooLong, Usage, WriteFault}
 use Rattle.hailstorm.specs.declared.report.Report.{Report}
 use Rattle.hailstorm.specs.Places.{rules_of}
-use Rattle.hailstorm.specs.Reading.{script_limit}
+use Rattle.hailstorm.specs.Programs.{Finishes, IsShort, UsageOf}
+use Rattle.hailstorm.specs.Reading.{HasRead, script_limit}
 use Rattle.hailstorm.specs.Reports.{Clashing, IsReport, shown_report}
 use Rattle.hailstorm.specs.Text.{error_line, report_text, summary_text, too_long_line, usage_line}
 use Rattle.hailstorm.specs.Writing.{WritesFront}
-
--- the exit status
-abbrev pub status_of : {R : Type 0} → Exit R → ℕ
-status_of (Done r) = 0
-status_of Usage = 2
-status_of TooLong = 3
-status_of (Refused e) = 3
-status_of (Clash earlier later) = 4
-status_of ReadFault = 5
-status_of WriteFault = 6
-status_of NoMemory = 7
 
 -- `storm` and a number
 abbrev pub asked_storm : List ℕ → List ℕ → Option (Option ℕ)
@@ -63,10 +52,6 @@ due_text hash storm text = due_of hash storm (script_of text)
 abbrev pub due_input : (List ℕ → Digest32) → List ℕ → List ℕ
 due_input hash text = if nat_lt script_limit (length text) then too_long_line else due_text hash None text
 
--- so many bytes of a text were read, and no more
-abbrev pub HasRead : ℕ → List ℕ → Option (List ℕ) → Type 0
-HasRead count text rest = rest ≡ Some (drop count text)
-
 module _ {H : Type 0} (hash : List ℕ → Digest32) where
   -- What each answer means for a script of this text. Done: this is the report of its run, and the sink took its whole text, or its summary, and nothing else.
   abbrev pub Answers : Option ℕ → List ℕ → Option (List ℕ) → Option (List ℕ) → Exit (Report H) → Type 0
@@ -92,44 +77,8 @@ module _ {H : Type 0} (hash : List ℕ → Digest32) where
 
 -- with other words: the usage is written
 abbrev pub MeansUsage : {R : Type 0} → Option (List ℕ) → Option (List ℕ) → Exit R → Type 0
-MeansUsage held written Usage = Appends held written usage_line
-MeansUsage held written WriteFault = WritesFront held written usage_line
-MeansUsage held written (Done r) = ⊥
-MeansUsage held written TooLong = ⊥
-MeansUsage held written (Refused e) = ⊥
-MeansUsage held written (Clash earlier later) = ⊥
-MeansUsage held written ReadFault = ⊥
-MeansUsage held written NoMemory = ⊥
+MeansUsage held written exit = UsageOf usage_line held written exit
 
--- the cause of a fault: the source's count of faults rose, or the sink's
-abbrev pub HasFault : {R : Type 0} → ℕ → ℕ → ℕ → ℕ → Exit R → Type 0
-HasFault reads later_reads writes later_writes ReadFault = Rose reads later_reads
-HasFault reads later_reads writes later_writes WriteFault = Rose writes later_writes
-HasFault reads later_reads writes later_writes (Done r) = Unit {0}
-HasFault reads later_reads writes later_writes Usage = Unit {0}
-HasFault reads later_reads writes later_writes TooLong = Unit {0}
-HasFault reads later_reads writes later_writes (Refused e) = Unit {0}
-HasFault reads later_reads writes later_writes (Clash earlier later) = Unit {0}
-HasFault reads later_reads writes later_writes NoMemory = Unit {0}
-
--- where the source failed, or memory is short, the sink took nothing
-abbrev pub IsSilent : {R : Type 0} → Option (List ℕ) → Option (List ℕ) → Exit R → Type 0
-IsSilent held written ReadFault = Keeps held written
-IsSilent held written NoMemory = Keeps held written
-IsSilent held written (Done r) = Unit {0}
-IsSilent held written Usage = Unit {0}
-IsSilent held written TooLong = Unit {0}
-IsSilent held written (Refused e) = Unit {0}
-IsSilent held written (Clash earlier later) = Unit {0}
-IsSilent held written WriteFault = Unit {0}
-
--- The text was written and the end is as given, or the sink failed behind a front of the text.
-abbrev pub Finishes : {R : Type 0} → Option (List ℕ) → Option (List ℕ) → ℕ → ℕ → List ℕ → Exit R → Exit R → Type 0
-Finishes held written writes later_writes text exit result =
-    ((result ≡ exit) × Appends held written text) ⊎ ((result ≡ WriteFault) × Rose writes later_writes × WritesFront held written text)
-
--- the line of the error was written and the end is so, or the sink failed behind a front of it; for want of memory nothing is written
-abbrev pub EndsWith : {R : Type 0} → Option (List ℕ) → Option (List ℕ) → ℕ → ℕ → List ℕ → RunError → Exit R → Type 0
-EndsWith held written writes later_writes text error.NoMemory result = (result ≡ NoMemory) × Keeps held written
-EndsWith held written writes later_writes text (error.HashClash earlier later) result = Finishes held written writes later_writes text (Clash earlier later) result
-EndsWith held written writes later_writes text e result = Finishes held written writes later_writes text (Refused e) result
+-- the text of the report, or its summary, was written and the end is so, or the sink failed behind a front of it; for want of memory nothing is written
+abbrev pub EndsWith : {H : Type 0} → (List ℕ → Digest32) → Option ℕ → Option (List ℕ) → Option (List ℕ) → ℕ → ℕ → Report H → Exit (Report H) → Type 0
+EndsWith hash storm held written writes later_writes r exit = Finishes held written writes later_writes (text_of hash storm (shown_report r)) (Done r) exit ⊎ IsShort held written exit

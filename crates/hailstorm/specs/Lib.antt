@@ -9,4 +9,5 @@ pub mod Storm
 pub mod Reading
 pub mod Writing
 pub mod Text
+pub mod Programs
 pub mod Headline

@@ -2,63 +2,23 @@
 
 ghost use Rattle.std.specs.Prelude.{◌≡◌, ◌≢◌, List, ℕ, None, Some, IfOk, map, string_bytes, option_map};
 ghost use Rattle.hailstorm.specs.Headline as headline;
-ghost use Rattle.hailstorm.specs.Headline.{status_of, Means, MeansUsage, Answers, HasFault, IsSilent, Finishes};
+ghost use Rattle.hailstorm.specs.Headline.{Means, MeansUsage, Answers};
+ghost use Rattle.hailstorm.specs.Programs.{HasFault, IsSilent};
 ghost use Rattle.hailstorm.specs.Reports.{shown_report};
 ghost use Rattle.hailstorm.specs.Storm as spec;
 
-use crate::reading::{Reading, read_script, write_all};
-use crate::report::Report;
+use crate::frame::{Exit, early_of, end_early, finish, run_source};
+use crate::report::{Ran, Report};
 use crate::seat::Seat;
 use crate::storm::{storm_script, summary_text};
-use crate::text::{error_text, report_text};
+use crate::text::report_text;
 use crate::world::World;
-use cw_base::{Digest32, Failed, Hasher, Items, NoMemory, Sink, Source, Strategy};
-use hail_script::{RunError, number_of};
+use cw_base::{Digest32, Hasher, NoMemory, Sink, Source, Strategy};
+use hail_script::number_of;
 use std::alloc::Global;
 use std::thread::Threads;
 
-/// How the program ends. Each end but want of memory and a fault has written one text, whole.
-#[derive(Drop)]
-pub enum Exit<R> {
-    /// The text of the report was written, or the summary of a storm.
-    Done(R),
-    /// The words were neither none nor `storm` and a number.
-    Usage,
-    /// The source gave more than 16,777,216 bytes.
-    TooLong,
-    /// The text isn't run.
-    Refused(RunError),
-    /// The run ends in two blocks of one digest. Their encodings, the earlier first.
-    Clash(Items<u8>, Items<u8>),
-    /// The source failed. Nothing was written.
-    ReadFault,
-    /// The sink failed. What it took is a front of the text.
-    WriteFault,
-    /// Memory is short. Nothing was written.
-    NoMemory,
-}
-
-impl<R> Exit<R> {
-    /// The exit status: 0, 2, 3, 3, 4, 5, 6 and 7, in the order of the variants.
-    pub fn status(&self) -> u8
-        ensures { result ≡ status_of self.now }
-    {
-        match self {
-            Exit::Done(_) => 0,
-            Exit::Usage => 2,
-            Exit::TooLong => 3,
-            Exit::Refused(_) => 3,
-            Exit::Clash(..) => 4,
-            Exit::ReadFault => 5,
-            Exit::WriteFault => 6,
-            Exit::NoMemory => 7,
-        }
-    }
-}
-
 const USAGE: &[u8] = b"usage: hail_run [storm N]\n";
-
-const TOO_LONG: &[u8] = b"error TooLong\n";
 
 /// Without words reads a script to its end, runs it, and writes its report; with `storm N` runs the
 /// script of that storm and writes a summary. All text is made before the first byte is written. The
@@ -136,11 +96,9 @@ fn run_input<H: Hasher<Digest = Digest32>, R: Threads + Sync, I: Source, O: Sink
     ensures fault { HasFault (I.faults input.old) (I.faults input.new) (O.faults output.old) (O.faults output.new) result }
     ensures silent { IsSilent (O.held output.old) (O.held output.new) result }
 {
-    match read_script(alloc, input) {
-        Reading::Whole(text) => { run_text::<H, R, O, S>(rt, alloc, &text, None, output, strategy) }
-        Reading::TooLong => finish(output, TOO_LONG, Exit::TooLong),
-        Reading::Fault => Exit::ReadFault,
-        Reading::NoMemory => Exit::NoMemory,
+    match run_source::<H, R, I, S>(rt, alloc, input, strategy) {
+        Ok(Ran { script: _, report }) => end_with::<H, O>(alloc, None, output, report),
+        Err(early) => end_early(alloc, output, early),
     }
 }
 
@@ -156,34 +114,27 @@ fn run_storm<H: Hasher<Digest = Digest32>, R: Threads + Sync, O: Sink, S: Strate
     ensures fault { HasFault 0 0 (O.faults output.old) (O.faults output.new) result }
     ensures silent { IsSilent (O.held output.old) (O.held output.new) result }
 {
-    match storm_script(alloc, number) {
-        Ok(script) => run_text::<H, R, O, S>(rt, alloc, &script, Some(number), output, strategy),
-        Err(_) => Exit::NoMemory,
+    let Ok(script) = storm_script(alloc, number) else {
+        return Exit::NoMemory;
+    };
+    match World::run::<H, R, S>(rt, alloc, &script, strategy) {
+        Ok(report) => end_with::<H, O>(alloc, Some(number), output, report),
+        Err(error) => end_early(alloc, output, early_of(error)),
     }
 }
 
-// Runs a script, and writes the text of its report or why there is none.
-fn run_text<H: Hasher<Digest = Digest32>, R: Threads + Sync, O: Sink, S: Strategy>(
-    rt: &R,
+// Writes the text of a report, or its summary, and ends so.
+fn end_with<H: Hasher<Digest = Digest32>, O: Sink>(
     alloc: Global,
-    script: &[u8],
     storm: Option<u64>,
     output: &mut O,
-    strategy: &S,
+    report: Report<H>,
 ) -> Exit<Report<H>>
-    ensures answer { Answers H.digest_of storm script.now (O.held output.old) (O.held output.new) result }
-    ensures fault { HasFault 0 0 (O.faults output.old) (O.faults output.new) result }
-    ensures silent { IsSilent (O.held output.old) (O.held output.new) result }
+    ensures { headline.EndsWith H.digest_of storm (O.held output.old) (O.held output.new) (O.faults output.old) (O.faults output.new) report result }
 {
-    match World::run::<H, R, S>(rt, alloc, script, strategy) {
-        Ok(report) => match text_of::<H>(alloc, storm, &report) {
-            Ok(text) => finish(output, &text, Exit::Done(report)),
-            Err(_) => Exit::NoMemory,
-        },
-        Err(error) => match error_text(alloc, &error) {
-            Ok(text) => end_with(output, &text, error),
-            Err(_) => Exit::NoMemory,
-        },
+    match text_of::<H>(alloc, storm, &report) {
+        Ok(text) => finish(output, &text, Exit::Done(report)),
+        Err(_) => Exit::NoMemory,
     }
 }
 
@@ -198,26 +149,5 @@ fn text_of<H: Hasher<Digest = Digest32>>(
     match storm {
         None => report_text::<H>(alloc, report),
         Some(number) => summary_text::<H>(alloc, number, report),
-    }
-}
-
-// Writes why there is no report, and ends so.
-fn end_with<R: Drop, O: Sink>(output: &mut O, text: &[u8], error: RunError) -> Exit<R>
-    ensures { headline.EndsWith (O.held output.old) (O.held output.new) (O.faults output.old) (O.faults output.new) text.now error result }
-{
-    match error {
-        RunError::NoMemory => Exit::NoMemory,
-        RunError::HashClash(earlier, later) => finish(output, text, Exit::Clash(earlier, later)),
-        other => finish(output, text, Exit::Refused(other)),
-    }
-}
-
-// Writes a text, and then ends so.
-fn finish<R: Drop, O: Sink>(output: &mut O, text: &[u8], exit: Exit<R>) -> Exit<R>
-    ensures { Finishes (O.held output.old) (O.held output.new) (O.faults output.old) (O.faults output.new) text.now exit result }
-{
-    match write_all(output, text) {
-        Ok(()) => exit,
-        Err(Failed) => Exit::WriteFault,
     }
 }

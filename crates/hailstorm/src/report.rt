@@ -4,6 +4,7 @@ ghost use Rattle.std.specs.Prelude.{◌≡◌, IfOk};
 
 use cw_base::{Digest32, Hasher, Items, NoMemory};
 use cw_types::{AcceptAll, ChainBlock, Handed, Message, To};
+use hail_script::Script;
 use node::Node;
 use node_disk::MemoryDisk;
 use std::alloc::Global;
@@ -95,4 +96,11 @@ pub struct Report<H: Hasher<Digest = Digest32>> {
     pub disks: Items<Items<u8>>,
     pub nodes: Items<Option<Node<H, MemoryDisk, AcceptAll>>>,
     pub chain: Items<ChainBlock>,
+}
+
+/// A script that was run, and the report of its run.
+#[derive(Drop)]
+pub struct Ran<H: Hasher<Digest = Digest32>> {
+    pub script: Script,
+    pub report: Report<H>,
 }

@@ -3,6 +3,7 @@
 ghost use Rattle.std.specs.Prelude.{◌≡◌, ◌++◌, OnOk, IfOk, string_bytes, drop};
 ghost use Rattle.std.specs.List.{flat_map};
 ghost use Rattle.cw_types.specs.Encoding.{message_bytes};
+ghost use Rattle.hail_script.specs.declared.error.RunError.TheVariants as cause;
 ghost use Rattle.hailstorm.specs.Text as spec;
 ghost use Rattle.hailstorm.specs.Reports.{shown_report};
 
@@ -345,11 +346,21 @@ pub(crate) fn error_text(alloc: Global, error: &RunError) -> Result<Vec<u8>, NoM
             write!(out, "error 5 OversizeBlock {line}\n")?
         }
         RunError::HashClash(earlier, later) => {
-            let earlier = hex::encode(alloc, earlier.as_slice())?;
-            let later = hex::encode(alloc, later.as_slice())?;
-            write!(out, "error 6 HashClash {earlier} {later}\n")?
+            return clash_text(alloc, earlier.as_slice(), later.as_slice());
         }
         RunError::NoMemory => {}
     }
+    Ok(out.into_bytes())
+}
+
+/// The line of a clash of two blocks, from their encodings.
+#[tactic(auto, unfolding(crate::specs::Text::error_line))]
+pub(crate) fn clash_text(alloc: Global, earlier: &[u8], later: &[u8]) -> Result<Vec<u8>, NoMemory>
+    ensures { IfOk result (λ text. text.items ≡ spec.error_line (cause.HashClash earlier.now later.now)) }
+{
+    let mut out = String::new(alloc);
+    let earlier = hex::encode(alloc, earlier)?;
+    let later = hex::encode(alloc, later)?;
+    write!(out, "error 6 HashClash {earlier} {later}\n")?;
     Ok(out.into_bytes())
 }

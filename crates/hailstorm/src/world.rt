@@ -1,6 +1,6 @@
 //! The cluster that a script runs.
 
-ghost use Rattle.std.specs.Prelude.{◌≡◌, ◌<◌, ◌^◌, ◌++◌, [], Some, filter_map, is_none, length, map, slice_get, IfOk, IfErr, OnOk, Option};
+ghost use Rattle.std.specs.Prelude.{◌≡◌, ◌<◌, ◌^◌, ◌++◌, [], Ok, Some, filter_map, is_none, length, map, slice_get, IfOk, IfErr, OnOk, Option};
 ghost use Rattle.std.specs.List.{enumerate_from};
 ghost use Rattle.cw_rules.specs.Held.{last_ack};
 ghost use Rattle.cw_rules.specs.Report.{acked_at, opening_entries, opening_entry};
@@ -8,7 +8,7 @@ ghost use Rattle.cw_rules.specs.Rules.{Rules};
 ghost use Rattle.cw_rules.specs.Step.{Member};
 ghost use Rattle.hailstorm.specs.Offers.{some_of};
 ghost use Rattle.cw_rules.specs.World.{World as RulesWorld};
-ghost use Rattle.hail_script.specs.Grammar.{marks};
+ghost use Rattle.hail_script.specs.Grammar.{marks, script_of};
 ghost use Rattle.hailstorm.specs.Places.{AreMembers, AreSound, IsMember, IsSound, notes_at as notes_in, rules_of};
 ghost use Rattle.hailstorm.specs.declared.place.Place.{Place as PlaceValue};
 ghost use Rattle.hailstorm.specs.Reports.{AreNodesOf, HoldNotes, IsCause, IsReport, IsRun, honest};
@@ -21,7 +21,7 @@ use crate::event::is_faulty;
 use crate::place::Place;
 use crate::play::{member_of, play};
 use crate::pool::Pool;
-use crate::report::{Acked, Entry, Report};
+use crate::report::{Acked, Entry, Ran, Report};
 use crate::seat::Seat;
 use crate::turn::{notes_at, restart};
 use cw_base::{Digest32, Hasher, Items, NoMemory, Strategy};
@@ -47,18 +47,36 @@ impl World {
         ensures ok { IfOk result (λ report. IsReport H.digest_of script.now report) }
         ensures err { IfErr result (λ e. IsCause H.digest_of script.now e) }
     {
-        report_laws();
-        clash_laws();
-        let script = match Script::parse(alloc, script) {
-            Ok(script) => script,
-            Err(error) => return Err(error),
-        };
-        script.is_cluster();
-        let _backlog = script.backlog();
-        match run_script(rt, alloc, &script, strategy) {
-            Ok(report) => Ok(report),
+        match run_text::<H, R, S>(rt, alloc, script, strategy) {
+            Ok(Ran { script: _, report }) => Ok(report),
             Err(error) => Err(error),
         }
+    }
+}
+
+/// Reads a script from its text, and runs it.
+pub(crate) fn run_text<H: Hasher<Digest = Digest32>, R: Threads + Sync, S: Strategy>(
+    rt: &R,
+    alloc: Global,
+    text: &[u8],
+    strategy: &S,
+) -> Result<Ran<H>, RunError>
+    ensures spells { IfOk result (λ ran. script_of text.now ≡ Ok ran.script) }
+    ensures run { IfOk result (λ ran. IsRun H.digest_of ran.script ran.report) }
+    ensures report { IfOk result (λ ran. IsReport H.digest_of text.now ran.report) }
+    ensures err { IfErr result (λ e. IsCause H.digest_of text.now e) }
+{
+    report_laws();
+    clash_laws();
+    let script = match Script::parse(alloc, text) {
+        Ok(script) => script,
+        Err(error) => return Err(error),
+    };
+    script.is_cluster();
+    let _backlog = script.backlog();
+    match run_script(rt, alloc, &script, strategy) {
+        Ok(report) => Ok(Ran { script, report }),
+        Err(error) => Err(error),
     }
 }
 
