@@ -4,6 +4,7 @@ use Rattle.std.specs.List.{AllByRecursion, sum_by}
 use Rattle.std.specs.Option.{option_map}
 use Rattle.std.proofs.lemmas.Bool.{cases_Bool, lt-ltb, ltb-false}
 use Rattle.std.proofs.lemmas.List.Sums.{sum_by-append}
+use Rattle.std.proofs.lemmas.Option.{same_Some}
 use Rattle.cw_rules.specs.Rules.{Chunk}
 use Rattle.cw_types.specs.declared.commitment.Commitment.{Commitment}
 use Rattle.shards.specs.Kept.{with_chunk}
@@ -75,3 +76,13 @@ all_within P limit (k ∷ ks) h = go (nat_lt limit (used_of (k ∷ ks))) (all_wi
 pub all_push : {X : Type 0} (P : X → Type 0) (xs : List X) (y : X) → AllByRecursion P xs → P y → AllByRecursion P (xs ++ y ∷ [])
 all_push P [] y a b = (b, tt)
 all_push P (x ∷ xs) y a b = (a.0, all_push P xs y a.1 b)
+
+-- what the oldest leaves, where it was taken out
+pub popped : (w limit used : ℕ) (kept new : List KeptChunk) (x : Chunk) → Leaves w limit used kept → Some x ≡ option_map (λ (k : KeptChunk). k.chunk) (slice_get kept 0) → new ≡ drop 1 kept
+    → (length x.shard ≤ used) × HasNewest w (used - length x.shard) new × (within_limit limit new ≡ within_limit limit kept)
+popped w limit used kept new x h value rest =
+    let same : x ≡ h.oldest.chunk = same_Some x h.oldest.chunk (value ∙ ap (λ (ks : List KeptChunk). option_map (λ (k : KeptChunk). k.chunk) (slice_get ks 0)) h.is) in
+    let left : new ≡ h.rest = rest ∙ ap (λ (ks : List KeptChunk). drop 1 ks) h.is in
+    (subst (λ (y : Chunk). length y.shard ≤ used) (sym same) h.counted,
+    subst (λ (ks : List KeptChunk). HasNewest w (used - length x.shard) ks) (sym left) (subst (λ (y : Chunk). HasNewest w (used - length y.shard) h.rest) (sym same) h.newest),
+    ap (within_limit limit) left ∙ sym h.same)

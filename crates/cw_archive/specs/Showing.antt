@@ -26,7 +26,7 @@ pub record AreEnough (hash : List ℕ → Digest32) (c : Commitment) (chunks : L
 
 -- what an archive holds true of what it keeps: the bytes of all shards are counted and are within the limit, and each chunk checks under its commitment
 pub record IsWithin (hash : List ℕ → Digest32) (limit used : ℕ) (kept : List KeptChunk) : Type 0 where
-  pub used : used ≡ used_of kept
+  pub counted : used ≡ used_of kept
   pub within : used ≤ limit
   pub check : AllByRecursion (λ k. IsTrue (checks hash k.commitment k.chunk)) kept
 
