@@ -74,10 +74,25 @@ impl Scene {
         rt: &R,
         alloc: Global,
         below: usize,
-        (epoch, view, leader): (u64, u64, u16),
+        round: (u64, u64, u16),
         payload: &[u8],
     ) -> Result<(), Fail> {
-        let under = at(&self.blocks, below)?;
+        let block = self.over(alloc, below, round, payload)?;
+        let made = self.cut(rt, alloc, block)?;
+        let place = self.blocks.len();
+        self.blocks.push(made)?;
+        self.sign(place, round.1)
+    }
+
+    // A block over the one at a place.
+    fn over(
+        &self,
+        alloc: Global,
+        below: usize,
+        (epoch, view, leader): (u64, u64, u16),
+        payload: &[u8],
+    ) -> Result<ChainBlock, Fail> {
+        let under = self.block(below)?;
         let context = Context {
             epoch,
             view,
@@ -86,7 +101,16 @@ impl Scene {
             parent: under.commitment,
         };
         let height = under.block.height().saturating_add(1);
-        let block = block_of(alloc, context, under.commitment.block, height, payload)?;
+        block_of(alloc, context, under.commitment.block, height, payload)
+    }
+
+    // What names the block, and its chunks.
+    fn cut<R: Threads + Sync>(
+        &self,
+        rt: &R,
+        alloc: Global,
+        block: ChainBlock,
+    ) -> Result<Cut, Fail> {
         let (commitment, chunks) = cut_block::<SumHasher, R, Sequential>(
             rt,
             alloc,
@@ -94,17 +118,15 @@ impl Scene {
             &block,
             &Sequential,
         )?;
-        self.blocks.push(Cut {
+        Ok(Cut {
             block,
             commitment,
             chunks,
-        })?;
-        self.sign(self.blocks.len().saturating_sub(1))
+        })
     }
 
-    // Members 0, 1 and 2 sign votes on the block at a place.
-    fn sign(&mut self, place: usize) -> Result<(), Fail> {
-        let view = at(&self.blocks, place)?.block.context().view;
+    // Members 0, 1 and 2 sign votes on the block at a place, in its view and the next.
+    fn sign(&mut self, place: usize, view: u64) -> Result<(), Fail> {
         for signer in 0..3u16 {
             self.sign_in(signer, place, view)?;
             self.sign_in(signer, place, view.saturating_add(1))?;
@@ -114,9 +136,10 @@ impl Scene {
 
     // A member signs both votes on a block in a view.
     fn sign_in(&mut self, signer: u16, place: usize, view: u64) -> Result<(), Fail> {
-        let proposal = self.proposal(place, view)?;
-        self.signed.votes.push((signer, Vote::Notarize(proposal)))?;
-        self.signed.votes.push((signer, Vote::Finalize(proposal)))?;
+        let notarize = Vote::Notarize(self.proposal(place, view)?);
+        let finalize = Vote::Finalize(self.proposal(place, view)?);
+        self.signed.votes.push((signer, notarize))?;
+        self.signed.votes.push((signer, finalize))?;
         Ok(())
     }
 

@@ -7,7 +7,8 @@ use bytes::Bytes;
 use cw_base::{Config, Digest32, Hasher, Items, Sequential, Sha256};
 use cw_coding::Chunk;
 use cw_tree::bmt::{Builder, Tree};
-use cw_types::{Commitment, Committees, Event, Message};
+use cw_types::{AcceptAll, Commitment, Committees, Event, Message};
+use node::Node;
 use node_disk::MemoryDisk;
 use std::alloc::Global;
 use std::num::NonZeroU16;
@@ -51,6 +52,52 @@ fn under(root: Digest32) -> Commitment {
     }
 }
 
+// The row of that place comes.
+fn coming(alloc: Global, tree: &Tree<Sha256>, at: u16) -> Result<Event, Fail>
+    requires { length tree.now ≡ 4 }
+{
+    if at >= 4 {
+        return Err("a row of the four".into());
+    }
+    let chunk = row(alloc, tree, at)?;
+    Ok(Event::Deliver(Message::Shard(under(tree.root()), chunk)))
+}
+
+// The rows of these places come, one after another.
+fn all_coming(alloc: Global, rows: &[u16]) -> Result<Vec<Event>, Fail> {
+    let tree = tree(alloc)?;
+    let mut events = Vec::new(alloc);
+    for at in rows {
+        events.push(coming(alloc, &tree, *at)?)?;
+    }
+    Ok(events)
+}
+
+type ShaNode = Node<Sha256, MemoryDisk, AcceptAll>;
+
+// Member 0 of four on a new disk.
+fn first_of_four<R: Threads + Sync>(rt: &R, alloc: Global) -> Result<ShaNode, Fail> {
+    let disk = MemoryDisk::new(alloc, Vec::new(alloc));
+    match start(rt, alloc, 0, Committees::single(alloc, 4)?, disk)? {
+        Ok((node, _)) => Ok(node),
+        Err((_, error)) => Err(Fail::from(error)),
+    }
+}
+
+// How many messages it sends.
+fn count_sent<R: Threads + Sync>(
+    rt: &R,
+    alloc: Global,
+    node: &mut ShaNode,
+    event: &Event,
+) -> Result<usize, Fail> {
+    Ok(
+        node.step(rt, alloc, event, &Nobody, &Sequential)?
+            .sent
+            .len(),
+    )
+}
+
 /// How many messages member 0 of four sends as each of these rows comes, and how many notes it has
 /// at the end.
 pub(crate) fn sent_for_rows<R: Threads + Sync>(
@@ -58,26 +105,11 @@ pub(crate) fn sent_for_rows<R: Threads + Sync>(
     alloc: Global,
     rows: &[u16],
 ) -> Result<(Vec<usize>, usize), Fail> {
-    let tree = tree(alloc)?;
-    let disk = MemoryDisk::new(alloc, Vec::new(alloc));
-    let (mut node, _) = match start::<Sha256, R>(
-        rt,
-        alloc,
-        0,
-        Committees::single(alloc, 4)?,
-        disk,
-    )? {
-        Ok(started) => started,
-        Err((_, error)) => return Err(Fail::from(error)),
-    };
+    let events = all_coming(alloc, rows)?;
+    let mut node = first_of_four(rt, alloc)?;
     let mut sent = Vec::new(alloc);
-    for at in rows {
-        if *at >= 4 {
-            return Err("a row of the four".into());
-        }
-        let message = Message::Shard(under(tree.root()), row(alloc, &tree, *at)?);
-        let out = node.step(rt, alloc, &Event::Deliver(message), &Nobody, &Sequential)?;
-        sent.push(out.sent.len())?;
+    for event in &events {
+        sent.push(count_sent(rt, alloc, &mut node, event)?)?;
     }
     Ok((sent, node.notes().len()))
 }
