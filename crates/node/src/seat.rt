@@ -2,8 +2,8 @@
 
 ghost use Rattle.std.specs.Prelude.{◌≡◌, false, true, IfOk, OnErr};
 ghost use Rattle.std.specs.Thread.{IsSync};
-ghost use Rattle.mailbox.specs.Calls.{HasCalled};
-ghost use Rattle.node.specs.Seating.{IsSeatTurn};
+ghost use Rattle.mailbox.specs.Calls.{HasStepped};
+ghost use Rattle.node.specs.Seating.{IsSeatTurn, IsStep};
 
 use crate::node::{Node, NodeError};
 use cw_base::{Digest32, Hasher, NoMemory, Strategy};
@@ -118,10 +118,14 @@ impl<
         if self.lost {
             return (Err(StoreError::Failed), Err(StoreError::Failed));
         }
-        match self
-            .node
-            .step(rt, alloc, event, &self.verifier, &self.strategy)
-        {
+        match step_once(
+            rt,
+            alloc,
+            &mut self.node,
+            event,
+            &self.verifier,
+            &self.strategy,
+        ) {
             Ok(out) => match out.copy(alloc) {
                 Ok(copy) => (Ok(out), Ok(copy)),
                 Err(NoMemory) => {
@@ -150,7 +154,9 @@ pub fn step_seat<
     mailbox: &mut Mailbox<Seat<H, D, A, V, S>, L>,
     event: Event,
 ) -> Result<u64, NoMemory>
-    ensures ok { IfOk result (λ place. HasCalled ⟦<Event as PartialEq>⟧.eq event place mailbox.old mailbox.new) }
+    ensures ok { IfOk result (λ place.
+        HasStepped (IsSeatTurn H.digest_of A.accepts V.signs D.state D.continues)
+        ⟦<Event as PartialEq>⟧.eq ⟦<Result<StepOut, NodeError> as PartialEq>⟧.eq event place mailbox.old mailbox.new) }
     ensures err { OnErr result (mailbox.new ≡ mailbox.old) }
 {
     mailbox.step_by(
@@ -170,6 +176,27 @@ pub fn step_seat<
             (stored, reply)
         },
     )
+}
+
+// One step of the node.
+fn step_once<
+    H: Hasher<Digest = Digest32>,
+    D: Disk,
+    A: Application + Drop,
+    V: Verifier,
+    S: Strategy,
+    R: Threads + Sync,
+>(
+    rt: &R,
+    alloc: Global,
+    node: &mut Node<H, D, A>,
+    event: &Event,
+    verifier: &V,
+    strategy: &S,
+) -> Result<StepOut, NodeError>
+    ensures { IsStep H.digest_of A.accepts (V.signs verifier.now) D.state D.continues node.old event.now result node.new }
+{
+    node.step(rt, alloc, event, verifier, strategy)
 }
 
 // What is equal is so to itself.
