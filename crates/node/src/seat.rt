@@ -1,7 +1,6 @@
 //! A node that takes turns, for mailboxes.
 
 ghost use Rattle.std.specs.Prelude.{◌≡◌, false, true, IfOk, OnErr};
-ghost use Rattle.std.specs.Thread.{IsSync};
 ghost use Rattle.mailbox.specs.Calls.{HasStepped};
 ghost use Rattle.node.specs.Seating.{IsSeatTurn, IsStep};
 
@@ -114,6 +113,22 @@ impl<
     ) -> (Result<StepOut, NodeError>, Result<StepOut, NodeError>)
         ensures lawful { IsSeatTurn H.digest_of A.accepts V.signs D.state D.continues self.old event.now result.0 self.new }
         ensures twice { result.1 ≡ result.0 }
+        ensures equal { ⟦<Result<StepOut, NodeError> as PartialEq>⟧.eq result.0 result.1 ≡ true }
+    {
+        let (stored, reply) = self.answer_twice(rt, alloc, event);
+        law_of_equality(&stored);
+        (stored, reply)
+    }
+
+    // The same, without that what is given is equal.
+    fn answer_twice<R: Threads + Sync>(
+        &mut self,
+        rt: &R,
+        alloc: Global,
+        event: &Event,
+    ) -> (Result<StepOut, NodeError>, Result<StepOut, NodeError>)
+        ensures lawful { IsSeatTurn H.digest_of A.accepts V.signs D.state D.continues self.old event.now result.0 self.new }
+        ensures twice { result.1 ≡ result.0 }
     {
         if self.lost {
             return (Err(StoreError::Failed), Err(StoreError::Failed));
@@ -159,23 +174,7 @@ pub fn step_seat<
         ⟦<Event as PartialEq>⟧.eq ⟦<Result<StepOut, NodeError> as PartialEq>⟧.eq event place mailbox.old mailbox.new) }
     ensures err { OnErr result (mailbox.new ≡ mailbox.old) }
 {
-    mailbox.step_by(
-        rt,
-        alloc,
-        event,
-        |seat: &mut Seat<H, D, A, V, S>, event: &Event| -> (
-            Result<StepOut, NodeError>,
-            Result<StepOut, NodeError>,
-        )
-            requires { IsSync R.row }
-            ensures lawful { IsSeatTurn H.digest_of A.accepts V.signs D.state D.continues seat.old event.now result.0 seat.new }
-            ensures twice { ⟦<Result<StepOut, NodeError> as PartialEq>⟧.eq result.0 result.1 ≡ true }
-        {
-            let (stored, reply) = seat.turn(rt, alloc, event);
-            law_of_equality(&stored);
-            (stored, reply)
-        },
-    )
+    mailbox.step_by(rt, alloc, event, |seat, event| seat.turn(rt, alloc, event))
 }
 
 // One step of the node.
