@@ -7,7 +7,7 @@ use Rattle.std.proofs.lemmas.List.Sums.{count_by-le-length, sum_by-append}
 use Rattle.std.proofs.lemmas.Bool.Decides.{nat_tests}
 use Rattle.mailbox.specs.declared.call.Call.{Call}
 use Rattle.mailbox.specs.Calls.{AreCalls, Each, calls_in, IsEntryAt, IsFirstFault, Rises, holds_at, holds_in, none_at, place_holds, rises_at, times_at, times_in}
-use Rattle.mailbox.proofs.Tests.{and_both, and_left, and_right, is_less, is_same, itself, none_rises, read_at, sum_cons, times_cons}
+use Rattle.mailbox.proofs.PlacesHad.{and_both, and_left, and_right, is_less, is_same, itself, none_rises, read_at, sum_cons, times_cons}
 
 sum_split : {A : Type 0} (f g h : A → ℕ) (e : (x : A) → f x ≡ g x + h x) (xs : List A) → sum_by f xs ≡ sum_by g xs + sum_by h xs
 sum_split f g h e [] = omega arith

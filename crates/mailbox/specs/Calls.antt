@@ -27,12 +27,18 @@ joined m other = record {
   lists = m.lists ++ lists_of other;
 }
 
--- A mailbox made one more call of its own: at this place, with an event equal to this one.
-pub record HasCalled {T E R : Type 0} (same : E → E → Bool) (event : E) (place : ℕ)
-    (old new : Mail (Call T E R)) : Type 0 where
+-- A mailbox made one more call of its own, at this place: some state of the session was turned
+-- lawfully by this event, and the call has an equal event, and a reply equal to that of the turn.
+pub record HasStepped {S E R : Type 0} (turns : S → E → R → S → Type 0) (same_event : E → E → Bool)
+    (same_reply : R → R → Bool) (event : E) (place : ℕ) (old new : Mail (Call S E R)) : Type 0 where
+  pub before : S
+  pub stored : R
+  pub after : S
+  pub lawful : turns before event stored after
   pub copy : E
   pub reply : R
-  pub equal : same event copy ≡ true
+  pub equal : same_event event copy ≡ true
+  pub answer : same_reply stored reply ≡ true
   pub added : new ≡ record old {
     own = old.own ++ record { place = place; event = copy; reply = reply } ∷ [];
   }

@@ -1,7 +1,7 @@
 //! Mailboxes: parts of a session whose state lies under one lock, beside the calls that were made.
 
 ghost use Rattle.std.specs.Prelude.{◌≡◌, ◌≢◌, ◌+◌, ◌-◌, ◌/◌, ◌<◌, ◌≤◌, [], ◌∷◌, Some, Err, IfErr, IfOk, OnErr, OnOk, length, map, ℕ};
-ghost use Rattle.mailbox.specs.Calls.{AreCalls, HasCalled, IsFirstFault, Mail, calls_in, is_entry, joined, lists_of};
+ghost use Rattle.mailbox.specs.Calls.{AreCalls, HasStepped, IsFirstFault, Mail, calls_in, is_entry, joined, lists_of};
 ghost use Rattle.mailbox.specs.Replay.{IsReplay, IsReplayToSome};
 ghost use Rattle.mailbox.specs.Turning.{TurnsBy};
 
@@ -174,7 +174,7 @@ impl<T: Turn, L: Session<T>> Mailbox<T, L> {
         turn: F,
     ) -> Result<u64, NoMemory>
         requires { TurnsBy F.FnOnce T.turns T.Reply.eq turn }
-        ensures ok { IfOk result (λ place. HasCalled T.Event.eq event place self.old self.new) }
+        ensures ok { IfOk result (λ place. HasStepped T.turns T.Event.eq T.Reply.eq event place self.old self.new) }
         ensures err { OnErr result (self.new ≡ self.old) }
     {
         self.own.reserve(1)?;
@@ -300,7 +300,7 @@ impl<T: TurnAlone, L: Session<T>> Mailbox<T, L> {
     /// Turns the state once, under the lock, and adds the call to its own list, as
     /// [`Mailbox::step_by`] does.
     pub fn step<R: Wait>(&mut self, rt: &R, alloc: Global, event: T::Event) -> Result<u64, NoMemory>
-        ensures ok { IfOk result (λ place. HasCalled T.Event.eq event place self.old self.new) }
+        ensures ok { IfOk result (λ place. HasStepped T.turns T.Event.eq T.Reply.eq event place self.old self.new) }
         ensures err { OnErr result (self.new ≡ self.old) }
     {
         self.step_by(rt, alloc, event, |state, event| state.turn(alloc, event))

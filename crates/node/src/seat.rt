@@ -1,9 +1,8 @@
 //! A node that takes turns, for mailboxes.
 
 ghost use Rattle.std.specs.Prelude.{◌≡◌, false, true, IfOk, OnErr};
-ghost use Rattle.std.specs.Thread.{IsSync};
-ghost use Rattle.mailbox.specs.Calls.{HasCalled};
-ghost use Rattle.node.specs.Seating.{IsSeatTurn};
+ghost use Rattle.mailbox.specs.Calls.{HasStepped};
+ghost use Rattle.node.specs.Seating.{IsSeatTurn, IsStep};
 
 use crate::node::{Node, NodeError};
 use cw_base::{Digest32, Hasher, NoMemory, Strategy};
@@ -114,14 +113,34 @@ impl<
     ) -> (Result<StepOut, NodeError>, Result<StepOut, NodeError>)
         ensures lawful { IsSeatTurn H.digest_of A.accepts V.signs D.state D.continues self.old event.now result.0 self.new }
         ensures twice { result.1 ≡ result.0 }
+        ensures equal { ⟦<Result<StepOut, NodeError> as PartialEq>⟧.eq result.0 result.1 ≡ true }
+    {
+        let (stored, reply) = self.answer_twice(rt, alloc, event);
+        law_of_equality(&stored);
+        (stored, reply)
+    }
+
+    // The same, without that what is given is equal.
+    fn answer_twice<R: Threads + Sync>(
+        &mut self,
+        rt: &R,
+        alloc: Global,
+        event: &Event,
+    ) -> (Result<StepOut, NodeError>, Result<StepOut, NodeError>)
+        ensures lawful { IsSeatTurn H.digest_of A.accepts V.signs D.state D.continues self.old event.now result.0 self.new }
+        ensures twice { result.1 ≡ result.0 }
     {
         if self.lost {
             return (Err(StoreError::Failed), Err(StoreError::Failed));
         }
-        match self
-            .node
-            .step(rt, alloc, event, &self.verifier, &self.strategy)
-        {
+        match step_once(
+            rt,
+            alloc,
+            &mut self.node,
+            event,
+            &self.verifier,
+            &self.strategy,
+        ) {
             Ok(out) => match out.copy(alloc) {
                 Ok(copy) => (Ok(out), Ok(copy)),
                 Err(NoMemory) => {
@@ -150,26 +169,33 @@ pub fn step_seat<
     mailbox: &mut Mailbox<Seat<H, D, A, V, S>, L>,
     event: Event,
 ) -> Result<u64, NoMemory>
-    ensures ok { IfOk result (λ place. HasCalled ⟦<Event as PartialEq>⟧.eq event place mailbox.old mailbox.new) }
+    ensures ok { IfOk result (λ place.
+        HasStepped (IsSeatTurn H.digest_of A.accepts V.signs D.state D.continues)
+        ⟦<Event as PartialEq>⟧.eq ⟦<Result<StepOut, NodeError> as PartialEq>⟧.eq event place mailbox.old mailbox.new) }
     ensures err { OnErr result (mailbox.new ≡ mailbox.old) }
 {
-    mailbox.step_by(
-        rt,
-        alloc,
-        event,
-        |seat: &mut Seat<H, D, A, V, S>, event: &Event| -> (
-            Result<StepOut, NodeError>,
-            Result<StepOut, NodeError>,
-        )
-            requires { IsSync R.row }
-            ensures lawful { IsSeatTurn H.digest_of A.accepts V.signs D.state D.continues seat.old event.now result.0 seat.new }
-            ensures twice { ⟦<Result<StepOut, NodeError> as PartialEq>⟧.eq result.0 result.1 ≡ true }
-        {
-            let (stored, reply) = seat.turn(rt, alloc, event);
-            law_of_equality(&stored);
-            (stored, reply)
-        },
-    )
+    mailbox.step_by(rt, alloc, event, |seat, event| seat.turn(rt, alloc, event))
+}
+
+// One step of the node.
+fn step_once<
+    H: Hasher<Digest = Digest32>,
+    D: Disk,
+    A: Application + Drop,
+    V: Verifier,
+    S: Strategy,
+    R: Threads + Sync,
+>(
+    rt: &R,
+    alloc: Global,
+    node: &mut Node<H, D, A>,
+    event: &Event,
+    verifier: &V,
+    strategy: &S,
+) -> Result<StepOut, NodeError>
+    ensures { IsStep H.digest_of A.accepts (V.signs verifier.now) D.state D.continues node.old event.now result node.new }
+{
+    node.step(rt, alloc, event, verifier, strategy)
 }
 
 // What is equal is so to itself.

@@ -1,4 +1,4 @@
--- On tests of calls.
+-- How often a place is had by the calls of a list, and tests of calls.
 use Rattle.std.proofs.Common.{◌≡◌, ◌+◌, ◌<◌, ℕ, Bool, true, false, not, ◌&&◌, ◌||◌, ◌==◌, List, [], ◌∷◌, length, sum_by, count_by, refl, sym, arith, cond, eq-eqb, ap, suc, zero}
 use Rattle.std.specs.Prelude.{slice_get, Some, nat_lt, if◌then◌else◌}
 use Rattle.std.specs.List.{list_all}
