@@ -1,5 +1,5 @@
 -- What a yes shows: the last block of the path is a link of the one chain, or two blocks have one digest.
-use Rattle.std.proofs.Common.{◌≡◌, ℕ, zero, suc, ◌+◌, ◌<◌, ◌≤◌, Bool, true, false, ◌&&◌, ◌||◌, ◌==◌, nat_le, nat_lt, cond, List, [], ◌∷◌, ◌++◌, Option, Some, None, IsTrue, slice_get, refl, sym, ◌∙◌, ap, subst, inl, inr, ◌⊎◌, arith, eqb-true, ne_eqb, leb-true, length-append, option_and_then, option_map, length, map, is_none, append-nil}
+use Rattle.std.proofs.Common.{◌≡◌, ℕ, zero, suc, ◌+◌, ◌<◌, Bool, true, false, ◌&&◌, ◌==◌, nat_le, nat_lt, cond, List, [], ◌∷◌, ◌++◌, Option, Some, None, IsTrue, slice_get, refl, sym, ◌∙◌, ap, subst, inl, inr, ◌⊎◌, arith, eqb-true, ne_eqb, leb-true, option_and_then, option_map, length, map, is_none, append-nil}
 use Rattle.std.specs.List.{AllByRecursion, last_or, list_all, list_any}
 use Rattle.std.specs.Option.{option_map_or, option_or}
 use Rattle.std.proofs.lemmas.Bool.{and_parts, cases_Bool, cond-false, cond-true, eqb-false, false≢true, or_cases}
@@ -21,9 +21,9 @@ use Rattle.cw_rules.specs.Accepted.{first_some, is_valid}
 use Rattle.cw_rules.specs.Chains.{Ends, Follow, IsChain, all_notes, block_under, chain_to, is_certified_in, link_commitment, links_to, outcome}
 use Rattle.cw_rules.specs.Fits.{block_fits}
 use Rattle.cw_rules.specs.Held.{noted_block_of}
-use Rattle.cw_rules.specs.Keeps.{AllKeep, meaning}
+use Rattle.cw_rules.specs.Keeps.{AllKeep}
 use Rattle.cw_rules.specs.Notes.{has_vote}
-use Rattle.cw_rules.specs.Reached.{AllAnchored, In, IsCluster, IsKnown, IsLinkOf, IsOneChain, members_of}
+use Rattle.cw_rules.specs.Reached.{In, IsCluster, IsKnown, IsOneChain, members_of}
 use Rattle.cw_rules.specs.Report.{chain_of, handed_in, highest, report_of}
 use Rattle.cw_rules.specs.Rules.{Rules, commit, digest, genesis, genesis_commitment}
 use Rattle.cw_rules.specs.Stands.{AreLawful, Stands, backs_at}
@@ -31,13 +31,12 @@ use Rattle.cw_rules.specs.Step.{Member, member_notes}
 use Rattle.cw_rules.specs.World.{Line, World, is_faulty, is_sent_vote, opening, signed}
 use Rattle.cw_rules.proofs.Blocks.{DownTo, IsOver, IsRooted, down_join, links_rooted, noted_commit, rooted_height, under_commit}
 use Rattle.cw_rules.proofs.Certified.{finalized_in}
-use Rattle.cw_rules.proofs.Descents.{Branch, High, IsFrontOf, Linked, branch_of, linked, one_chain}
+use Rattle.cw_rules.proofs.Descents.{Branch, High, Linked, branch_of, linked, one_chain}
 use Rattle.cw_rules.proofs.Grows.{holds_stands, meaning_closed}
-use Rattle.cw_rules.proofs.Lists.{and_then_some}
-use Rattle.cw_rules.proofs.Runs.{Gave, IsClearRun, clear_reached, handed_by, handed_parts, now_fronts, opening_handed}
-use Rattle.cw_rules.proofs.SameLemmas.{same_block-true, same_block_self, same_commitment-true, same_commitment_self}
+use Rattle.cw_rules.proofs.Runs.{Gave, IsClearRun, clear_reached, handed_parts, now_fronts}
+use Rattle.cw_rules.proofs.SameLemmas.{same_block-true, same_block_self, same_commitment-true}
 use Rattle.cw_rules.proofs.Worlds.{IsWorldKept, get-map, kept_keep, kept_lawful}
-use Rattle.cw_light.specs.Believing.{IsBelieved, IsCollision, IsLinkAt}
+use Rattle.cw_light.specs.Believing.{IsBelieved, IsCollision}
 use Rattle.cw_light.specs.Checking.{answer, broken_at, broken_below, is_named_by, is_parent_of, path_answer}
 use Rattle.cw_light.specs.declared.check.Answer.{Answer}
 use Rattle.cw_light.specs.declared.check.Answer.TheVariants.{BadSigners, Broken, EmptyPath, NotFinal, Yes}

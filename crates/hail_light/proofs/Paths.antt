@@ -2,6 +2,7 @@
 use Rattle.std.specs.Option.{IfSome, option_map_or}
 use Rattle.std.proofs.Common.{◌≡◌, ℕ, zero, suc, ◌+◌, ◌-◌, ◌<◌, ◌≤◌, true, false, ◌&&◌, ◌==◌, nat_lt, cond, Bool, List, [], ◌∷◌, ◌++◌, Option, Some, None, refl, sym, ◌∙◌, ap, subst, inl, inr, ◌⊎◌, arith, eqb-true, eq-eqb, ne_eqb, append_assoc, option_and_then, option_map}
 use Rattle.std.proofs.lemmas.Bool.{cases_Bool, cond-false, cond-true, eqb-false}
+use Rattle.cw_base.specs.declared.hash.Digest32.{Digest32}
 use Rattle.cw_types.specs.Block.{Block}
 use Rattle.cw_types.specs.declared.commitment.Commitment.{Commitment}
 use Rattle.cw_types.specs.declared.note.Note.{Note}
@@ -15,6 +16,7 @@ use Rattle.cw_rules.specs.Accepted.{first_some, is_valid}
 use Rattle.cw_rules.specs.Held.{greatest_prune, held, noted_block_of, parent_of}
 use Rattle.cw_rules.specs.Rules.{Rules, genesis, genesis_commitment}
 use Rattle.cw_rules.proofs.Lists.{and_then_some}
+use Rattle.cw_light.specs.declared.check.Answer.TheVariants.{Yes}
 use Rattle.hail_light.specs.Finding.{path_to, path_within, shown_by}
 use Rattle.hail_light.specs.declared.search.Shown.{Shown}
 
@@ -140,3 +142,10 @@ shown_is r sign height notes note s p o is final valid e =
     ap (shown_by r sign height notes) is
     ∙ (cond-true (is_valid r sign s) (option_map (pair s) (option_and_then (λ (q : Proposal). path_to r notes height q.payload) (finalized s.vote))) None valid
     ∙ ap (option_map (pair s)) (ap (λ v. option_and_then (λ (q : Proposal). path_to r notes height q.payload) (finalized v)) final ∙ sym e))
+
+-- one yes has one height and one digest
+pub yes_same : (a c : ℕ) (b d : Digest32) → Yes a b ≡ Yes c d → ◌≡◌ {A = ℕ × Digest32} (a, b) (c, d)
+yes_same a c b d e =
+    let high : a ≡ c = cc in
+    let is : b ≡ d = cc in
+    λ i. (high i, is i)

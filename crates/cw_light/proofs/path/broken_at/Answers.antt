@@ -1,10 +1,9 @@
-use Rattle.std.proofs.Common.{◌≡◌, ℕ, Bool, List, Option, Some, ◌∙◌, sym, slice_get}
+use Rattle.std.proofs.Common.{◌≡◌, ℕ, Option, ◌∙◌, sym}
 use Rattle.std.proofs.lemmas.Result.{IfOk-weaker}
 use Rattle.cw_rules.specs.Rules.{Rules}
 use Rattle.cw_rules_coded.specs.Coded.{coded}
 use Rattle.cw_types.specs.Block.{Block}
-use Rattle.cw_types.specs.declared.commitment.Commitment.{Commitment}
-use Rattle.cw_light.specs.Checking.{broken_at, broken_below, is_named_by}
+use Rattle.cw_light.specs.Checking.{broken_at, broken_below}
 use Rattle.cw_light.proofs.Walks.{first_breaks, first_goes, head_of}
 use Rattle.cw_light.proofs.path.broken_at.Goals as goal
 

@@ -1,9 +1,9 @@
-use Rattle.std.proofs.Common.{◌≡◌, ◌∷◌, ℕ, suc, Bool, List, Some, ◌+◌, ◌-◌, ◌∙◌, sym, ap, subst, slice_get, refl, arith, drop, length}
+use Rattle.std.proofs.Common.{◌≡◌, ℕ, List, Some, ◌+◌, ◌-◌, ◌∙◌, sym, subst, slice_get, refl, arith, drop, length}
 use Rattle.std.proofs.lemmas.Option.{same_Some, slice_get_read}
 use Rattle.cw_rules.specs.Rules.{Rules}
 use Rattle.cw_rules_coded.specs.Coded.{coded}
 use Rattle.cw_types.specs.Block.{Block}
-use Rattle.cw_light.specs.Checking.{broken_below, is_parent_of}
+use Rattle.cw_light.specs.Checking.{broken_below}
 use Rattle.cw_light.proofs.Walks.{breaks, ends, goes_on, some_at}
 use Rattle.cw_light.proofs.path.broken_below.Goals as goal
 
@@ -32,10 +32,13 @@ loop-place-preserved g c = λ backlog accepts first below e.
     let at : slice_get path place ≡ Some b = slice_get_read path (length path) place b refl c.loop-place-test.true c.index-path-place-in-loop-place.is in
     let is = sym (c.in_ok-is_parent.ensures backlog accepts) ∙ c.if-not-branch.false in
     let on = rest above at_above ∙ goes_on r path place above b at is in
-    let back : place + 1 - 1 ≡ place = omega arith in
-    (omega arith, omega (arith, c.loop-place-test.true), λ x h.
-    let same : b ≡ x = same_Some b x (sym at ∙ subst (λ n. slice_get path n ≡ Some x) back h) in
-    subst (λ (y : Block). broken_below r 1 first below ≡ broken_below r (place + 1) y (drop (place + 1) path)) same on)
+    let back : place + 1 - 1 ≡ place = omega arith in (
+      omega arith,
+      omega (arith, c.loop-place-test.true),
+      λ x h.
+          let same : b ≡ x = same_Some b x (sym at ∙ subst (λ n. slice_get path n ≡ Some x) back h) in
+          subst (λ (y : Block). broken_below r 1 first below ≡ broken_below r (place + 1) y (drop (place + 1) path)) same on,
+    )
 
 pub returns : goal.returns
 returns g c = λ backlog accepts first below e.

@@ -1,5 +1,5 @@
-use Rattle.std.proofs.Common.{◌≡◌, ℕ, Bool, false, ◌∙◌, ap, sym}
-use Rattle.std.proofs.lemmas.Bool.{cond-false, cond-true}
+use Rattle.std.proofs.Common.{◌≡◌, false, ◌∙◌, ap, sym}
+use Rattle.std.proofs.lemmas.Bool.{cond-false}
 use Rattle.cw_types.specs.Block.{Block}
 use Rattle.cw_types.specs.Same.{same_block, same_commitment}
 use Rattle.cw_types.specs.declared.commitment.Commitment.{Commitment}

@@ -1,4 +1,4 @@
-use Rattle.std.proofs.Common.{◌≡◌, ℕ, ◌+◌, ◌==◌, ◌&&◌, Bool, true, false, ◌∙◌, ap, sym, nat_eq}
+use Rattle.std.proofs.Common.{◌≡◌, ◌+◌, ◌==◌, ◌&&◌, true, false, ◌∙◌, ap, sym, nat_eq}
 use Rattle.cw_types.specs.Block.{Block}
 use Rattle.cw_types.specs.declared.block.Context.{Context}
 use Rattle.cw_rules.specs.Rules.{Rules}
