@@ -38,7 +38,7 @@ listed_from n f i x h = go (cases_lt i n)
     go (inl less) = same_Some (f i) x (sym (listed_at n f i less) ∙ h)
     go (inr more) = cc (slice_get_past (listed n f) i (omega (arith, length-listed n f)))
 
-byte_at : (xs : List ℕ) → AreBytes xs → (i : ℕ) → slice_index xs i < 256
+pub byte_at : (xs : List ℕ) → AreBytes xs → (i : ℕ) → slice_index xs i < 256
 byte_at [] a i = omega arith
 byte_at (x ∷ xs) a zero = a.0
 byte_at (x ∷ xs) a (suc i) = byte_at xs a.1 i

@@ -1,5 +1,5 @@
 -- The chunks of a commitment, by index.
-use Rattle.std.proofs.Common.{◌≡◌, ◌≢◌, ℕ, zero, suc, ◌+◌, ◌-◌, ◌<◌, ◌≤◌, ◌&&◌, ◌==◌, ◌⊎◌, inl, inr, Bool, true, false, cond, IsTrue, is_some, List, [], ◌∷◌, ◌++◌, length, map, take, Option, Some, None, refl, sym, ◌∙◌, ap, subst, arith, eqb-true, eq-eqb, add-zero, add-one, length-append}
+use Rattle.std.proofs.Common.{◌≡◌, ◌≢◌, ℕ, zero, suc, ◌+◌, ◌-◌, ◌<◌, ◌≤◌, ◌&&◌, ◌==◌, ◌⊎◌, inl, inr, Bool, true, false, cond, IsTrue, if◌then◌else◌, is_some, List, [], ◌∷◌, ◌++◌, length, map, take, Option, Some, None, refl, sym, ◌∙◌, ap, subst, arith, eqb-true, eq-eqb, add-zero, add-one, length-append}
 use Rattle.std.specs.List.{AllByRecursion, IsDistinct, cons_option, filter, filter_map, find, list_any, range_with_len}
 use Rattle.std.specs.Option.{option_map, option_to_list}
 use Rattle.std.proofs.lemmas.Bool.{cases_Bool, cases_eq, false≢true}
@@ -87,19 +87,19 @@ apart_taken (suc k) (x ∷ xs) h = (all_taken (λ (d : Chunk). x.index ≢ d.ind
 
 found_index : (i : ℕ) (xs : List Chunk) (x : Chunk) → find (λ (y : Chunk). y.index == i) xs ≡ Some x → x.index ≡ i
 found_index i [] x h = cc
-found_index i (y ∷ ys) x h = go (y.index == i) refl h
+found_index i (y ∷ ys) x h = go (y.index == i) refl h (found_index i ys x)
   where
-    go : (b : Bool) → (y.index == i) ≡ b → cond b (Some y) (find (λ (z : Chunk). z.index == i) ys) ≡ Some x → x.index ≡ i
-    go true e h = subst (λ (z : Chunk). z.index ≡ i) (same_Some y x h) (eqb-true y.index i e)
-    go false e h = found_index i ys x h
+    go : (b : Bool) → (y.index == i) ≡ b → cond b (Some y) (find (λ (z : Chunk). z.index == i) ys) ≡ Some x → (find (λ (z : Chunk). z.index == i) ys ≡ Some x → x.index ≡ i) → x.index ≡ i
+    go true e h more = subst (λ (z : Chunk). z.index ≡ i) (same_Some y x h) (eqb-true y.index i e)
+    go false e h more = more h
 
 found_of : (P : Chunk → Type 0) (i : ℕ) (xs : List Chunk) (x : Chunk) → AllByRecursion P xs → find (λ (y : Chunk). y.index == i) xs ≡ Some x → P x
 found_of P i [] x a h = cc
-found_of P i (y ∷ ys) x a h = go (y.index == i) h
+found_of P i (y ∷ ys) x a h = go (y.index == i) h (found_of P i ys x a.1)
   where
-    go : (b : Bool) → cond b (Some y) (find (λ (z : Chunk). z.index == i) ys) ≡ Some x → P x
-    go true h = subst P (same_Some y x h) a.0
-    go false h = found_of P i ys x a.1 h
+    go : (b : Bool) → cond b (Some y) (find (λ (z : Chunk). z.index == i) ys) ≡ Some x → (find (λ (z : Chunk). z.index == i) ys ≡ Some x → P x) → P x
+    go true h more = subst P (same_Some y x h) a.0
+    go false h more = more h
 
 -- what holds of each answer holds of all
 answers_all : {X : Type 0} (P : X → Type 0) (f : ℕ → Option X) (a n : ℕ) → ((i : ℕ) (x : X) → a ≤ i → f i ≡ Some x → P x) → AllByRecursion P (answers f a n)
@@ -139,6 +139,24 @@ all_of P c (k ∷ ks) a = go (same_commitment c k.commitment) refl (all_of P c k
     go false e more = more
 
 -- ---- how many there are
+
+-- one more answer, counted
+pub count_more : {X : Type 0} (f : ℕ → Option X) (n count later : ℕ) (b : Bool) → count ≡ length (answers f 0 n) → count ≤ n → b ≡ is_some (f n) → later ≡ (if b then count + 1 else count)
+    → (later ≡ length (answers f 0 (n + 1))) × (later ≤ n + 1)
+count_more {X = X} f n count later b e l there is =
+    let more = ap length (answers_more f n) ∙ length-append (answers f 0 n) (option_to_list (f n)) in
+    go b (f n) there is more
+  where
+    go : (b : Bool) (o : Option X) → b ≡ is_some o → later ≡ (if b then count + 1 else count) → length (answers f 0 (n + 1)) ≡ length (answers f 0 n) + length (option_to_list o)
+        → (later ≡ length (answers f 0 (n + 1))) × (later ≤ n + 1)
+    go true None t is more = cc
+    go true (Some x) t is more = (omega arith, omega arith)
+    go false None t is more = (omega arith, omega arith)
+    go false (Some x) t is more = cc
+
+-- one more answer, as a list of at most so many
+pub list_more : {X : Type 0} (f : ℕ → Option X) (n : ℕ) (xs : List X) (o : Option X) → xs ≡ answers f 0 n → o ≡ f n → xs ++ option_to_list o ≡ answers f 0 (n + 1)
+list_more f n xs o e at = ap (λ ys. ys ++ option_to_list o) e ∙ (ap (λ p. answers f 0 n ++ option_to_list p) at ∙ sym (answers_more f n))
 
 -- chunks of different indices below n are as many as are found below n
 one_found : (x : Chunk) (xs : List Chunk) (n : ℕ) → AllByRecursion (λ (d : Chunk). x.index ≢ d.index) xs

@@ -5,3 +5,4 @@ pub mod IndexLemmas
 pub mod CheckLemmas
 pub mod DecodeLemmas
 pub mod ShowLemmas
+pub mod PutLemmas

@@ -1,5 +1,5 @@
 -- Which chunks leave, and what stays.
-use Rattle.std.proofs.Common.{◌≡◌, ℕ, suc, ◌+◌, ◌-◌, ◌<◌, ◌≤◌, ◌⊎◌, inl, inr, Bool, true, false, IsTrue, if◌then◌else◌, nat_lt, List, [], ◌∷◌, ◌++◌, length, Option, Some, None, slice_get, drop, refl, sym, ◌∙◌, ap, subst, arith, ltb-true}
+use Rattle.std.proofs.Common.{◌≡◌, ℕ, suc, ◌+◌, ◌-◌, ◌<◌, ◌≤◌, ◌⊎◌, inl, inr, Bool, true, false, IsTrue, if◌then◌else◌, nat_lt, List, [], ◌∷◌, ◌++◌, length, Option, Some, None, slice_get, drop, refl, sym, ◌∙◌, ap, subst, arith, ltb-true, zero-add}
 use Rattle.std.specs.List.{AllByRecursion, sum_by}
 use Rattle.std.specs.Option.{option_map}
 use Rattle.std.proofs.lemmas.Bool.{cases_Bool, lt-ltb, ltb-false}
@@ -54,6 +54,8 @@ leaves w limit used kept h fits more = go h.others h.is h.counted
     go [] is counted = absurd (omega arith)
     go (k ∷ ks) is counted =
         let rest = ks ++ h.newest ∷ [] in
+        let sum : used_of (k ∷ ks) ≡ used_of (k ∷ []) + used_of ks = sum_by-append width (k ∷ []) ks in
+        let one : used_of (k ∷ []) ≡ length k.chunk.shard = zero-add (length k.chunk.shard) in
         let total : used_of (k ∷ rest) ≡ used + w = ap used_of (sym is) ∙ used_newest w used kept h in
         record {
           oldest = k;
@@ -82,7 +84,8 @@ pub popped : (w limit used : ℕ) (kept new : List KeptChunk) (x : Chunk) → Le
     → (length x.shard ≤ used) × HasNewest w (used - length x.shard) new × (within_limit limit new ≡ within_limit limit kept)
 popped w limit used kept new x h value rest =
     let same : x ≡ h.oldest.chunk = same_Some x h.oldest.chunk (value ∙ ap (λ (ks : List KeptChunk). option_map (λ (k : KeptChunk). k.chunk) (slice_get ks 0)) h.is) in
-    let left : new ≡ h.rest = rest ∙ ap (λ (ks : List KeptChunk). drop 1 ks) h.is in
-    (subst (λ (y : Chunk). length y.shard ≤ used) (sym same) h.counted,
-    subst (λ (ks : List KeptChunk). HasNewest w (used - length x.shard) ks) (sym left) (subst (λ (y : Chunk). HasNewest w (used - length y.shard) h.rest) (sym same) h.newest),
-    ap (within_limit limit) left ∙ sym h.same)
+    let left : new ≡ h.rest = rest ∙ ap (λ (ks : List KeptChunk). drop 1 ks) h.is in (
+      subst (λ (y : Chunk). length y.shard ≤ used) (sym same) h.counted,
+      subst (λ (ks : List KeptChunk). HasNewest w (used - length x.shard) ks) (sym left) (subst (λ (y : Chunk). HasNewest w (used - length y.shard) h.rest) (sym same) h.newest),
+      ap (within_limit limit) left ∙ sym h.same,
+    )

@@ -24,6 +24,7 @@ use Rattle.shards.specs.Kept.{rules_of}
 use Rattle.shards.proofs.Shown.{root_there}
 use Rattle.cw_archive.specs.Archived.{if_named, name_of, shown_by}
 use Rattle.cw_archive.specs.Showing.{IsOfNoBlock, Shows}
+use Rattle.cw_archive.proofs.DecodeLemmas.{byte_at}
 
 module _ (hash : List ℕ → Digest32) (c : Commitment) where
   -- chunks of a text show what the text is read as
@@ -54,7 +55,7 @@ module _ (hash : List ℕ → Digest32) (c : Commitment) where
               by_test true g =
                   let is = named_root b coder pos (same_commitment-true (name_of hash c.config b) c g) in
                   let sound = coder.sound c.config chunks text e in
-                  let read = found text b sound.1.0 f in
+                  let read = found text b (byte_at text sound.1.0) f in
                   let short : length text ≤ 1048745 = subst (λ (t : List ℕ). length t ≤ 1048745) read.0 (bound b read.1) in
                   absurd (none text short (record { decodes = e; rooted = subst (λ (t : List ℕ). IsRooted hash c t) read.0 is }))
 
@@ -71,9 +72,10 @@ module _ (hash : List ℕ → Digest32) (c : Commitment) where
       → d ≡ hash text → e ≡ hash (context_bytes b.context) → (same_digest d c.block && same_digest e c.context) ≡ same_commitment (name_of hash c.config b) c
   unfolding same_commitment
   named_by b text d e coder pos is rooted isd ise =
-      let root : root_over hash (map hash (code_rows (block_bytes b) c.config.minimum c.config.extra)) ≡ c.root = same_Some _ c.root
+      let own : Digest32 = root_over hash (map hash (code_rows (block_bytes b) c.config.minimum c.config.extra)) in
+      let root : own ≡ c.root = same_Some own c.root
       (sym (root_there hash no_committees c.config (block_bytes b) coder pos) ∙ subst (λ (t : List ℕ). IsRooted hash c t) (sym is) rooted) in
-      let yes : same_digest (root_over hash (map hash (code_rows (block_bytes b) c.config.minimum c.config.extra))) c.root ≡ true = subst (λ (r : Digest32). same_digest (root_over hash (map hash (code_rows (block_bytes b) c.config.minimum c.config.extra))) r ≡ true) root (same_digest_self _) in
+      let yes : same_digest own c.root ≡ true = subst (λ (r : Digest32). same_digest own r ≡ true) root (same_digest_self own) in
       ap (λ (y : Digest32). same_digest y c.block && same_digest e c.context) (isd ∙ ap hash (sym is))
       ∙ (ap (λ (y : Digest32). same_digest (hash (block_bytes b)) c.block && same_digest y c.context) ise
       ∙ rw (yes, same_shards_self c.config) (rest (same_digest (hash (block_bytes b)) c.block) (same_digest (hash (context_bytes b.context)) c.context)))

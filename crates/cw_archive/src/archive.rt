@@ -84,7 +84,11 @@ impl<H: Hasher<Digest = Digest32>> Archive<H> {
         ensures ok { OnOk result (self.new ≡ after_put H.digest_of self.old commitment.now chunk) }
         ensures err { OnErr result (self.new ≡ self.old) }
     {
-        if self.kept.find(commitment, u32::from(chunk.index())).is_some() {
+        if self
+            .kept
+            .find(commitment, u32::from(chunk.index()))
+            .is_some()
+        {
             return Ok(Put::Known);
         }
         if checked::<H, S>(self.alloc, commitment, &chunk, strategy)?.is_none() {
@@ -113,8 +117,9 @@ impl<H: Hasher<Digest = Digest32>> Archive<H> {
         ensures { IfOk result
             (λ block. block ≡ given_back H.digest_of commitment.now self.now.kept) }
     {
+        let minimum = usize::from(commitment.config.minimum());
         let chunks = least_chunks(alloc, &self.kept, commitment)?;
-        if chunks.len() < usize::from(commitment.config.minimum()) {
+        if chunks.len() < minimum {
             return Ok(None);
         }
         shown::<H, R, S>(rt, alloc, commitment, &chunks, strategy)

@@ -1,8 +1,7 @@
 use crate::{Archive, Put};
-use bytes::Bytes;
 use cw_base::{Digest32, Sequential, Sha256};
 use cw_coding::Chunk;
-use cw_types::{ChainBlock, Commitment, Committees, Context, Payload, genesis, genesis_commitment};
+use cw_types::{ChainBlock, Commitment, Committees, Context, Payload, genesis_commitment};
 use shards::cut_block;
 use std::alloc::Global;
 use std::test::Fail;
@@ -69,5 +68,20 @@ fn the_oldest_leave(rt: HostRuntime) -> Result<(), Fail> {
         assert_eq!(rt; archive.count(&commitment), count, "limit {limit}");
         assert_eq!(rt; given == Some(block), found, "limit {limit}");
     }
+    Ok(())
+}
+
+#[test]
+fn a_chunk_under_another_root_is_foreign(rt: HostRuntime) -> Result<(), Fail> {
+    let (commitment, chunks) = cut(&rt, rt.alloc())?;
+    let other = Commitment {
+        root: Digest32([9; 32]),
+        ..commitment
+    };
+    let mut archive = Archive::<Sha256>::new(rt.alloc(), 1000)?;
+    for chunk in chunks {
+        assert_eq!(rt; archive.put(&rt, &other, chunk, &Sequential)?, Put::Foreign);
+    }
+    assert_eq!(rt; archive.used(), 0);
     Ok(())
 }

@@ -97,7 +97,7 @@ fn write_run<H: Hasher<Digest = Digest32>, R: Threads + Sync, O: Sink, S: Strate
 ) -> Exit<(Report<H>, Archive<H>)>
     ensures answer { (text : List ℕ) (rest : Option (List ℕ)) → IsRead H.digest_of text rest ran
         → AnswersBy H.digest_of (IsDone H.digest_of limit) text rest (O.held output.old) (O.held output.new) result }
-    ensures fault { HasFault 0 0 (O.faults output.old) (O.faults output.new) result }
+    ensures fault { (reads later : ℕ) → HasFault reads later (O.faults output.old) (O.faults output.new) result }
     ensures silent { IsSilent (O.held output.old) (O.held output.new) result }
 {
     match archived(rt, alloc, limit, &ran, strategy) {
