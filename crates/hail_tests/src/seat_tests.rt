@@ -111,11 +111,19 @@ fn acknowledged<L: Session<Sitting>, R: Threads + Wait + Sync>(
         was_open,
         entries: history.len(),
         is_own,
-        processed: seat.node().marshal().get_processed().map(|height| height.get()),
+        processed: seat
+            .node()
+            .marshal()
+            .get_processed()
+            .map(|height| height.get()),
     })
 }
 
-fn session<R: Threads + Wait + Sync>(rt: &R, alloc: Global, seat: Sitting) -> Result<Outcome, Fail> {
+fn session<R: Threads + Wait + Sync>(
+    rt: &R,
+    alloc: Global,
+    seat: Sitting,
+) -> Result<Outcome, Fail> {
     acknowledged::<Brand, R>(rt, alloc, Blank::new(2), seat)
 }
 

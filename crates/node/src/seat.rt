@@ -28,7 +28,7 @@ use std::thread::Threads;
 #[derive(Drop)]
 pub struct Seat<
     H: Hasher<Digest = Digest32>,
-    D: Disk,
+    D: Disk + Drop,
     A: Application + Drop,
     V: Verifier + Drop,
     S: Strategy + Drop,
@@ -42,7 +42,7 @@ pub struct Seat<
 
 impl<
     H: Hasher<Digest = Digest32>,
-    D: Disk,
+    D: Disk + Drop,
     A: Application + Drop,
     V: Verifier + Drop,
     S: Strategy + Drop,
@@ -56,7 +56,7 @@ impl<
 
 impl<
     H: Hasher<Digest = Digest32>,
-    D: Disk,
+    D: Disk + Drop,
     A: Application + Drop,
     V: Verifier + Drop,
     S: Strategy + Drop,
@@ -79,7 +79,7 @@ impl<
 
 impl<
     H: Hasher<Digest = Digest32>,
-    D: Disk,
+    D: Disk + Drop,
     A: Application + Drop,
     V: Verifier + Drop,
     S: Strategy + Drop,
@@ -157,7 +157,7 @@ impl<
 /// entry in the history, as [`Mailbox::step_by`] does.
 pub fn step_seat<
     H: Hasher<Digest = Digest32>,
-    D: Disk,
+    D: Disk + Drop,
     A: Application + Drop,
     V: Verifier + Drop,
     S: Strategy + Drop,
