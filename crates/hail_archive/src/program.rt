@@ -86,7 +86,7 @@ fn run_input<H: Hasher<Digest = Digest32>, R: Threads + Sync, I: Source, O: Sink
     }
 }
 
-// Fills the archive with what the run sent, and writes what it gives back.
+// Fills an archive of that limit with what the run sent, and writes what it gives back.
 fn write_run<H: Hasher<Digest = Digest32>, R: Threads + Sync, O: Sink, S: Strategy>(
     rt: &R,
     alloc: Global,
@@ -100,27 +100,46 @@ fn write_run<H: Hasher<Digest = Digest32>, R: Threads + Sync, O: Sink, S: Strate
     ensures fault { (reads later : ℕ) → HasFault reads later (O.faults output.old) (O.faults output.new) result }
     ensures silent { IsSilent (O.held output.old) (O.held output.new) result }
 {
-    match archived(rt, alloc, limit, &ran, strategy) {
-        Ok((archive, text)) => finish(output, &text, Exit::Done((ran.report, archive))),
+    match filled::<H, R, S>(rt, alloc, limit, &ran.report, strategy) {
+        Ok(archive) => write_archive(rt, alloc, ran, archive, output, strategy),
         Err(NoMemory) => Exit::NoMemory,
     }
 }
 
-// The archive that the run fills, and the text of what it gives back.
-fn archived<H: Hasher<Digest = Digest32>, R: Threads + Sync, S: Strategy>(
+// Writes what the archive gives back.
+fn write_archive<H: Hasher<Digest = Digest32>, R: Threads + Sync, O: Sink, S: Strategy>(
     rt: &R,
     alloc: Global,
-    limit: u64,
-    ran: &Ran<H>,
+    ran: Ran<H>,
+    archive: Archive<H>,
+    output: &mut O,
     strategy: &S,
-) -> Result<(Archive<H>, Vec<u8>), NoMemory>
-    ensures archive { IfOk result (λ made. made.0 ≡ spec.filled H.digest_of limit (shown_report ran.now.report)) }
-    ensures text { IfOk result (λ made. made.1.items
-        ≡ spec.archive_text H.digest_of ran.now.script.committees made.0 ran.now.report.chain) }
+) -> Exit<(Report<H>, Archive<H>)>
+    // whatever the limit for which what the run sent fills this archive
+    ensures answer { (limit : ℕ) (text : List ℕ) (rest : Option (List ℕ))
+        → archive ≡ spec.filled H.digest_of limit (shown_report ran.report) → IsRead H.digest_of text rest ran
+        → AnswersBy H.digest_of (IsDone H.digest_of limit) text rest (O.held output.old) (O.held output.new) result }
+    ensures fault { (reads later : ℕ) → HasFault reads later (O.faults output.old) (O.faults output.new) result }
+    ensures silent { IsSilent (O.held output.old) (O.held output.new) result }
 {
-    let archive = filled::<H, R, S>(rt, alloc, limit, &ran.report, strategy)?;
+    match text_of(rt, alloc, &ran, &archive, strategy) {
+        Ok(text) => finish(output, &text, Exit::Done((ran.report, archive))),
+        Err(NoMemory) => Exit::NoMemory,
+    }
+}
+
+// The text of what the archive gives back of the run's chain.
+fn text_of<H: Hasher<Digest = Digest32>, R: Threads + Sync, S: Strategy>(
+    rt: &R,
+    alloc: Global,
+    ran: &Ran<H>,
+    archive: &Archive<H>,
+    strategy: &S,
+) -> Result<Vec<u8>, NoMemory>
+    ensures { IfOk result (λ text. text.items
+        ≡ spec.archive_text H.digest_of ran.now.script.committees archive.now ran.now.report.chain) }
+{
     let committees = ran.script.committees(alloc)?;
     let chain = ran.report.chain.as_slice();
-    let text = archive_text::<H, R, S>(rt, alloc, &committees, &archive, chain, strategy)?;
-    Ok((archive, text))
+    archive_text::<H, R, S>(rt, alloc, &committees, archive, chain, strategy)
 }

@@ -2,11 +2,13 @@
 
 ghost use Rattle.std.specs.Prelude.{◌++◌, ◌≡◌, IfOk, OnOk, drop, string_bytes};
 ghost use Rattle.std.specs.List.{flat_map};
+ghost use Rattle.cw_rules.specs.Rules.{commit};
 ghost use Rattle.hail_archive.specs.Program as spec;
+ghost use Rattle.shards.specs.Kept.{rules_of};
 
 use cw_archive::Archive;
 use cw_base::{Digest32, Hasher, NoMemory, Strategy};
-use cw_types::{ChainBlock, Committees};
+use cw_types::{ChainBlock, Commitment, Committees};
 use shards::cut_block;
 use std::alloc::Global;
 use std::thread::Threads;
@@ -78,9 +80,24 @@ fn is_given_back<H: Hasher<Digest = Digest32>, R: Threads + Sync, S: Strategy>(
     ensures { IfOk result (λ given. given
         ≡ spec.is_given_back H.digest_of committees.now archive.now link.now) }
 {
-    let (commitment, _) = cut_block::<H, R, S>(rt, alloc, committees, link, strategy)?;
+    let commitment = commitment_of::<H, R, S>(rt, alloc, committees, link, strategy)?;
     match archive.get(rt, alloc, &commitment, strategy)? {
         Some(block) => Ok(block.is_same(link)),
         None => Ok(false),
     }
+}
+
+// What names the link, by the committee of its epoch.
+fn commitment_of<H: Hasher<Digest = Digest32>, R: Threads + Sync, S: Strategy>(
+    rt: &R,
+    alloc: Global,
+    committees: &Committees,
+    link: &ChainBlock,
+    strategy: &S,
+) -> Result<Commitment, NoMemory>
+    ensures { IfOk result (λ commitment. commitment
+        ≡ commit (rules_of H.digest_of committees.now) link.now) }
+{
+    let cut = cut_block::<H, R, S>(rt, alloc, committees, link, strategy)?;
+    Ok(cut.0)
 }
