@@ -52,7 +52,7 @@ fn first_of_four<R: Threads + Sync>(rt: &R, alloc: Global) -> Result<Sitting, Fa
 // What came of a session in which genesis was acknowledged: the place that was answered, whether a
 // close was refused while a mailbox wasn't joined, how many entries there are, whether the first is
 // the own call, and the height that was acknowledged last.
-#[derive(PartialEq, Debug)]
+#[derive(Debug, Drop, PartialEq)]
 struct Outcome {
     place: u64,
     was_open: bool,
