@@ -214,10 +214,14 @@ fn run_of(heights: &[u64]) -> Option<(u64, u64, usize)> {
     Some((first, last, heights.len()))
 }
 
-fn count_at(store: &Store, first: u64, last: u64) -> usize {
-    (first..=last)
-        .filter(|height| store.get().get_block(Identifier::Height(*height)).is_some())
-        .count()
+fn count_at(store: &Store, first: u64, last: u64) -> u64 {
+    let mut count = 0u64;
+    for height in first..=last {
+        if store.get().get_block(Identifier::Height(height)).is_some() {
+            count = count.saturating_add(1);
+        }
+    }
+    count
 }
 
 fn served(alloc: Global, store: &mut Store, blocks: &[Made]) -> Result<Vec<(u64, usize)>, Fail> {
