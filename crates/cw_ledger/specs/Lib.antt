@@ -1,0 +1,4 @@
+pub mod Transfers
+pub mod Ledger
+pub mod Frames
+pub mod Kept
