@@ -1,6 +1,9 @@
 //! What each account has, in a map by account.
 
 ghost use Rattle.std.specs.Prelude.{◌≡◌, ◌⊎◌, ℕ, true, false, IfOk, OnErr, OnOk};
+ghost use Rattle.std.specs.List.Sorted.{IsStrictlySortedBy};
+ghost use Rattle.std.specs.Map.{keys_of};
+ghost use Rattle.std.specs.Ordering.{nat_cmp};
 ghost use Rattle.cw_ledger.specs.Kept.{HasRoom, IsSet, amount_in, has_entry};
 ghost use Rattle.cw_ledger.specs.Transfers.{first_balance, holdings, moved, moved_all};
 
@@ -93,7 +96,10 @@ impl Balances {
         ensures stays { (other : ℕ) → has_entry self.old other ≡ true → has_entry self.new other ≡ true }
     {
         let from = amount_of(&self.map, transfer.from);
-        if from < transfer.amount || transfer.from == transfer.to {
+        if from < transfer.amount {
+            return;
+        }
+        if transfer.from == transfer.to {
             return;
         }
         set_amount(&mut self.map, transfer.from, from - transfer.amount);
@@ -134,6 +140,7 @@ fn put(map: &mut BTreeMap<u32, u64>, account: u32, amount: u64) -> Result<(), No
     ensures there { OnOk result (has_entry map.new.entries account ≡ true) }
     ensures err { OnErr result (map.new.entries ≡ map.old.entries) }
     ensures absent { OnErr result (has_entry map.old.entries account ≡ false) }
+    ensures was_sorted { IsStrictlySortedBy nat_cmp (keys_of map.old.entries) }
 {
     map.insert(account, amount)?;
     Ok(())

@@ -1,0 +1,129 @@
+-- One frame more on the log of a replica.
+use Rattle.std.proofs.Common.{◌≡◌, ◌⊎◌, inl, inr, ℕ, zero, suc, ◌+◌, ◌<◌, ◌^◌, Bool, true, false, List, [], ◌∷◌, ◌++◌, length, Option, None, Some, option_map, Result, Ok, Err, refl, sym, ap, subst, ◌∙◌, append-nil, arith, length-append}
+use Rattle.node_disk.specs.Compose.{stays, weakens}
+use Rattle.node_disk.specs.Disk.{DeviceCall, DiskState, HasTold, IsFront, LeavesOnly, told_more}
+use Rattle.node_disk.specs.Frames.{Finds, FindsWithOrWithout, read_log}
+use Rattle.node_disk.specs.Images.{Moment, IsImage}
+use Rattle.node_disk.specs.Log.{IsBeforeOrSame, IsSettled, with_frame}
+use Rattle.node_disk.proofs.AtRest.{settled_images}
+use Rattle.cw_base.specs.Bytes.{be64}
+use Rattle.cw_ledger.specs.Frames.{FindsEither, FindsPayloads, IsBeforeOrFound, first_payload, payload_in, payloads_from, payloads_of, with_payload}
+use Rattle.cw_ledger.specs.Kept.{AreKept, amount_in, kept_payloads, payloads_or_none}
+use Rattle.cw_ledger.specs.Ledger.{frame_of, frames_of}
+use Rattle.cw_ledger.specs.Transfers.{balances, moved_all, transfers}
+use Rattle.cw_ledger.proofs.Loading.{as_many, frames_more}
+use Rattle.cw_ledger.proofs.Moving.{balances_more, moved_all_same}
+use Rattle.cw_ledger.proofs.Reading.{found_again}
+
+-- ---- one frame more
+
+same_Ok : {A : Type 0} (x y : A) → ◌≡◌ {A = Result A ℕ} (Ok x) (Ok y) → x ≡ y
+same_Ok x y e = cc
+
+one_more : (place height : ℕ) (frames payloads : List (List ℕ)) (frame payload : List ℕ)
+    → payloads_from place height frames ≡ Ok payloads → payload_in (height + length frames) frame ≡ Some payload → payloads_from place height (frames ++ frame ∷ []) ≡ Ok (payloads ++ payload ∷ [])
+one_more place height [] payloads frame payload e new =
+    ap (λ n. first_payload place (payload_in n frame) (Ok [])) (let z : height ≡ height + 0 = omega arith in z)
+    ∙ ap (λ o. first_payload place o (Ok [])) new
+    ∙ ap (λ ps. Ok (ps ++ payload ∷ [])) (same_Ok [] payloads e)
+one_more place height (f ∷ fs) payloads frame payload e new = go (λ ps is. one_more (place + 9 + length f) (height + 1) fs ps frame payload is next) (payload_in height f) (payloads_from (place + 9 + length f) (height + 1) fs) refl refl e
+  where
+    next : payload_in (height + 1 + length fs) frame ≡ Some payload
+    next = ap (λ n. payload_in n frame) (let z : height + 1 + length fs ≡ height + suc (length fs) = omega arith in z) ∙ new
+
+    go : ((ps : List (List ℕ)) → payloads_from (place + 9 + length f) (height + 1) fs ≡ Ok ps → payloads_from (place + 9 + length f) (height + 1) (fs ++ frame ∷ []) ≡ Ok (ps ++ payload ∷ []))
+        → (o : Option (List ℕ)) (r : Result (List (List ℕ)) ℕ) → payload_in height f ≡ o → payloads_from (place + 9 + length f) (height + 1) fs ≡ r → first_payload place o r ≡ Ok payloads → payloads_from place height ((f ∷ fs) ++ frame ∷ []) ≡ Ok (payloads ++ payload ∷ [])
+    go later None r first rest h = absurd cc
+    go later (Some p) (Err q) first rest h = absurd cc
+    go later (Some p) (Ok ps) first rest h =
+        ap (λ o. first_payload place o (payloads_from (place + 9 + length f) (height + 1) (fs ++ frame ∷ []))) first
+        ∙ ap (with_payload p) (later ps rest)
+        ∙ ap (λ l. Ok (l ++ payload ∷ [])) (same_Ok (p ∷ ps) payloads h)
+
+-- ---- what a log's images show
+
+pub finds_payloads : (frames payloads : List (List ℕ)) (image : List ℕ) → payloads_from 0 0 frames ≡ Ok payloads → Finds frames image → FindsPayloads payloads image
+finds_payloads frames payloads image found finds = ap payloads_of finds ∙ found
+
+pub before_or_found : (moment : Moment) (image : List ℕ) → IsBeforeOrSame moment image → IsBeforeOrFound moment image
+before_or_found moment image (inl is) = inl is
+before_or_found moment image (inr same) = inr (ap payloads_of same)
+
+pub starts_so : (old new : DiskState) → LeavesOnly old new (IsBeforeOrSame old.now) → LeavesOnly old new (IsBeforeOrFound old.now)
+starts_so old new left = weakens old new (IsBeforeOrSame old.now) (IsBeforeOrFound old.now) (before_or_found old.now) left
+
+-- nothing was done to the disk
+pub stays_found : (frames payloads others : List (List ℕ)) (gate : ℕ) (disk : DiskState) → payloads_from 0 0 frames ≡ Ok payloads → IsSettled frames gate disk.now → LeavesOnly disk disk (FindsEither payloads others)
+stays_found frames payloads others gate disk found settled =
+    stays disk disk (FindsEither payloads others) (record { now = refl; past = refl; calls = refl })
+    (λ image is. inl (finds_payloads frames payloads image found (settled_images frames gate disk.now settled image is)))
+
+-- no device was called
+pub told_none : (told : Option (List DeviceCall)) → told ≡ told_more told []
+told_none None = refl
+told_none (Some told) = ap Some (sym (append-nil told))
+
+pub front_of_none : (calls : List DeviceCall) (disk : DiskState) → IsFront calls disk disk
+front_of_none calls disk = record { did = []; rest = calls; whole = refl; told = told_none disk.calls }
+
+-- ---- a payload more
+
+eight : (n : ℕ) → length (be64 n) ≡ 8
+unfolding be64
+eight n = refl
+
+long_frame : (height : ℕ) (payload : List ℕ) → 0 < length (frame_of (height, payload))
+long_frame height payload = omega (arith, length-append (be64 height) payload, eight height)
+
+added : (frames : List (List ℕ)) (frame : List ℕ) → 0 < length frame → with_frame frames frame ≡ frames ++ frame ∷ []
+added frames [] none = absurd (omega arith)
+added frames (b ∷ bs) long = refl
+
+-- how a replica stands once its log has the frame
+pub record IsAdded (frames more : List (List ℕ)) (payload : List ℕ) (entries : List (ℕ × ℕ)) : Type 0 where
+  pub kept_more : AreKept more entries
+  pub payloads : kept_payloads more ≡ kept_payloads frames ++ payload ∷ []
+
+module _ (frames : List (List ℕ)) (entries : List (ℕ × ℕ)) (are : AreKept frames entries) (payload : List ℕ) (fits : length frames < 2 ^ 64) where
+  abbrev frame : List ℕ
+  frame = frame_of (length frames, payload)
+
+  pub found_more : payloads_from 0 0 (frames ++ frame ∷ []) ≡ Ok (kept_payloads frames ++ payload ∷ [])
+  found_more = one_more 0 0 frames (kept_payloads frames) frame payload are.found (ap (λ n. payload_in n frame) (let z : 0 + length frames ≡ length frames = omega arith in z) ∙ found_again (length frames) payload fits)
+
+  pub any_moment : (old new : DiskState) → LeavesOnly old new (FindsWithOrWithout frames frame) → LeavesOnly old new (FindsEither (kept_payloads frames) (kept_payloads frames ++ payload ∷ []))
+  any_moment old new left = weakens old new (FindsWithOrWithout frames frame) (FindsEither (kept_payloads frames) (kept_payloads frames ++ payload ∷ [])) (λ image found. in_payloads image found) left
+    where
+      in_payloads : (image : List ℕ) → FindsWithOrWithout frames frame image → FindsEither (kept_payloads frames) (kept_payloads frames ++ payload ∷ []) image
+      in_payloads image (inl finds) = inl (finds_payloads frames (kept_payloads frames) image are.found finds)
+      in_payloads image (inr finds) = inr (finds_payloads (frames ++ frame ∷ []) (kept_payloads frames ++ payload ∷ []) image found_more finds)
+
+  module _ (more : List (List ℕ)) (more_is : more ≡ with_frame frames frame) where
+    more_are : more ≡ frames ++ frame ∷ []
+    more_are = more_is ∙ added frames frame (long_frame (length frames) payload)
+
+    found_there : payloads_from 0 0 more ≡ Ok (kept_payloads frames ++ payload ∷ [])
+    found_there = ap (payloads_from 0 0) more_are ∙ found_more
+
+    pub payloads_are : kept_payloads more ≡ kept_payloads frames ++ payload ∷ []
+    payloads_are = ap payloads_or_none found_there
+
+    pub found_kept : payloads_from 0 0 more ≡ Ok (kept_payloads more)
+    found_kept = found_there ∙ ap Ok (sym payloads_are)
+
+    pub written_more : more ≡ frames_of (kept_payloads more)
+    written_more =
+        more_are ∙ ap (λ fs. fs ++ frame ∷ []) are.written
+        ∙ ap (λ n. frames_of (kept_payloads frames) ++ frame_of (n, payload) ∷ []) (sym (as_many frames entries are))
+        ∙ sym (frames_more (kept_payloads frames) payload) ∙ ap frames_of (sym payloads_are)
+
+    pub are_kept : (room passed : List (ℕ × ℕ)) → ((a : ℕ) → amount_in room a ≡ amount_in entries a) → ((a : ℕ) → amount_in passed a ≡ moved_all (amount_in room) (transfers payload) a) → AreKept more passed
+    are_kept room passed same moves = record {
+      found = found_kept;
+      written = written_more;
+      balanced = λ a. moves a ∙ moved_all_same (amount_in room) (balances (kept_payloads frames)) (transfers payload) (λ b. same b ∙ are.balanced b) a ∙ sym (balances_more (kept_payloads frames) payload a) ∙ ap (λ ps. balances ps a) (sym payloads_are);
+    }
+
+-- the entries have what they had
+pub kept_same : (frames : List (List ℕ)) (old new : List (ℕ × ℕ)) → AreKept frames old → ((a : ℕ) → amount_in new a ≡ amount_in old a) → AreKept frames new
+kept_same frames old new are same = record { found = are.found; written = are.written; balanced = λ a. same a ∙ are.balanced a }

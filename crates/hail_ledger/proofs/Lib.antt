@@ -1,0 +1,5 @@
+pub mod Acks
+pub mod Orders
+pub mod Worlds
+pub mod Chains
+pub mod Ends
