@@ -1,3 +1,4 @@
+pub mod Given
 pub mod Acks
 pub mod Orders
 pub mod Worlds
