@@ -37,12 +37,12 @@ has_none entries account none = go (lookup (is_at (nat_cmp account)) entries) no
 -- one key more
 pub keys_more : (P : ℕ → Type 0) (entries : List (ℕ × ℕ)) (account amount : ℕ) → P account → AllByRecursion P (keys_of entries) → AllByRecursion P (keys_of (insert_entry nat_cmp entries account amount))
 keys_more P [] account amount here all = (here, tt)
-keys_more P (e ∷ es) account amount here all = go (nat_cmp account e.0)
+keys_more P (e ∷ es) account amount here all = go (nat_cmp account e.0) (keys_more P es account amount here all.1)
   where
-    go : (o : Ordering) → AllByRecursion P (keys_of (match_ordering o ((account, amount) ∷ e ∷ es) ((e.0, amount) ∷ es) (e ∷ insert_entry nat_cmp es account amount)))
-    go Less = (here, all)
-    go Equal = (all.0, all.1)
-    go Greater = (all.0, keys_more P es account amount here all.1)
+    go : (o : Ordering) → AllByRecursion P (keys_of (insert_entry nat_cmp es account amount)) → AllByRecursion P (keys_of (match_ordering o ((account, amount) ∷ e ∷ es) ((e.0, amount) ∷ es) (e ∷ insert_entry nat_cmp es account amount)))
+    go Less later = (here, all)
+    go Equal later = (all.0, all.1)
+    go Greater later = (all.0, later)
 
 -- an account that has something has an entry, and so what is taken from one without is nothing
 pub taken_fits : (entries : List (ℕ × ℕ)) (account amount : ℕ) → (amount_in entries account - amount ≡ 0) ⊎ (has_entry entries account ≡ true)

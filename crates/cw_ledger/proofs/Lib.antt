@@ -5,3 +5,4 @@ pub mod Holders
 pub mod Reading
 pub mod Loading
 pub mod Adding
+pub mod Applying

@@ -1,5 +1,5 @@
 -- What transfers leave.
-use Rattle.std.proofs.Common.{◌≡◌, ◌⊎◌, inl, inr, ℕ, zero, suc, ◌+◌, ◌-◌, ◌<◌, ◌≤◌, ◌==◌, ◌&&◌, not, Bool, true, false, cond, nat_le, List, [], ◌∷◌, ◌++◌, length, take, fold, flat_map, sum, Option, None, Some, refl, sym, ap, subst, ◌∙◌, arith}
+use Rattle.std.proofs.Common.{◌≡◌, ◌⊎◌, inl, inr, ℕ, zero, suc, ◌+◌, ◌-◌, ◌<◌, ◌≤◌, ◌==◌, ◌&&◌, not, Bool, true, false, cond, nat_le, List, [], ◌∷◌, ◌++◌, length, get_or, take, fold, flat_map, sum, Option, None, Some, refl, sym, ap, subst, ◌∙◌, arith}
 use Rattle.std.specs.BTreeMap.{is_at}
 use Rattle.std.specs.List.{AllByRecursion}
 use Rattle.std.specs.Map.{keys_of, lookup, values_of}
@@ -39,14 +39,14 @@ moved_more f (x ∷ xs) ys a = moved_more (moved f x) xs ys a
 
 -- a transfer that doesn't apply
 pub passed_over : (has : ℕ → ℕ) (t : Transfer) → (has t.from < t.amount) ⊎ (t.from ≡ t.to) → (a : ℕ) → has a ≡ moved has t a
-passed_over has t why a = ap (λ b. cond b (cond (a == t.from) (has a - t.amount) (cond (a == t.to) (has a + t.amount) (has a))) (has a)) (sym (no why))
+passed_over has t why a = ap (λ b. cond b (cond (a == t.from) (has a - t.amount) (cond (a == t.to) (has a + t.amount) (has a))) (has a)) (sym (unfit why))
   where
     with_false : (b : Bool) → (b && false) ≡ false
     with_false true = refl
     with_false false = refl
 
-    no : (has t.from < t.amount) ⊎ (t.from ≡ t.to) → applies has t ≡ false
-    no (inl less) = ap (λ b. b && not (t.from == t.to)) (le_not t.amount (has t.from) less)
+    unfit : (has t.from < t.amount) ⊎ (t.from ≡ t.to) → applies has t ≡ false
+    unfit (inl less) = ap (λ b. b && not (t.from == t.to)) (le_not t.amount (has t.from) less)
       where
         le_not : (x y : ℕ) → y < x → nat_le x y ≡ false
         le_not x y lt = go (nat_le x y) refl
@@ -54,19 +54,19 @@ passed_over has t why a = ap (λ b. cond b (cond (a == t.from) (has a - t.amount
             go : (b : Bool) → nat_le x y ≡ b → b ≡ false
             go true is = absurd (omega (arith, leb-true x y is))
             go false is = refl
-    no (inr same) = ap (λ b. nat_le t.amount (has t.from) && not b) (same_is t.from t.to same) ∙ with_false (nat_le t.amount (has t.from))
+    unfit (inr same) = ap (λ b. nat_le t.amount (has t.from) && not b) (same_is t.from t.to same) ∙ with_false (nat_le t.amount (has t.from))
 
 -- a transfer that applies: its amount is taken from one account, and given to the other
 module _ (has mid new : ℕ → ℕ) (t : Transfer) (there : t.amount ≤ has t.from) (apart : t.from ≡ t.to → ⊥)
     (first : (a : ℕ) → mid a ≡ cond (t.from == a) (has t.from - t.amount) (has a)) (second : (a : ℕ) → new a ≡ cond (t.to == a) (mid t.to + t.amount) (mid a)) where
-  yes : applies has t ≡ true
-  yes = ap (λ b. b && not (t.from == t.to)) (le-leb t.amount (has t.from) there) ∙ ap not (other_is t.from t.to apart)
+  does : applies has t ≡ true
+  does = ap (λ b. b && not (t.from == t.to)) (le-leb t.amount (has t.from) there) ∙ ap not (other_is t.from t.to apart)
 
   mid_to : mid t.to ≡ has t.to
   mid_to = first t.to ∙ ap (λ b. cond b (has t.from - t.amount) (has t.to)) (other_is t.from t.to apart)
 
   opened : (a : ℕ) → moved has t a ≡ cond (a == t.from) (has a - t.amount) (cond (a == t.to) (has a + t.amount) (has a))
-  opened a = ap (λ b. cond b (cond (a == t.from) (has a - t.amount) (cond (a == t.to) (has a + t.amount) (has a))) (has a)) yes
+  opened a = ap (λ b. cond b (cond (a == t.from) (has a - t.amount) (cond (a == t.to) (has a + t.amount) (has a))) (has a)) does
 
   pub passed : (a : ℕ) → new a ≡ moved has t a
   passed a = go (cases_eq t.from a) (cases_eq t.to a)
@@ -94,7 +94,6 @@ pub at_most_all : (entries : List (ℕ × ℕ)) (account : ℕ) → amount_in en
 at_most_all entries account = lookup-le-sum (is_at (nat_cmp account)) entries
 
 -- all that there is stays, and what is given fits
-
 module _ (old mid : List (ℕ × ℕ)) (from amount : ℕ) (are : AreBalances old) (there : amount ≤ amount_in old from) (taken : IsSet from (amount_in old from - amount) old mid) where
   pub less_is_left : sum (values_of mid) + amount ≡ 1_000_000_000
   less_is_left = omega (arith, taken.sums, are.supply, at_most_all old from)
@@ -118,6 +117,12 @@ room_stays old new (t ∷ ts) stays room = (stays t.to room.0, room_stays old ne
 pub room_more : (entries : List (ℕ × ℕ)) (xs : List Transfer) (t : Transfer) → HasRoom entries xs → has_entry entries t.to ≡ true → HasRoom entries (xs ++ t ∷ [])
 room_more entries [] t room there = (there, tt)
 room_more entries (x ∷ xs) t room there = (room.0, room_more entries xs t room.1 there)
+
+-- there is room at each place
+pub room_at : (entries : List (ℕ × ℕ)) (ts : List Transfer) (i : ℕ) (d : Transfer) → i < length ts → HasRoom entries ts → has_entry entries (get_or ts i d).to ≡ true
+room_at entries [] i d lt room = absurd (omega arith)
+room_at entries (t ∷ ts) zero d lt room = room.0
+room_at entries (t ∷ ts) (suc i) d lt room = room_at entries ts i d (omega arith) room.1
 
 -- ---- payloads
 

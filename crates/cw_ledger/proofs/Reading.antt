@@ -17,10 +17,10 @@ frame_is height frame payload bytes found = go (be64_at frame) refl found
     go (Ok read) is h = by (read.0 == height) refl h
       where
         by : (b : Bool) → (read.0 == height) ≡ b → cond b (Some read.1) None ≡ Some payload → frame ≡ frame_of (height, payload)
-        by false no e = absurd cc
-        by true yes e =
+        by false differs e = absurd cc
+        by true same e =
             (be64_reads_back.found frame read.1 read.0 bytes is).0
-            ∙ ap (λ n. be64 n ++ read.1) (eqb-true read.0 height yes)
+            ∙ ap (λ n. be64 n ++ read.1) (eqb-true read.0 height same)
             ∙ ap (λ p. be64 height ++ p) (same_Some read.1 payload e)
 
 -- a frame that is written is read as its payload

@@ -47,17 +47,17 @@ module _ (old new : List (ℕ × ℕ)) (account amount : ℕ) where
 
   -- it had nothing, has no entry and gets nothing
   pub stays_none : amount ≡ 0 → has_entry old account ≡ false → new ≡ old → IsStrictlySortedBy nat_cmp (keys_of old) → IsSet account amount old new
-  stays_none zero none same sorted = record {
+  stays_none gone none same sorted = record {
     amounts = λ other. ap (λ es. amount_in es other) same ∙ kept other;
     stays = λ other had. ap (λ es. has_entry es other) same ∙ had;
     sorted = rw same sorted;
     accounts = λ all. rw same all;
-    sums = rw same (ap (λ n. sum (values_of old) + n) (has_none old account none ∙ sym zero));
+    sums = rw same (ap (λ n. sum (values_of old) + n) (has_none old account none ∙ sym gone));
   }
     where
       kept : (other : ℕ) → amount_in old other ≡ cond (account == other) amount (amount_in old other)
       kept other = go (account == other) refl
         where
           go : (b : Bool) → (account == other) ≡ b → amount_in old other ≡ cond b amount (amount_in old other)
-          go true is = ap (amount_in old) (sym (eqb-true account other is)) ∙ has_none old account none ∙ sym zero
+          go true is = ap (amount_in old) (sym (eqb-true account other is)) ∙ has_none old account none ∙ sym gone
           go false is = refl

@@ -16,7 +16,7 @@ transfer_at bytes = record {
 -- the transfers of a payload: one for each sixteen bytes, and none where its length isn't a multiple of sixteen
 unfoldable pub transfers : List ℕ → List Transfer
 transfers payload =
-    if length payload % 16 == 0 then map (λ i. transfer_at (drop (16 * i) payload)) (range_with_len 0 (length payload / 16)) else []
+    if length payload % 16 == 0 then map (λ i. transfer_at (drop (i * 16) payload)) (range_with_len 0 (length payload / 16)) else []
 
 -- a transfer applies where the balance is there. Where both are one account nothing changes
 abbrev pub applies : (ℕ → ℕ) → Transfer → Bool

@@ -1,6 +1,7 @@
 //! Payloads as the frames of a log, and read back from them.
 
 ghost use Rattle.std.specs.Prelude.{◌≡◌, ◌+◌, ◌<◌, ◌^◌, ◌++◌, ℕ, length, IfOk, OnOk, Err, IsErrOf, option_map};
+ghost use Rattle.cw_base.specs.ReadingLaws.{IsBytes};
 ghost use Rattle.cw_ledger.specs.Frames.{payload_in, payloads_from};
 ghost use Rattle.cw_ledger.specs.Kept.{AreKept, amount_in};
 ghost use Rattle.cw_ledger.specs.Ledger.{frame_of};
@@ -34,6 +35,13 @@ fn payload_in(frame: &[u8], height: u64) -> Option<&[u8]>
     }
 }
 
+// A law: each item of a slice of bytes is below 256.
+fn are_bytes(bytes: &[u8])
+    ensures { IsBytes bytes.now }
+{
+    let _bytes = bytes;
+}
+
 // The place of the gate byte behind a frame. No memory holds the frames of a longer file.
 fn place_behind(place: u64, frame: &[u8]) -> Result<u64, NoMemory>
     ensures { IfOk result (λ next. next ≡ place + 9 + length frame.now) }
@@ -58,6 +66,7 @@ pub(crate) fn loaded<D: Disk>(alloc: Global, log: &Log<D>) -> Result<Balances, S
     let mut place = 0;
     for index in 0..log.frames() {
         let frame = log.frame(index);
+        are_bytes(frame);
         let Some(payload) = payload_in(frame, index as u64) else {
             return Err(StoreError::Foreign(place));
         };

@@ -77,14 +77,14 @@ module _ (chain : List Block) (heights_are : HasHeights chain) where
 
       go : (h ≡ n) ⊎ (h ≡ n → ⊥) → (given_one chain (first n) h ≡ first (after_one n h)) × (after_one n h ≤ length chain)
       go (inl same) =
-          let yes : (h == n) ≡ true = rw same (grind arith) in
+          let is_it : (h == n) ≡ true = rw same (grind arith) in
           let there : slice_get chain n ≡ Some b = subst (λ k. slice_get chain k ≡ Some b) same at in
-          let now : after_one n h ≡ n + 1 = ap (λ t. cond t (n + 1) n) yes in
-          (opened ∙ ap (λ t. cond t (first n ++ b.payload ∷ []) (first n)) (test ∙ yes) ∙ sym (taken_more chain n b there) ∙ ap first (sym now), omega (arith, now, get_below chain n b there))
+          let now : after_one n h ≡ n + 1 = ap (λ t. cond t (n + 1) n) is_it in
+          (opened ∙ ap (λ t. cond t (first n ++ b.payload ∷ []) (first n)) (test ∙ is_it) ∙ sym (taken_more chain n b there) ∙ ap first (sym now), omega (arith, now, get_below chain n b there))
       go (inr other) =
-          let no : (h == n) ≡ false = not_same (h == n) refl in
-          let now : after_one n h ≡ n = ap (λ t. cond t (n + 1) n) no in
-          (opened ∙ ap (λ t. cond t (first n ++ b.payload ∷ []) (first n)) (test ∙ no) ∙ ap first (sym now), omega (arith, now))
+          let not_it : (h == n) ≡ false = not_same (h == n) refl in
+          let now : after_one n h ≡ n = ap (λ t. cond t (n + 1) n) not_it in
+          (opened ∙ ap (λ t. cond t (first n ++ b.payload ∷ []) (first n)) (test ∙ not_it) ∙ ap first (sym now), omega (arith, now))
         where
           not_same : (t : Bool) → (h == n) ≡ t → t ≡ false
           not_same true e = absurd (other (eqb-true h n e))

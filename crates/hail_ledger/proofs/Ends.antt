@@ -86,9 +86,10 @@ module _ (r : Rules) (script : List Line) (w : World) (told : Reported) (is : to
   all_of n before (Some m ∷ ms) [] here len e = absurd (omega (arith, ap length e))
   all_of n before (Some m ∷ ms) (l ∷ ls) here len e =
       let same : l.payloads ≡ payloads_of told n = cc in
-      let rest : map (λ (x : Ledger MemoryState). x.payloads) ls ≡ map (payloads_of told) (map (λ (a : Acked). a.member) (filter_map acked_at (enumerate_from (n + 1) ms))) = cc in
-      (subst (IsLedgerOf told.chain (handed_to told n)) (sym same) (ledger_of n m (ap (λ ms'. slice_get ms' n) here ∙ at_end before n m ms len)),
-      all_of (n + 1) (before ++ Some m ∷ []) ms ls (here ∙ sym (append_assoc before (Some m ∷ []) ms)) (omega (arith, length-append before (Some m ∷ []), len)) rest)
+      let rest : map (λ (x : Ledger MemoryState). x.payloads) ls ≡ map (payloads_of told) (map (λ (a : Acked). a.member) (filter_map acked_at (enumerate_from (n + 1) ms))) = cc in (
+        subst (IsLedgerOf told.chain (handed_to told n)) (sym same) (ledger_of n m (ap (λ ms'. slice_get ms' n) here ∙ at_end before n m ms len)),
+        all_of (n + 1) (before ++ Some m ∷ []) ms ls (here ∙ sym (append_assoc before (Some m ∷ []) ms)) (omega (arith, length-append before (Some m ∷ []), len)) rest,
+      )
     where
       at_end : (xs : List (Option Member)) (k : ℕ) (p : Member) (ys : List (Option Member)) → length xs ≡ k → slice_get (xs ++ Some p ∷ ys) k ≡ Some (Some p)
       at_end [] zero p ys e = refl
@@ -99,5 +100,5 @@ module _ (r : Rules) (script : List Line) (w : World) (told : Reported) (is : to
   pub all_ledgers : (ledgers : List (Ledger MemoryState)) → map (λ l. l.payloads) ledgers ≡ map (payloads_of told) (map (λ a. a.member) told.acked) → AreLedgers told (map (λ a. a.member) told.acked) ledgers
   all_ledgers ledgers e =
       let acked : told.acked ≡ filter_map acked_at (enumerate_from 0 w.members) = ap (λ (t : Reported). t.acked) is in
-      subst (λ as. AreLedgers told (map (λ (a : Acked). a.member) as) ledgers) (sym acked)
-      (all_of 0 [] w.members ledgers refl refl (e ∙ ap (λ as. map (payloads_of told) (map (λ (a : Acked). a.member) as)) acked))
+      subst (λ ms. AreLedgers told (map (λ (a : Acked). a.member) ms) ledgers) (sym acked)
+      (all_of 0 [] w.members ledgers refl refl (e ∙ ap (λ ms. map (payloads_of told) (map (λ (a : Acked). a.member) ms)) acked))

@@ -208,7 +208,7 @@ pub handed_in_order : (r : Rules) (steps : ℕ) (s : State) (heights : List ℕ)
 handed_in_order r zero s heights is = subst (λ l. IsInOrder l s.notes (s.given ++ [])) (sym (append-nil heights)) (subst (λ l. IsInOrder heights s.notes l) (sym (append-nil s.given)) is)
 handed_in_order r (suc steps) s heights is = go (delivery r s) refl (λ h. handed_in_order r steps (with_given s h) (heights ++ h ∷ []))
   where
-    abbrev rest : ℕ → List ℕ
+    rest : ℕ → List ℕ
     rest h = map (λ (x : Handed). x.height) (deliveries_within r steps (with_given s h))
 
     go : (o : Option Handed) → delivery r s ≡ o

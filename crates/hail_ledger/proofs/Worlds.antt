@@ -120,7 +120,7 @@ done_in_order r w line heights all (Some done) e i m at = go (get-set w.members 
     j : ℕ
     j = line_member line
 
-    abbrev Goal : Bool → Type 0
+    Goal : Bool → Type 0
     Goal b = IsInOrder (heights i ++ cond b (heights_in done.handed) []) (member_notes m) m.given
 
     test : (b : Bool) → (j == i) ≡ b → Goal b → IsInOrder (heights i ++ cond (j == i) (heights_in done.handed) []) (member_notes m) m.given
@@ -130,10 +130,10 @@ done_in_order r w line heights all (Some done) e i m at = go (get-set w.members 
     same n k e = rw e (grind arith)
 
     other : (n k : ℕ) → (n ≡ k → ⊥) → (n == k) ≡ false
-    other n k no = by (n == k) refl
+    other n k differs = by (n == k) refl
       where
         by : (b : Bool) → (n == k) ≡ b → b ≡ false
-        by true is = absurd (no (eqb-true n k is))
+        by true is = absurd (differs (eqb-true n k is))
         by false is = refl
 
     own : (p : Member) → slice_get w.members j ≡ Some (Some p) → turned r w j line p ≡ Some done → IsInOrder (heights j ++ heights_in done.handed) (member_notes done.member) done.member.given
@@ -145,7 +145,7 @@ done_in_order r w line heights all (Some done) e i m at = go (get-set w.members 
         let whole = own p (member_there w j p there) turn in
         let moved = subst (λ k. IsInOrder (heights k ++ heights_in done.handed) (member_notes done.member) done.member.given) is whole in
         test true (same j i is) (subst (λ (k : Member). IsInOrder (heights i ++ heights_in done.handed) (member_notes k) k.given) (same_Some done.member m new) moved)
-    go (inr (no, old)) = test false (other j i no) (same_heights (heights i) (member_notes m) m.given true (all i m old))
+    go (inr (differs, old)) = test false (other j i differs) (same_heights (heights i) (member_notes m) m.given true (all i m old))
 
 line_in_order : (r : Rules) (w : World) (number : ℕ) (line : Line) (heights : ℕ → List ℕ) → AllInOrder w heights → AllInOrder (happens r w line) (λ i. heights i ++ given_by r w number line i)
 line_in_order r w number (Do j ask) heights all = done_in_order r w (Do j ask) heights all (done_by r w (Do j ask)) refl
@@ -202,7 +202,7 @@ module _ (r : Rules) (script : List Line) (i : ℕ) where
 
   its_own : (low len : ℕ) → low ≤ i → i < low + len → list_any (faults i) script ≡ false → handed_in_entries i (filter_map (opening_entry r script) (range_with_len low len)) ≡ heights_in (start r i []).handed
   its_own low zero le less honest = absurd (omega arith)
-  its_own low (suc len) le less honest = by (cases_eq low i)
+  its_own low (suc len) le less honest = by (cases_eq low i) (λ other. its_own (low + 1) len (omega (arith, other)) (omega arith) honest)
     where
       rest : List Entry
       rest = filter_map (opening_entry r script) (range_with_len (low + 1) len)
@@ -212,23 +212,23 @@ module _ (r : Rules) (script : List Line) (i : ℕ) where
 
       at_it : (b : Bool) → (low == i) ≡ b → low ≡ i → cond b (heights_in (start r low []).handed) [] ≡ heights_in (start r i []).handed
       at_it true e same = ap (λ k. heights_in (start r k []).handed) same
-      at_it false e same = absurd (let yes : (low == i) ≡ true = rw same (grind arith) in let bad : true ≡ false = sym yes ∙ e in cc)
+      at_it false e same = absurd (let is_it : (low == i) ≡ true = rw same (grind arith) in let bad : true ≡ false = sym is_it ∙ e in cc)
 
       not_it : (b : Bool) → (low == i) ≡ b → (low ≡ i → ⊥) → cond b (heights_in (start r low []).handed) [] ≡ []
-      not_it true e no = absurd (no (eqb-true low i e))
-      not_it false e no = refl
+      not_it true e differs = absurd (differs (eqb-true low i e))
+      not_it false e differs = refl
 
-      by : (low ≡ i) ⊎ (low ≡ i → ⊥) → handed_in_entries i (cons_option (opening_entry r script low) rest) ≡ heights_in (start r i []).handed
-      by (inl same) =
+      by : (low ≡ i) ⊎ (low ≡ i → ⊥) → ((low ≡ i → ⊥) → handed_in_entries i rest ≡ heights_in (start r i []).handed) → handed_in_entries i (cons_option (opening_entry r script low) rest) ≡ heights_in (start r i []).handed
+      by (inl same) later =
           ap (λ b. handed_in_entries i (cons_option (cond b None (Some here)) rest)) (subst (λ k. list_any (faults k) script ≡ false) (sym same) honest)
           ∙ ap (λ l. l ++ handed_in_entries i rest) (at_it (low == i) refl same)
           ∙ ap (λ l. heights_in (start r i []).handed ++ l) (others (low + 1) len (omega arith))
           ∙ append-nil (heights_in (start r i []).handed)
-      by (inr no) = go (list_any (faults low) script) (its_own (low + 1) len (omega (arith, no)) (omega arith) honest)
+      by (inr other) later = go (list_any (faults low) script) (later other)
         where
           go : (b : Bool) → handed_in_entries i rest ≡ heights_in (start r i []).handed → handed_in_entries i (cons_option (cond b None (Some here)) rest) ≡ heights_in (start r i []).handed
           go true e = e
-          go false e = ap (λ l. l ++ handed_in_entries i rest) (not_it (low == i) refl no) ∙ e
+          go false e = ap (λ l. l ++ handed_in_entries i rest) (not_it (low == i) refl other) ∙ e
 
 in_range : (low len i k : ℕ) → slice_get (range_with_len low len) i ≡ Some k → i < len
 in_range low zero i k h = cc
