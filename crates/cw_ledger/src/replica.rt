@@ -37,7 +37,7 @@ pub enum Applied {
 ///     Ok(replica) => replica,
 ///     Err((_disk, error)) => return Err(error),
 /// };
-/// match replica.apply(&block)? {
+/// match replica.apply(alloc, &block)? {
 ///     Applied::Done => {} // on the disk from here on
 ///     Applied::Known => {} // it was applied before
 ///     Applied::Gap(next) => {} // the block of height `next` is missing
@@ -47,7 +47,6 @@ pub enum Applied {
 /// ```
 #[derive(Drop)]
 pub struct Replica<D: Disk> {
-    alloc: Global,
     log: Log<D>,
     balances: Balances,
 }
@@ -115,11 +114,7 @@ impl<D: Disk> Replica<D> {
             Err(refused) => return Err(refused),
         };
         match loaded(alloc, &log) {
-            Ok(balances) => Ok(Replica {
-                alloc,
-                log,
-                balances,
-            }),
+            Ok(balances) => Ok(Replica { log, balances }),
             Err(error) => Err((log.into_disk(), error)),
         }
     }
@@ -127,7 +122,7 @@ impl<D: Disk> Replica<D> {
     /// Applies a block, by its height: a block of the next height is written on the disk and its
     /// transfers pass; one below it is known; one above it leaves a gap. Refused for memory before a
     /// device call, it changes nothing.
-    pub fn apply(&mut self, block: &ChainBlock) -> Result<Applied, StoreError>
+    pub fn apply(&mut self, alloc: Global, block: &ChainBlock) -> Result<Applied, StoreError>
         ensures answer { IfOk result (λ answer. answer ≡ answer_to (length self.old.payloads) block.now.height) }
         ensures ok { OnOk result (self.new ≡ record (over self.old self.new) { payloads = applied self.old.payloads block.now }) }
         ensures err { OnErr result (self.new ≡ over self.old self.new) }
@@ -177,14 +172,14 @@ impl<D: Disk> Replica<D> {
         if next < height {
             return Ok(Applied::Gap(next));
         }
-        match self.add(block.payload().bytes()) {
+        match self.add(alloc, block.payload().bytes()) {
             Ok(()) => Ok(Applied::Done),
             Err(error) => Err(error),
         }
     }
 
     // Writes the payload of the next height on the disk, and then passes its transfers.
-    fn add(&mut self, payload: &[u8]) -> Result<(), StoreError>
+    fn add(&mut self, alloc: Global, payload: &[u8]) -> Result<(), StoreError>
         requires { self.old.failed ≡ false }
         ensures ok { OnOk result (self.new ≡ record (over self.old self.new) { payloads = self.old.payloads ++ payload.now ∷ [] }) }
         ensures err { OnErr result (self.new ≡ over self.old self.new) }
@@ -212,11 +207,11 @@ impl<D: Disk> Replica<D> {
         ensures continues { D.continues self.old.disk self.new.disk }
     {
         let next = self.log.frames() as u64;
-        let transfers = match transfers_of(self.alloc, payload) {
+        let transfers = match transfers_of(alloc, payload) {
             Ok(transfers) => transfers,
             Err(NoMemory) => return Err(StoreError::NoMemory),
         };
-        let frame = match frame_of(self.alloc, next, payload) {
+        let frame = match frame_of(alloc, next, payload) {
             Ok(frame) => frame,
             Err(NoMemory) => return Err(StoreError::NoMemory),
         };
@@ -275,11 +270,7 @@ impl<D: Disk> Replica<D> {
     pub fn into_disk(self) -> D
         ensures { result ≡ self.disk }
     {
-        let Replica {
-            alloc: _,
-            log,
-            balances: _,
-        } = self;
+        let Replica { log, balances: _ } = self;
         log.into_disk()
     }
 }

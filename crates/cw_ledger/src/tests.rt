@@ -43,8 +43,8 @@ fn replica_on(alloc: Global, disk: MemoryDisk) -> Result<Replica<MemoryDisk>, Fa
 // A replica with heights 0 and 1, the second of which gives 5 to account 7.
 fn two_heights(alloc: Global) -> Result<Replica<MemoryDisk>, Fail> {
     let mut replica = replica_on(alloc, MemoryDisk::new(alloc, Vec::new(alloc)))?;
-    let _first = replica.apply(&block(alloc, 0, &[])?)?;
-    let _second = replica.apply(&block(alloc, 1, &transfer(0, 7, 5))?)?;
+    let _first = replica.apply(alloc, &block(alloc, 0, &[])?)?;
+    let _second = replica.apply(alloc, &block(alloc, 1, &transfer(0, 7, 5))?)?;
     Ok(replica)
 }
 
@@ -54,12 +54,21 @@ fn blocks_are_applied_in_order_and_once(rt: HostRuntime) -> Result<(), Fail> {
     let mut replica = replica_on(alloc, MemoryDisk::new(alloc, Vec::new(alloc)))?;
     assert_eq!(rt; replica.height(), None);
     assert_eq!(rt; replica.balance(0), 1_000_000_000);
-    assert_eq!(rt; replica.apply(&block(alloc, 1, &[])?)?, Applied::Gap(0));
-    assert_eq!(rt; replica.apply(&block(alloc, 0, &[])?)?, Applied::Done);
+    assert_eq!(rt;
+        replica.apply(alloc, &block(alloc, 1, &[])?)?,
+        Applied::Gap(0)
+    );
+    assert_eq!(rt;
+        replica.apply(alloc, &block(alloc, 0, &[])?)?,
+        Applied::Done
+    );
     let one = block(alloc, 1, &transfer(0, 7, 5))?;
-    assert_eq!(rt; replica.apply(&one)?, Applied::Done);
-    assert_eq!(rt; replica.apply(&one)?, Applied::Known);
-    assert_eq!(rt; replica.apply(&block(alloc, 3, &[])?)?, Applied::Gap(2));
+    assert_eq!(rt; replica.apply(alloc, &one)?, Applied::Done);
+    assert_eq!(rt; replica.apply(alloc, &one)?, Applied::Known);
+    assert_eq!(rt;
+        replica.apply(alloc, &block(alloc, 3, &[])?)?,
+        Applied::Gap(2)
+    );
     assert_eq!(rt; replica.height(), Some(1));
     assert_eq!(rt; replica.balance(0), 999_999_995);
     assert_eq!(rt; replica.balance(7), 5);
@@ -85,7 +94,7 @@ fn blocks_are_applied_in_order_and_once(rt: HostRuntime) -> Result<(), Fail> {
 // What accounts 0, 7 and 8 have after one more payload.
 fn after(alloc: Global, payload: &[u8]) -> Result<(u64, u64, u64), Fail> {
     let mut replica = two_heights(alloc)?;
-    let _applied = replica.apply(&block(alloc, 2, payload)?)?;
+    let _applied = replica.apply(alloc, &block(alloc, 2, payload)?)?;
     Ok((replica.balance(0), replica.balance(7), replica.balance(8)))
 }
 
@@ -165,7 +174,7 @@ fn stopped(alloc: Global, call: u64, cut: u64) -> Result<(u64, u64), Fail> {
     let mut replica = two_heights(alloc)?;
     replica.stop_at(call, cut, 0);
     let two = block(alloc, 2, &transfer(0, 7, 1))?;
-    let _answer = replica.apply(&two);
+    let _answer = replica.apply(alloc, &two);
     let before = replica.balance(7);
     let again = replica_on(alloc, replica.into_disk().reopen())?;
     Ok((before, again.balance(7)))
@@ -192,15 +201,15 @@ fn a_stop_leaves_what_was_before_or_what_is_after(rt: HostRuntime) -> Result<(),
     let mut replica = two_heights(alloc)?;
     replica.stop_at(1, 0, 0);
     assert_eq!(rt;
-        replica.apply(&block(alloc, 2, &[])?),
+        replica.apply(alloc, &block(alloc, 2, &[])?),
         Err(StoreError::Disk)
     );
     assert_eq!(rt;
-        replica.apply(&block(alloc, 2, &[])?),
+        replica.apply(alloc, &block(alloc, 2, &[])?),
         Err(StoreError::Failed)
     );
     assert_eq!(rt;
-        replica.apply(&block(alloc, 0, &[])?),
+        replica.apply(alloc, &block(alloc, 0, &[])?),
         Err(StoreError::Failed)
     );
 
@@ -209,6 +218,9 @@ fn a_stop_leaves_what_was_before_or_what_is_after(rt: HostRuntime) -> Result<(),
     replica.stop_at(1, 0, 0);
     replica.disarm();
     assert_eq!(rt; replica.bytes().len(), 51);
-    assert_eq!(rt; replica.apply(&block(alloc, 2, &[])?), Ok(Applied::Done));
+    assert_eq!(rt;
+        replica.apply(alloc, &block(alloc, 2, &[])?),
+        Ok(Applied::Done)
+    );
     Ok(())
 }

@@ -4,3 +4,4 @@ pub mod Orders
 pub mod Worlds
 pub mod Chains
 pub mod Ends
+pub mod Meaning

@@ -37,8 +37,14 @@ fn replica_of<H: Hasher<Digest = Digest32>>(
 {
     let chain = report.chain.as_slice();
     let mut replica = empty_replica(alloc)?;
-    give_entries(&mut replica, chain, member, report.opening.as_slice())?;
-    give_entries(&mut replica, chain, member, report.steps.as_slice())?;
+    give_entries(
+        alloc,
+        &mut replica,
+        chain,
+        member,
+        report.opening.as_slice(),
+    )?;
+    give_entries(alloc, &mut replica, chain, member, report.steps.as_slice())?;
     Ok(replica)
 }
 
@@ -54,6 +60,7 @@ fn empty_replica(alloc: Global) -> Result<Replica<MemoryDisk>, NoMemory>
 
 // Gives what some entries handed out to a member.
 fn give_entries(
+    alloc: Global,
     replica: &mut Replica<MemoryDisk>,
     chain: &[ChainBlock],
     member: u16,
@@ -63,7 +70,7 @@ fn give_entries(
 {
     for entry in entries {
         if entry.member == Some(member) {
-            give_handed(replica, chain, entry.handed.as_slice())?;
+            give_handed(alloc, replica, chain, entry.handed.as_slice())?;
         }
     }
     Ok(())
@@ -71,6 +78,7 @@ fn give_entries(
 
 // Gives the links of the heights that were handed out.
 fn give_handed(
+    alloc: Global,
     replica: &mut Replica<MemoryDisk>,
     chain: &[ChainBlock],
     handed: &[Handed],
@@ -78,13 +86,14 @@ fn give_handed(
     ensures { OnOk result (replica.new.payloads ≡ given_all chain.now replica.old.payloads (map (λ h. h.height) handed.now)) }
 {
     for block in handed {
-        give_link(replica, chain, block.height)?;
+        give_link(alloc, replica, chain, block.height)?;
     }
     Ok(())
 }
 
 // Gives the link of a height.
 fn give_link(
+    alloc: Global,
     replica: &mut Replica<MemoryDisk>,
     chain: &[ChainBlock],
     height: u64,
@@ -94,7 +103,7 @@ fn give_link(
     let Some(link) = chain.get(height as usize) else {
         return Ok(());
     };
-    match replica.apply(link) {
+    match replica.apply(alloc, link) {
         Ok(_) => Ok(()),
         Err(_) => Err(NoMemory),
     }
