@@ -115,13 +115,15 @@ fn transfers_pass_where_the_balance_is_there(rt: HostRuntime) -> Result<(), Fail
     }
 
     // One byte more is no list of transfers, and two transfers pass one behind the other.
-    let mut bytes = [0; 33];
-    bytes[..16].copy_from_slice(&transfer(7, 8, 4));
-    bytes[16..32].copy_from_slice(&transfer(8, 0, 3));
-    assert_eq!(rt; after(alloc, &bytes[..17])?, (999_999_995, 5, 0));
-    assert_eq!(rt; after(alloc, &bytes[..32])?, (999_999_998, 1, 1));
+    let mut bytes = Vec::from_slice(alloc, &transfer(7, 8, 4))?;
+    bytes.push(0)?;
     assert_eq!(rt; after(alloc, &bytes)?, (999_999_995, 5, 0));
-    assert_eq!(rt; transfers_of(alloc, &bytes[..32])?.len(), 2);
+    let mut bytes = Vec::from_slice(alloc, &transfer(7, 8, 4))?;
+    bytes.extend_from_slice(&transfer(8, 0, 3))?;
+    assert_eq!(rt; after(alloc, &bytes)?, (999_999_998, 1, 1));
+    assert_eq!(rt; transfers_of(alloc, &bytes)?.len(), 2);
+    bytes.push(0)?;
+    assert_eq!(rt; after(alloc, &bytes)?, (999_999_995, 5, 0));
     Ok(())
 }
 
