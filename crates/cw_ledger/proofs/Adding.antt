@@ -1,9 +1,9 @@
 -- One frame more on the log of a replica.
-use Rattle.std.proofs.Common.{◌≡◌, ◌⊎◌, inl, inr, ℕ, zero, suc, ◌+◌, ◌<◌, ◌^◌, Bool, true, false, List, [], ◌∷◌, ◌++◌, length, Option, None, Some, option_map, Result, Ok, Err, refl, sym, ap, subst, ◌∙◌, append-nil, arith, length-append}
+use Rattle.std.proofs.Common.{◌≡◌, inl, inr, ℕ, suc, ◌+◌, ◌<◌, ◌^◌, List, [], ◌∷◌, ◌++◌, length, Option, None, Some, Result, Ok, Err, refl, sym, ap, ◌∙◌, append-nil, arith, length-append}
 use Rattle.node_disk.specs.Compose.{stays, weakens}
-use Rattle.node_disk.specs.Disk.{DeviceCall, DiskState, HasTold, IsFront, LeavesOnly, told_more}
-use Rattle.node_disk.specs.Frames.{Finds, FindsWithOrWithout, read_log}
-use Rattle.node_disk.specs.Images.{Moment, IsImage}
+use Rattle.node_disk.specs.Disk.{DeviceCall, DiskState, IsFront, LeavesOnly, told_more}
+use Rattle.node_disk.specs.Frames.{Finds, FindsWithOrWithout}
+use Rattle.node_disk.specs.Images.{Moment}
 use Rattle.node_disk.specs.Log.{IsBeforeOrSame, IsSettled, with_frame}
 use Rattle.node_disk.proofs.AtRest.{settled_images}
 use Rattle.cw_base.specs.Bytes.{be64}

@@ -1,5 +1,5 @@
 -- The frames of a log are read one behind the other.
-use Rattle.std.proofs.Common.{◌≡◌, ℕ, zero, suc, ◌+◌, ◌≤◌, ◌<◌, ◌^◌, List, [], ◌∷◌, ◌++◌, length, take, drop, map, Option, None, Some, Result, Ok, Err, refl, sym, ap, subst, ◌∙◌, append_assoc, append-nil, add-one, arith, length-append}
+use Rattle.std.proofs.Common.{◌≡◌, ℕ, zero, suc, ◌+◌, List, [], ◌∷◌, ◌++◌, length, take, drop, map, None, Some, Result, Ok, Err, refl, sym, ap, ◌∙◌, append_assoc, append-nil, add-one, arith, length-append}
 use Rattle.std.specs.List.{enumerate_from, slice_get}
 use Rattle.std.proofs.lemmas.Option.{same_Some}
 use Rattle.cw_base.specs.ReadingLaws.{IsBytes}

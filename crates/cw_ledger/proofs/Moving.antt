@@ -1,15 +1,14 @@
 -- What transfers leave.
-use Rattle.std.proofs.Common.{◌≡◌, ◌⊎◌, inl, inr, ℕ, zero, suc, ◌+◌, ◌-◌, ◌<◌, ◌≤◌, ◌==◌, ◌&&◌, not, Bool, true, false, cond, nat_le, List, [], ◌∷◌, ◌++◌, length, get_or, take, fold, flat_map, sum, Option, None, Some, refl, sym, ap, subst, ◌∙◌, arith}
+use Rattle.std.proofs.Common.{◌≡◌, ◌⊎◌, inl, inr, ℕ, zero, suc, ◌+◌, ◌-◌, ◌<◌, ◌≤◌, ◌==◌, ◌&&◌, not, Bool, true, false, cond, nat_le, List, [], ◌∷◌, ◌++◌, length, get_or, flat_map, sum, refl, sym, ap, ◌∙◌, arith}
 use Rattle.std.specs.BTreeMap.{is_at}
-use Rattle.std.specs.List.{AllByRecursion}
-use Rattle.std.specs.Map.{keys_of, lookup, values_of}
+use Rattle.std.specs.Map.{values_of}
 use Rattle.std.specs.Ordering.{nat_cmp}
-use Rattle.std.proofs.lemmas.Bool.{cases_eq, eqb-true, eqb-false, le-leb, leb-true, leb-false}
+use Rattle.std.proofs.lemmas.Bool.{cases_eq, eqb-true, le-leb, leb-true}
 use Rattle.std.proofs.lemmas.Map.Steps.{lookup-le-sum}
 use Rattle.std.proofs.lemmas.Grind.{flat_map-append}
 use Rattle.cw_ledger.specs.declared.transfer.Transfer.{Transfer}
 use Rattle.cw_ledger.specs.Kept.{AreBalances, HasRoom, IsSet, amount_in, has_entry}
-use Rattle.cw_ledger.specs.Transfers.{account_count, applies, balances, first_balance, moved, moved_all, transfers}
+use Rattle.cw_ledger.specs.Transfers.{applies, balances, first_balance, moved, moved_all, transfers}
 
 -- ---- one transfer, by what each account has
 

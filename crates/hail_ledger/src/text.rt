@@ -21,7 +21,9 @@ pub(crate) fn ledger_text(
 {
     let mut out = String::new(alloc);
     for index in 0..members.len() {
-        put_replica(&mut out, alloc, members[index].member, &replicas[index])?;
+        let acked = &members[index];
+        let replica = &replicas[index];
+        put_replica(&mut out, alloc, acked.member, replica)?;
     }
     Ok(out.into_bytes())
 }

@@ -1,4 +1,3 @@
-use Rattle.std.proofs.Common.{rules}
 use Rattle.cw_ledger.proofs.Entries.{is_account}
 use Rattle.cw_ledger.proofs.Sets.{has_it, was_set}
 use Rattle.cw_ledger.proofs.balances.put.Goals as goal

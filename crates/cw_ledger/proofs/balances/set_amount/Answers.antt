@@ -1,4 +1,4 @@
-use Rattle.std.proofs.Common.{◌≡◌, ◌⊎◌, ⊎_elim, true, false, ◌∙◌, sym, rules}
+use Rattle.std.proofs.Common.{◌≡◌, ⊎_elim, true, false, ◌∙◌, sym}
 use Rattle.cw_ledger.proofs.Sets.{stays_none}
 use Rattle.cw_ledger.proofs.balances.set_amount.Goals as goal
 

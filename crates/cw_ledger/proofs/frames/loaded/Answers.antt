@@ -1,7 +1,7 @@
-use Rattle.std.proofs.Common.{◌≡◌, ◌∙◌, ℕ, List, Err, None, Option, Some, ap, option_map, sym, arith, rules}
+use Rattle.std.proofs.Common.{◌≡◌, ◌∙◌, Err, None, Some, ap, option_map, sym}
 use Rattle.node_disk.specs.LogWords.{log_frames}
 use Rattle.cw_ledger.specs.Frames.{payload_in}
-use Rattle.cw_ledger.proofs.Loading.{begins, ends, goes_on, refuses}
+use Rattle.cw_ledger.proofs.Loading.{begins, goes_on, refuses}
 use Rattle.cw_ledger.proofs.frames.loaded.Goals as goal
 
 pub loop-index-init : goal.loop-index-init

@@ -1,4 +1,4 @@
-use Rattle.std.proofs.Common.{◌≡◌, ◌*◌, ◌%◌, drop, length, map}
+use Rattle.std.proofs.Common.{◌≡◌, ◌*◌, drop, map}
 use Rattle.std.specs.List.{range_with_len}
 use Rattle.cw_ledger.specs.Transfers.{transfer_at}
 use Rattle.cw_ledger.proofs.transfer.transfers_of.Given as goal

@@ -1,4 +1,4 @@
-use Rattle.std.proofs.Common.{◌≡◌, ◌<◌, ◌∙◌, ℕ, List, get_or, length, subst, sym, take, arith}
+use Rattle.std.proofs.Common.{◌<◌, ◌∙◌, get_or, length, subst, sym, take, arith}
 use Rattle.std.proofs.lemmas.List.{take_more}
 use Rattle.cw_ledger.specs.Kept.{HasRoom}
 use Rattle.cw_ledger.specs.declared.transfer.Transfer.{Transfer}

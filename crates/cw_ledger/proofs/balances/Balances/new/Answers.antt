@@ -1,8 +1,6 @@
-use Rattle.std.proofs.Common.{◌≡◌, ◌∙◌, ◌<◌, ◌^◌, List, [], ◌∷◌, ℕ, ap, refl, subst, sym, arith}
+use Rattle.std.proofs.Common.{◌≡◌, ◌∙◌, [], ◌∷◌, ap, refl, arith}
 use Rattle.std.specs.BTreeMap.{insert_entry}
-use Rattle.std.specs.Map.{keys_of}
 use Rattle.std.specs.Ordering.{nat_cmp}
-use Rattle.cw_ledger.specs.Kept.{AreBalances}
 use Rattle.cw_ledger.proofs.Entries.{is_account}
 use Rattle.cw_ledger.proofs.balances.Balances.new.Goals as goal
 

@@ -1,7 +1,7 @@
-use Rattle.std.proofs.Common.{◌≡◌, ◌⊎◌, ◌≤◌, ◌<◌, ◌+◌, ◌-◌, inl, inr, ℕ, List, true, sym, subst, arith, rules}
+use Rattle.std.proofs.Common.{◌≡◌, ◌⊎◌, ◌≤◌, ◌+◌, ◌-◌, inr, ℕ, List, true, sym, subst, arith}
 use Rattle.cw_ledger.specs.Kept.{IsSet, amount_in, has_entry}
 use Rattle.cw_ledger.proofs.Entries.{taken_fits}
-use Rattle.cw_ledger.proofs.Moving.{all_stays, gives_fit, passed, passed_over}
+use Rattle.cw_ledger.proofs.Moving.{all_stays, gives_fit, passed}
 use Rattle.cw_ledger.proofs.balances.Balances.pass.Goals as goal
 
 pub set_amount-requires : goal.set_amount-requires

@@ -1,4 +1,4 @@
-use Rattle.std.proofs.Common.{◌≡◌, ◌<◌, ◌∙◌, ◌++◌, ◌∷◌, [], ℕ, List, ap, get_or, length, sym, take, arith}
+use Rattle.std.proofs.Common.{◌<◌, ◌∙◌, ◌∷◌, [], List, ap, get_or, length, sym, take, arith}
 use Rattle.std.proofs.lemmas.List.{take_more}
 use Rattle.cw_ledger.specs.Kept.{amount_in}
 use Rattle.cw_ledger.specs.Transfers.{moved_all}

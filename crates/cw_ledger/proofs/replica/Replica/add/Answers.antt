@@ -1,4 +1,4 @@
-use Rattle.std.proofs.Common.{◌≡◌, ◌∙◌, ◌<◌, ◌^◌, ◌++◌, ◌∷◌, [], ℕ, List, length, false, refl, ap, sym, subst, arith}
+use Rattle.std.proofs.Common.{◌≡◌, ◌∙◌, ◌<◌, ◌^◌, ◌++◌, ◌∷◌, [], ℕ, List, length, false, refl, ap, subst}
 use Rattle.node_disk.specs.Disk.{LeavesOnly}
 use Rattle.node_disk.specs.Frames.{FindsWithOrWithout}
 use Rattle.node_disk.specs.Log.{with_frame}
