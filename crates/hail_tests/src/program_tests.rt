@@ -170,6 +170,7 @@ fn a_source_that_fails_ends_the_run_with_nothing_written(rt: HostRuntime) -> Res
     for (piece, call) in [(4096, 2), (3, 1), (3, 2), (3, 5)] {
         let script = "cluster 4 3\n".as_bytes().to_vec(rt.alloc())?;
         let failing = [call].to_vec(rt.alloc())?;
+        assert!(rt; 1 <= piece);
         let source = MemorySource::new(script, piece, failing);
         let ended = run_from(&rt, rt.alloc(), &[], source)?;
         assert_eq!(rt;

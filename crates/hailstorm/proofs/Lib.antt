@@ -5,7 +5,7 @@ pub mod Playing
 pub mod Chunking
 pub mod Pieces
 pub mod Reporting
-pub mod Early
+pub mod Refusals
 pub mod Outcomes
 pub mod Meaning
 pub mod Framing

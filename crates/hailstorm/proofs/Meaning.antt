@@ -112,14 +112,14 @@ all_read : (text given : List ℕ) (rest : Option (List ℕ)) → Consumes (Some
 all_read text given None c e = absurd c
 all_read text given (Some ys) c e = sym (c ∙ rw e (append-nil given))
 
-module _ {H : Type 0} (hash : List ℕ → Digest32) (text given : List ℕ) (left rest : Option (List ℕ)) (is : left ≡ Some text) (c : Consumes left rest given) (e : IsAtEnd rest) (l : length given ≤ script_limit) where
+module _ (hash : List ℕ → Digest32) (text given : List ℕ) (left rest : Option (List ℕ)) (is : left ≡ Some text) (c : Consumes left rest given) (e : IsAtEnd rest) (l : length given ≤ script_limit) where
   same_text : given ≡ text
   same_text = all_read text given rest (subst (λ (o : Option (List ℕ)). Consumes o rest given) is c) e
 
   within : length text ≤ script_limit
   within = subst (λ (t : List ℕ). length t ≤ script_limit) same_text l
 
-  pub run_read : (ran : Ran H) → script_of given ≡ Ok ran.script → IsRun hash ran.script ran.report → IsReport hash given ran.report → IsRead hash text rest ran
+  pub run_read : {H : Type 0} (ran : Ran H) → script_of given ≡ Ok ran.script → IsRun hash ran.script ran.report → IsReport hash given ran.report → IsRead hash text rest ran
   run_read ran spells run report =
       record { at_end = e; short = within; spells = subst (λ (t : List ℕ). script_of t ≡ Ok ran.script) same_text spells; run = run; report = subst (λ (t : List ℕ). IsReport hash t ran.report) same_text report }
 

@@ -1,4 +1,5 @@
 -- What is kept of sent votes, as messages are added.
+use mathlib.Core.Bool.{true≢false}
 use Rattle.std.proofs.Common.{◌≡◌, ℕ, ◌==◌, ◌&&◌, ◌||◌, Bool, true, false, cond, List, [], ◌∷◌, ◌++◌, Option, Some, None, refl, sym, ap, subst, ◌∙◌, arith, eqb-true, append_assoc, append-nil}
 use Rattle.std.specs.Prelude.{unwrap_or}
 use Rattle.std.specs.BTreeMap.{BTreeMap, Updates, get, get_by, is_at}
@@ -103,8 +104,8 @@ module _ (m n : Kept) (i : ℕ) (w : Vote) (before : List Sent) (s : Sent) where
               let same : j ≡ i = sym (eqb-true i j h.0) in
               let one : v ≡ w = same_vote-true v w (both (i == j) (same_vote v w) h.1).1 in
               let at : round_of j v ≡ round_of i w = rw (same, one) refl in
-              let yes : is_eq (round_cmp (round_of i w) (round_of j v)) ≡ true = rw at (itself (round_of i w)) in
-              absurd (let no : false ≡ true = sym e ∙ yes in cc)
+              let yes : is_eq (round_cmp (round_of i w) (round_of j v)) ≡ true = subst (λ (r : Round). is_eq (round_cmp (round_of i w) r) ≡ true) (sym at) (itself (round_of i w)) in
+              absurd (true≢false (sym yes ∙ e))
 
   -- and where it isn't a vote that its own signer sent, what was kept tells of it
   pub told_still : ((j : ℕ) (v : Vote) → is_sent_vote j v s ≡ false) → TellVotes m before → TellVotes m (before ++ s ∷ [])
@@ -118,11 +119,18 @@ not_own from i w s at is differs j v = rw (at, is) (not_true ((from == j) && ((i
     let same : i ≡ from = eqb-true i j second.0 ∙ sym (eqb-true from j first.0) in
     absurd (let no : false ≡ true = sym differs ∙ rw same (eq_itself from) in cc)))
 
+-- the same signer, epoch and view
+pub round_is : (i e e' v v' : ℕ) → e ≡ e' → v ≡ v' → (let k : Round = (i, e, v) in k) ≡ (i, e', v')
+round_is i e e' v v' p q = ap (λ (n : ℕ). let k : Round = (i, n, v) in k) p ∙ ap (λ (n : ℕ). let k : Round = (i, e', n) in k) q
+
 -- what was taken out, with one more, and put back
-pub put_back : (m r n : Kept) (i : ℕ) (w : Vote) (new : List Vote) → Updates round_cmp m r (round_of i w) None → Updates round_cmp r n (round_of i w) (Some new)
-    → new ≡ unwrap_or (get round_cmp m (round_of i w)) [] ++ w ∷ [] → (before : List Sent) (s : Sent) → HasMore m n i w before s
-put_back m r n i w new out back is before s =
+pub put_back : (m r n : Kept) (i : ℕ) (w : Vote) (k : Round) (new : List Vote) → k ≡ round_of i w → Updates round_cmp m r k None → Updates round_cmp r n k (Some new)
+    → new ≡ unwrap_or (get round_cmp m k) [] ++ w ∷ [] → (before : List Sent) (s : Sent) → HasMore m n i w before s
+put_back m r n i w k new at out back is before s =
+    let out' : Updates round_cmp m r (round_of i w) None = subst (λ (x : Round). Updates round_cmp m r x None) at out in
+    let back' : Updates round_cmp r n (round_of i w) (Some new) = subst (λ (x : Round). Updates round_cmp r n x (Some new)) at back in
+    let is' : new ≡ unwrap_or (get round_cmp m (round_of i w)) [] ++ w ∷ [] = subst (λ (x : Round). new ≡ unwrap_or (get round_cmp m x) [] ++ w ∷ []) at is in
     record {
-      here = ap (λ (o : Option (List Vote)). unwrap_or o []) back.1 ∙ is;
-      others = λ k e. ap (λ (o : Option (List Vote)). unwrap_or o []) (back.2 k e ∙ out.2 k e);
+      here = ap (λ (o : Option (List Vote)). unwrap_or o []) back'.1 ∙ is';
+      others = λ q e. ap (λ (o : Option (List Vote)). unwrap_or o []) (back'.2 q e ∙ out'.2 q e);
     }

@@ -1,6 +1,6 @@
 //! The votes that members sent, kept beside the messages.
 
-ghost use Rattle.std.specs.Prelude.{◌≡◌, ◌++◌, ◌∷◌, [], List, OnOk};
+ghost use Rattle.std.specs.Prelude.{◌≡◌, ◌++◌, ◌∷◌, [], List, OnOk, unwrap_or};
 ghost use Rattle.std.specs.List.{list_any};
 ghost use Rattle.cw_types.specs.Same.{same_vote};
 ghost use Rattle.cw_types.specs.declared.message.Message.TheVariants as message;
@@ -70,15 +70,22 @@ impl Votes {
             → OnOk result (TellVotes self.new.rounds (before ++ sent ∷ [])) }
     {
         let round = (signer, vote.epoch(), vote.view());
-        let mut votes = match self.rounds.remove(&round) {
-            None => Items::new(alloc),
-            Some(votes) => votes,
-        };
+        let mut votes = or_none(alloc, self.rounds.remove(&round));
         votes.push(vote)?;
         match self.rounds.insert(round, votes) {
             Ok(_) => Ok(()),
             Err(_) => Err(NoMemory),
         }
+    }
+}
+
+// The votes, or none.
+fn or_none(alloc: Global, votes: Option<Items<Vote>>) -> Items<Vote>
+    ensures { result ≡ unwrap_or votes [] }
+{
+    match votes {
+        None => Items::new(alloc),
+        Some(votes) => votes,
     }
 }
 

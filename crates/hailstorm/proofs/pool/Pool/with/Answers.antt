@@ -1,6 +1,8 @@
 use Rattle.std.proofs.Common.{◌≡◌, ℕ, List, [], ◌∷◌, ◌++◌, length, map, ap, sym, subst, ◌∙◌}
 use Rattle.std.specs.List.{range_with_len}
 use Rattle.cw_rules.specs.Report.{Entry}
+use Rattle.cw_rules.specs.World.{Sent}
+use Rattle.hailstorm.specs.Votes.{TellVotes}
 use Rattle.hailstorm.specs.Pool.{StandAt, sent_in}
 use Rattle.hailstorm.proofs.Numbered.{sent_more, stand_more}
 use Rattle.hailstorm.proofs.pool.Pool.with.Goals as goal
@@ -17,5 +19,7 @@ invariant_of-result c =
     let stand = subst (λ (l : List Entry). StandAt l c.put_places.new.places.items) (sym c.in_ok-push.ensures.ok)
     (subst (λ (l : List (ℕ × ℕ)). StandAt (entries ++ entry ∷ []) l) (sym put) (stand_more entries entry places c.self.invariant.0)) in
     let sent : sent_in (entries ++ entry ∷ []) ≡ sent_in entries ++ entry.sent = sent_more entries entry in
-    let told = c.in_ok-take_all.ensures (sent_in entries) c.self.invariant.1 in
-    (stand, told)
+    let behind : c.as_slice.result.now ≡ entry.sent = c.as_slice.ensures ∙ ap (λ (e : Entry). e.sent) c.entry.view_is in
+    let told = subst (λ (s : List Sent). TellVotes c.take_all.new.self.rounds (sent_in entries ++ s)) behind (c.in_ok-take_all.ensures (sent_in entries) c.self.invariant.1) in
+    let tell = subst (λ (l : List Entry). TellVotes c.take_all.new.self.rounds (sent_in l)) (sym c.in_ok-push.ensures.ok) (subst (λ (s : List Sent). TellVotes c.take_all.new.self.rounds s) (sym sent) told) in
+    (stand, tell)
