@@ -1,5 +1,5 @@
 -- A text that isn't run has a cause that is tested before a run.
-use Rattle.std.proofs.Common.{◌≡◌, ℕ, zero, suc, ◌+◌, Bool, true, false, not, nat_lt, List, [], ◌∷◌, length, drop, take, Option, Some, None, Result, Ok, Err, refl, sym, ap, subst, ◌∙◌}
+use Rattle.std.proofs.Common.{◌≡◌, ℕ, zero, suc, ◌+◌, Bool, true, false, not, nat_lt, List, [], ◌∷◌, length, drop, map, take, Option, Some, None, Result, Ok, Err, refl, sym, ap, subst, ◌∙◌}
 use Rattle.std.specs.Prelude.{if◌then◌else◌}
 use Rattle.std.specs.List.{list_all}
 use Rattle.cw_types.specs.Epochs.{Epochs, single}
@@ -11,6 +11,7 @@ use Rattle.hail_script.specs.declared.headers.Header.TheVariants.{Cluster, Sever
 use Rattle.hail_script.specs.Grammar as grammar
 use Rattle.hail_script.specs.Grammar.{IsEarly}
 use Rattle.hail_script.specs.Headers.{header_in, if_enough, list_in, lists_from, lists_in, with_list}
+use Rattle.hail_script.specs.Lanes.{Laned, head_in, laned_by, laned_of, others_in, sizes_in, told}
 use Rattle.hail_script.specs.Lines.{event_in}
 use Rattle.hail_script.specs.Pieces.{fields, lines}
 use Rattle.hail_script.specs.Scenario.{Scenario}
@@ -78,3 +79,25 @@ all_fine (Err e) h = h
 
 pub early : (text : List ℕ) (e : RunError) → grammar.script_of text ≡ Err e → IsEarly e
 early text e h = subst (λ (r : Result Scenario RunError). IsFine r) h (all_fine (grammar.spelled text) (spelled_fine (lines text)))
+
+-- ---- scripts with lanes
+
+told_early : (numbers : List ℕ) (e : RunError) → IsEarly e → IsEarly (told numbers e)
+told_early numbers (error.Syntax at) h = tt
+told_early numbers error.BadCommittee h = tt
+told_early numbers (error.UnknownMember at) h = tt
+told_early numbers error.TooManyFaulty h = tt
+told_early numbers (error.OversizeBlock at) h = tt
+told_early numbers (error.HashClash earlier later) h = absurd h
+told_early numbers error.NoMemory h = absurd h
+
+by_fine : (head : ℕ) (numbers sizes : List ℕ) (r : Result Scenario RunError) → IsFine r → IsFine (laned_by head numbers sizes r)
+by_fine head numbers sizes (Ok s) h = tt
+by_fine head numbers sizes (Err e) h = told_early numbers e h
+
+pub laned_early : (text : List ℕ) (e : RunError) → laned_of text ≡ Err e → IsEarly e
+laned_early text e h =
+    let rows = others_in (lines text) in
+    let plain = map (λ (row : ℕ × List ℕ). row.1) rows in
+    subst (λ (r : Result Laned RunError). IsFine r) h
+    (by_fine (head_in (lines text)) (map (λ (row : ℕ × List ℕ). row.0) rows) (sizes_in (lines text)) (grammar.if_admitted (grammar.spelled_in plain)) (all_fine (grammar.spelled_in plain) (spelled_fine plain)))

@@ -4,6 +4,7 @@
 mod error;
 mod event;
 mod headers;
+mod lanes;
 mod laws;
 mod lines;
 mod parse;
@@ -13,6 +14,7 @@ mod script;
 pub use error::RunError;
 pub use event::{Ask, EventLine, Fault, Stop};
 pub use headers::Header;
+pub use lanes::LaneScript;
 pub use laws::script_laws;
 pub use pieces::number_of;
 pub use script::Script;

@@ -80,7 +80,17 @@ impl Script {
         ensures err { IfErr result (λ e. (e ≡ error.NoMemory) ⊎ (grammar.script_of script.now ≡ Err e)) }
     {
         let pieces = pieces_of(alloc, script, b'\n')?;
-        let lines = without_empty_end(&pieces);
+        match Script::read(alloc, without_empty_end(&pieces)) {
+            Ok(script) => Ok(script),
+            Err(error) => Err(error),
+        }
+    }
+
+    /// The script that lines make, or the first cause for which it isn't run.
+    pub(crate) fn read(alloc: Global, lines: &[&[u8]]) -> Result<Script, RunError>
+        ensures ok { IfOk result (λ read. grammar.if_admitted (grammar.spelled_in (map (λ line. line.now) lines.now)) ≡ Ok read) }
+        ensures err { IfErr result (λ e. (e ≡ error.NoMemory) ⊎ (grammar.if_admitted (grammar.spelled_in (map (λ line. line.now) lines.now)) ≡ Err e)) }
+    {
         let Some((first, more)) = lines.split_first() else {
             return Err(RunError::Syntax(1));
         };

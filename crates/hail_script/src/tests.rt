@@ -151,3 +151,51 @@ fn payloads_have_a_limit(rt: HostRuntime) -> Result<(), Fail> {
     }
     Ok(())
 }
+
+// Texts that are no scripts with lanes, and the first cause for which each isn't run.
+const REFUSED_LANES: [(&[u8], RunError); 8] = [
+    (b"", RunError::Syntax(1)),
+    (b"cluster 4 3\ntimeout 0 1\n", RunError::Syntax(3)),
+    (b"lane\ncluster 4 3\n", RunError::Syntax(1)),
+    (b"cluster 4 3\nlane\nlanes\n", RunError::Syntax(3)),
+    (b"cluster 4 3\nlane\nack 0\nlane \n", RunError::Syntax(4)),
+    (
+        b"epochs 4 3 1 1\nlane\nmembers 0 1 2 3\n",
+        RunError::Syntax(2),
+    ),
+    (b"cluster 3 1\nlane\nack 7\n", RunError::BadCommittee),
+    (
+        b"cluster 4 3\nlane\nack 0\nlane\nack 4\n",
+        RunError::UnknownMember(5),
+    ),
+];
+
+#[test]
+fn lanes_are_counted(rt: HostRuntime) -> Result<(), Fail> {
+    let alloc = rt.alloc();
+    for (text, cause) in &REFUSED_LANES {
+        assert!(rt; has_no_lanes(alloc, text, cause));
+    }
+    let script = match LaneScript::parse(alloc, b"cluster 4 3\nack 0\nlane\nack 1\nlane\nack 2") {
+        Ok(script) => script,
+        Err(_) => Err("refused")?,
+    };
+    assert_eq!(rt; script.script().events(), 3);
+    assert!(rt; script.numbers() == [2, 4, 6].as_slice());
+    assert!(rt; script.sizes() == [1, 1].as_slice());
+    let mut text = Vec::from_slice(alloc, b"cluster 4 3\n")?;
+    for _lane in 0..64 {
+        text.extend_from_slice(b"lane\n")?;
+    }
+    assert!(rt; LaneScript::parse(alloc, &text).is_ok());
+    text.extend_from_slice(b"lane\n")?;
+    assert!(rt; has_no_lanes(alloc, &text, &RunError::Syntax(66)));
+    Ok(())
+}
+
+fn has_no_lanes(alloc: Global, text: &[u8], cause: &RunError) -> bool {
+    match LaneScript::parse(alloc, text) {
+        Ok(_) => false,
+        Err(error) => error == *cause,
+    }
+}
