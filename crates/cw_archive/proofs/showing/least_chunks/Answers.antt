@@ -22,9 +22,11 @@ loop-index-preserved c =
     elim c.match-find.branch [
       | in-Some+in_ok-push w ↦
           (let items : c.match-find.chunks.items ≡ c.loop-index.chunks.items ++ w.in-Some.chunk ∷ [] = ap (λ v. v.items) w.chunks-is ∙ w.in_ok-push.ensures.items in
-          let more = ap length items ∙ length-append c.loop-index.chunks.items (w.in-Some.chunk ∷ []) in
-          (ap now items ∙ (map-append (λ (x : Bor Chunk). x.now) c.loop-index.chunks.items (w.in-Some.chunk ∷ [])
-          ∙ list_more f c.loop-index.index (now c.loop-index.chunks.items) (Some w.in-Some.chunk.now) c.loop-index.invariant.0 w.in-Some.ensures), omega arith))
+          let more = ap length items ∙ length-append c.loop-index.chunks.items (w.in-Some.chunk ∷ []) in (
+            ap now items ∙ (map-append (λ (x : Bor Chunk). x.now) c.loop-index.chunks.items (w.in-Some.chunk ∷ [])
+                ∙ list_more f c.loop-index.index (now c.loop-index.chunks.items) (Some w.in-Some.chunk.now) c.loop-index.invariant.0 w.in-Some.ensures),
+            omega arith,
+          ))
       | in_default w ↦
           (let items : c.match-find.chunks.items ≡ c.loop-index.chunks.items = ap (λ v. v.items) w.chunks-is in
           let none : f c.loop-index.index ≡ None = sym c.find.ensures ∙ copied_none c.find.result w.in_default.not-Some in
