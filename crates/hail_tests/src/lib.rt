@@ -3,18 +3,4 @@
 #![tactic(auto)]
 
 #[cfg(test)]
-mod damage_tests;
-#[cfg(test)]
-mod disks;
-#[cfg(test)]
-mod hostile_tests;
-#[cfg(test)]
 mod marshal_tests;
-#[cfg(test)]
-mod node_tests;
-#[cfg(test)]
-mod program_tests;
-#[cfg(test)]
-mod runs;
-#[cfg(test)]
-mod seat_tests;

@@ -1,3 +1,0 @@
-pub mod Ledgers
-pub mod Giving
-pub mod Text

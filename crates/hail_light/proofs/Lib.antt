@@ -1,6 +1,0 @@
-mod Disks
-mod Paths
-mod Searching
-mod Showing
-mod Tables
-mod Telling
