@@ -3,4 +3,8 @@
 #![tactic(auto)]
 
 #[cfg(test)]
+mod damage_tests;
+#[cfg(test)]
+mod disks;
+#[cfg(test)]
 mod marshal_tests;

@@ -4,11 +4,12 @@ mod blocks;
 mod calls;
 mod store;
 
-use blocks::{block_in, chain, disk_of, rivals};
+use crate::disks::disk_of;
+use blocks::{block_in, chain, rivals};
 use calls::StoreCall::{
-    Acknowledge, Ancestry, At, Cancel, Certify, Deliver, Final, Finalization, Floor, Has, Latest,
-    Of, Process, Prune, Report, ReportTo, Restart, SetFloor, Tickets, Verify, VerifyTo,
-    WatchCommitment, WatchDigest,
+    Acknowledge, Ancestry, At, Cancel, Certify, CountAt, Deliver, DeliverRun, Final, Finalization,
+    Floor, Has, Latest, Of, Process, Prune, Report, ReportTo, Restart, SetFloor, Tickets, Verify,
+    VerifyTo, WatchCommitment, WatchDigest,
 };
 use calls::first_wrong;
 use cw_base::SumHasher;
@@ -417,25 +418,25 @@ fn a_round_has_a_verified_and_a_certified_block(rt: HostRuntime) -> Result<(), F
     Ok(())
 }
 
-// Behind the chain from height 100 stands a block of height 5.
+// Behind the chain from height 100 to 160 stands a block of height 5.
 #[test]
 fn a_floor_jumps_over_heights(rt: HostRuntime) -> Result<(), Fail> {
     let alloc = rt.alloc();
-    let mut blocks = chain(&rt, alloc, 100, 104)?;
+    let mut blocks = chain(&rt, alloc, 100, 160)?;
     blocks.push(block_in(&rt, alloc, 5, 5, &genesis_commitment::<SumHasher>(), 7)?)?;
     let table = [
         (Deliver, "[0]"),
         (SetFloor(1, 100), "false"),
         (Floor, "None"),
-        (Report(5, 104), "true"),
-        (VerifyTo(5), "5"),
+        (Report(61, 160), "true"),
+        (VerifyTo(61), "61"),
         (Floor, "Some(100)"),
-        (Deliver, "[100, 101, 102, 103, 104]"),
-        (At(1), "None"),
-        (At(99), "None"),
+        (DeliverRun, "Some((100, 160, 61))"),
+        (CountAt(1, 99), "0"),
+        (CountAt(100, 160), "61"),
         (At(100), "Some(1)"),
-        (Verify(6), "false"),
-        (Has(6), "false"),
+        (Verify(62), "false"),
+        (Has(62), "false"),
     ];
     assert_eq!(rt; first_wrong(&rt, alloc, 100, &blocks, &table)?, None);
     Ok(())

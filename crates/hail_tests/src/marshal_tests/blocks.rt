@@ -5,7 +5,6 @@ use cw_types::{
     Cert, ChainBlock, Commitment, Context, Payload, Proposal, Vote, commit, genesis,
     genesis_commitment,
 };
-use node_disk::{Disk, MemoryDisk};
 use std::alloc::Global;
 use std::test::Fail;
 use std::thread::Threads;
@@ -99,12 +98,4 @@ pub(crate) fn finalization(alloc: Global, made: &Made, view: u64) -> Result<Cert
         }),
         signers: Items::from_vec(vec![in alloc; 0, 1, 2]?),
     })
-}
-
-/// A disk that gives these bytes.
-pub(crate) fn disk_of(alloc: Global, bytes: &[u8]) -> Result<MemoryDisk, Fail> {
-    let mut disk = MemoryDisk::new(alloc, Vec::new(alloc));
-    disk.write_at(0, bytes)?;
-    disk.sync()?;
-    Ok(disk)
 }

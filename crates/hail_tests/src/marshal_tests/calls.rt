@@ -33,6 +33,8 @@ pub(crate) enum StoreCall {
     Prune(u64),
     /// The heights that are handed out next.
     Deliver,
+    /// The first and the last of them, and how many they are, each one above the other.
+    DeliverRun,
     /// A ticket for the block of a digest.
     WatchDigest(usize),
     /// A ticket for the block under a commitment.
@@ -47,6 +49,8 @@ pub(crate) enum StoreCall {
     Latest,
     /// The block at a height.
     At(u64),
+    /// How many heights from one to another have a block.
+    CountAt(u64, u64),
     /// The block of the digest of a block of the list.
     Of(usize),
     /// Whether a block is found by its commitment and by its digest.
@@ -123,6 +127,7 @@ fn given(
 ) -> Result<String, Fail> {
     match call {
         StoreCall::Deliver => text(alloc, store.deliver(alloc)?),
+        StoreCall::DeliverRun => text(alloc, run_of(&store.deliver(alloc)?)),
         StoreCall::WatchDigest(place) => text(alloc, store.watch_digest(at(blocks, place)?)?),
         StoreCall::WatchCommitment(place) => text(
             alloc,
@@ -142,6 +147,7 @@ fn known(alloc: Global, store: &Store, blocks: &[Made], call: StoreCall) -> Resu
             alloc,
             block_found(store, blocks, Identifier::Height(height))?,
         ),
+        StoreCall::CountAt(first, last) => text(alloc, count_at(store, first, last)),
         StoreCall::Of(place) => {
             let id = Identifier::Digest(at(blocks, place)?.commitment.block);
             text(alloc, block_found(store, blocks, id)?)
@@ -194,6 +200,28 @@ fn process(alloc: Global, store: &mut Store) -> Result<u64, Fail> {
         }
     }
     Ok(100)
+}
+
+// The first and the last of heights that go up by one, and how many they are.
+fn run_of(heights: &[u64]) -> Option<(u64, u64, usize)> {
+    let first = *heights.first()?;
+    let last = *heights.last()?;
+    for (place, height) in heights.iter().enumerate() {
+        if first.saturating_add(place as u64) != *height {
+            return None;
+        }
+    }
+    Some((first, last, heights.len()))
+}
+
+fn count_at(store: &Store, first: u64, last: u64) -> u64 {
+    let mut count = 0u64;
+    for height in first..=last {
+        if store.get().get_block(Identifier::Height(height)).is_some() {
+            count = count.saturating_add(1);
+        }
+    }
+    count
 }
 
 fn served(alloc: Global, store: &mut Store, blocks: &[Made]) -> Result<Vec<(u64, usize)>, Fail> {
