@@ -10,8 +10,6 @@ mod disk_tests;
 #[cfg(test)]
 mod gate;
 #[cfg(test)]
-mod light_tests;
-#[cfg(test)]
 mod shards_tests;
 #[cfg(test)]
 mod types_tests;
