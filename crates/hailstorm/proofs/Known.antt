@@ -21,7 +21,7 @@ line_at es lines i d e all lt is = ap (λ (l : List Line). slice_get l i) (sym a
     at (x ∷ es) zero lt = refl
     at (x ∷ es) (suc i) lt = at es i (omega arith)
 
-count_lines : (es : List EventLine) → length (map line_of es) ≡ length es
+pub count_lines : (es : List EventLine) → length (map line_of es) ≡ length es
 count_lines [] = refl
 count_lines (e ∷ es) = ap suc (count_lines es)
 

@@ -24,3 +24,11 @@ pub mod Tops
 pub mod Seating
 pub mod Numbered
 pub mod Voted
+pub mod Merging
+pub mod Turned
+pub mod Laned
+pub mod Cursoring
+pub mod Prefixed
+pub mod LanesMeaning
+pub mod Shared
+pub mod Between

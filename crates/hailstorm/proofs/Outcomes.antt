@@ -49,7 +49,7 @@ flags_kept r w (rule.Faulty i fault) = refl
 
 -- ---- one line more
 
-run_more : (r : Rules) (w : World) (lines : List Line) (line : Line) → run r w (lines ++ line ∷ []) ≡ happens r (run r w lines) line
+pub run_more : (r : Rules) (w : World) (lines : List Line) (line : Line) → run r w (lines ++ line ∷ []) ≡ happens r (run r w lines) line
 run_more r w [] line = refl
 run_more r w (l ∷ lines) line = run_more r (happens r w l) lines line
 

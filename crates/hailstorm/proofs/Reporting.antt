@@ -19,7 +19,7 @@ use Rattle.hailstorm.specs.Reports.{IsCause, IsReport, IsRun, honest_numbers, sh
 use Rattle.hailstorm.specs.Runs.{IsStopped, opened}
 
 -- an entry for each honest member
-openers : (r : Rules) (lines : List Line) (ids : List ℕ) → map (λ e. e.member) (filter_map (opening_entry r lines) ids) ≡ map Some (filter (λ i. not (is_faulty_in lines i)) ids)
+pub openers : (r : Rules) (lines : List Line) (ids : List ℕ) → map (λ e. e.member) (filter_map (opening_entry r lines) ids) ≡ map Some (filter (λ i. not (is_faulty_in lines i)) ids)
 openers r lines [] = refl
 openers r lines (i ∷ ids) = go (list_any (faults i) lines) refl (openers r lines ids)
   where

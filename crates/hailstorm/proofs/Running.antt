@@ -18,7 +18,7 @@ use Rattle.hailstorm.specs.Reports.{AreNodesOf, HoldNotes, IsRun, honest, shown_
 use Rattle.hailstorm.specs.Runs.{ArePlayed, chain_from, opened}
 use Rattle.hailstorm.specs.Seats.{Seat}
 
-four : (a a' b b' : List Entry) (c c' : List Acked) (d d' : List Block) → a ≡ a' → b ≡ b' → c ≡ c' → d ≡ d'
+pub four : (a a' b b' : List Entry) (c c' : List Acked) (d d' : List Block) → a ≡ a' → b ≡ b' → c ≡ c' → d ≡ d'
     → (let r : Reported = record { opening = a; steps = b; acked = c; chain = d } in r) ≡ record { opening = a'; steps = b'; acked = c'; chain = d' }
 four a a' b b' c c' d d' p q s t =
     ap (λ (x : List Entry). let r : Reported = record { opening = x; steps = b; acked = c; chain = d } in r) p

@@ -12,3 +12,6 @@ pub mod Writing
 pub mod Text
 pub mod Programs
 pub mod Headline
+pub mod Lanes
+pub mod Turns
+pub mod LanesProgram

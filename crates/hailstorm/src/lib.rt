@@ -3,24 +3,31 @@
 
 mod chain;
 mod clash;
+mod cursors;
 mod entry;
 mod event;
 mod fault;
 mod frame;
+mod lane_program;
+mod lanes;
+mod line_turn;
 mod place;
 mod play;
 mod pool;
 mod program;
 mod reading;
+mod reply;
 mod report;
 mod seat;
 mod storm;
 mod text;
 mod turn;
+mod turning;
 mod votes;
 mod world;
 
 pub use frame::{Early, Exit, end_early, finish, run_source};
+pub use lane_program::lanes_program;
 pub use program::run_program;
 pub use report::{Acked, Entry, Ran, Report, Sent};
 pub use storm::storm_script;

@@ -152,7 +152,7 @@ fn push_entry(entries: &mut Items<Entry>, one: Option<Entry>) -> Result<(), NoMe
 }
 
 // Each honest member's start, by number.
-fn open_all<H: Hasher<Digest = Digest32>, R: Threads + Sync, S: Strategy>(
+pub(crate) fn open_all<H: Hasher<Digest = Digest32>, R: Threads + Sync, S: Strategy>(
     rt: &R,
     alloc: Global,
     script: &Script,
@@ -212,7 +212,10 @@ fn play_all<H: Hasher<Digest = Digest32>, R: Threads + Sync, S: Strategy>(
 }
 
 // How many notes who sits there has.
-fn notes_before<H: Hasher<Digest = Digest32>>(places: &[Place<Seat<H>>], id: usize) -> usize
+pub(crate) fn notes_before<H: Hasher<Digest = Digest32>>(
+    places: &[Place<Seat<H>>],
+    id: usize,
+) -> usize
     ensures { (p : PlaceValue SeatValue) → slice_get places.now id ≡ Some p → result ≡ length (notes_in p) }
 {
     match places.get(id) {
@@ -222,7 +225,7 @@ fn notes_before<H: Hasher<Digest = Digest32>>(places: &[Place<Seat<H>>], id: usi
 }
 
 // Where each honest member stands.
-fn standings<H: Hasher<Digest = Digest32>>(
+pub(crate) fn standings<H: Hasher<Digest = Digest32>>(
     alloc: Global,
     places: &[Place<Seat<H>>],
 ) -> Result<Items<Acked>, NoMemory>
@@ -290,14 +293,14 @@ fn acked(note: &Note, last: Option<u64>) -> Option<u64>
     }
 }
 
-fn copy_bytes(alloc: Global, bytes: &[u8]) -> Result<Items<u8>, NoMemory>
+pub(crate) fn copy_bytes(alloc: Global, bytes: &[u8]) -> Result<Items<u8>, NoMemory>
     ensures { IfOk result (λ copy. copy ≡ bytes.now) }
 {
     Ok(Items::from_vec(Vec::from_slice(alloc, bytes)?))
 }
 
 // The bytes of the disks, and the nodes.
-fn close_all<H: Hasher<Digest = Digest32>>(
+pub(crate) fn close_all<H: Hasher<Digest = Digest32>>(
     alloc: Global,
     places: Vec<Place<Seat<H>>>,
 ) -> Result<

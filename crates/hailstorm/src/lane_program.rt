@@ -1,0 +1,163 @@
+//! The lanes program: from the bytes that come in to the bytes that go out.
+
+ghost use Rattle.std.specs.Prelude.{◌≡◌, ◌≢◌, ◌++◌, [], List, ℕ, Some, IfOk, OnOk, flat_map, codes, string_bytes};
+ghost use Rattle.std.specs.Fmt.{decimal};
+ghost use Rattle.hail_script.specs.declared.error.RunError.TheVariants as error;
+ghost use Rattle.hail_script.specs.Lanes.{laned_of};
+ghost use Rattle.hailstorm.specs.Lanes.{IsLanesCause, IsLanesReport};
+ghost use Rattle.hailstorm.specs.LanesProgram as spec;
+ghost use Rattle.hailstorm.specs.LanesProgram.{LanesMeans};
+ghost use Rattle.hailstorm.specs.Programs.{EndsEarly, Finishes, HasFault, IsSilent, UsageOf};
+
+use crate::frame::{Early, Exit, early_of, end_early, finish};
+use crate::reading::{Reading, read_script};
+use crate::report::Report;
+use crate::text::{clash_text, report_text};
+use crate::world::World;
+use cw_base::{Digest32, Gate, Hasher, Items, NoMemory, Sink, Source, Strategy};
+use hail_script::RunError;
+use std::alloc::Global;
+use std::sync::Wait;
+use std::thread::Threads;
+
+const USAGE: &[u8] = b"usage: hail_lanes\n";
+
+/// Reads a script with lanes to its end, runs it, and writes the order in which the lanes had their
+/// turns, and its report. All text is made before the first byte is written. The words are those
+/// after the program's name, and there are to be none.
+pub fn lanes_program<
+    H: Hasher<Digest = Digest32>,
+    R: Threads + Wait + Sync,
+    I: Source,
+    O: Sink,
+    S: Strategy,
+    G: Gate,
+>(
+    rt: &R,
+    alloc: Global,
+    words: &[String],
+    input: &mut I,
+    output: &mut O,
+    strategy: &S,
+    gate: &G,
+) -> Exit<(Items<u64>, Report<H>)>
+    // With words nothing is read, and the usage is written.
+    ensures usage { words.now ≢ [] → (input.new ≡ input.old) × UsageOf spec.lanes_usage_line (O.held output.old) (O.held output.new) result }
+
+    // Without words each answer has its meaning for the bytes that the source had left.
+    ensures answer { (text : List ℕ) → words.now ≡ [] → I.left input.old ≡ Some text
+        → LanesMeans H.digest_of text (I.left input.new) (O.held output.old) (O.held output.new) result }
+
+    // A fault is told only where the source or the sink has failed in this call.
+    ensures fault { HasFault (I.faults input.old) (I.faults input.new) (O.faults output.old) (O.faults output.new) result }
+
+    // Where the source failed, or memory is short, nothing is written, whether or not the source tells its bytes.
+    ensures silent { IsSilent (O.held output.old) (O.held output.new) result }
+{
+    if !words.is_empty() {
+        return finish(output, USAGE, Exit::Usage);
+    }
+    match read_script(alloc, input) {
+        Reading::Whole(text) => run_whole(rt, alloc, &text, output, strategy, gate),
+        Reading::TooLong => end_early(alloc, output, Early::TooLong),
+        Reading::Fault => end_early(alloc, output, Early::ReadFault),
+        Reading::NoMemory => end_early(alloc, output, Early::NoMemory),
+    }
+}
+
+// Runs a script, and writes what comes of it.
+fn run_whole<H: Hasher<Digest = Digest32>, R: Threads + Wait + Sync, O: Sink, S: Strategy, G: Gate>(
+    rt: &R,
+    alloc: Global,
+    text: &[u8],
+    output: &mut O,
+    strategy: &S,
+    gate: &G,
+) -> Exit<(Items<u64>, Report<H>)>
+    ensures answer { spec.LanesAnswers H.digest_of text.now (O.held output.old) (O.held output.new) (O.faults output.old) (O.faults output.new) result }
+{
+    match World::run_lanes::<H, R, S, G>(rt, alloc, text, strategy, gate) {
+        Ok((order, report)) => match lanes_text::<H>(alloc, order.as_slice(), &report) {
+            Ok(text) => finish(output, &text, Exit::Done((order, report))),
+            Err(NoMemory) => Exit::NoMemory,
+        },
+        Err((order, error)) => end_with(alloc, output, order.as_slice(), error),
+    }
+}
+
+// Writes why there is no report, and ends so.
+fn end_with<X: Drop, O: Sink>(
+    alloc: Global,
+    output: &mut O,
+    order: &[u64],
+    error: RunError,
+) -> Exit<X>
+    ensures { spec.EndsLanes (O.held output.old) (O.held output.new) (O.faults output.old) (O.faults output.new) order.now error result }
+{
+    match error {
+        RunError::HashClash(earlier, later) => {
+            match clash_lines(alloc, order, earlier.as_slice(), later.as_slice()) {
+                Ok(text) => finish(output, &text, Exit::Clash(earlier, later)),
+                Err(NoMemory) => Exit::NoMemory,
+            }
+        }
+        other => end_early(alloc, output, early_of(other)),
+    }
+}
+
+// `order`, and each lane behind one space.
+fn order_text(alloc: Global, order: &[u64]) -> Result<String, NoMemory>
+    ensures { IfOk result (λ text. string_bytes text ≡ spec.order_line order.now) }
+{
+    let mut out = String::new(alloc);
+    write!(out, "order")?;
+    put_lanes(&mut out, order)?;
+    write!(out, "\n")?;
+    Ok(out)
+}
+
+fn put_lanes(out: &mut String, lanes: &[u64]) -> Result<(), NoMemory>
+    ensures { OnOk result (string_bytes out.new ≡ string_bytes out.old ++ flat_map spec.lane_word lanes.now) }
+{
+    for lane in lanes {
+        put_lane(out, *lane)?;
+    }
+    Ok(())
+}
+
+#[tactic(auto, unfolding(crate::specs::LanesProgram::lane_word))]
+fn put_lane(out: &mut String, lane: u64) -> Result<(), NoMemory>
+    ensures { OnOk result (string_bytes out.new ≡ string_bytes out.old ++ spec.lane_word lane) }
+{
+    write!(out, " {lane}")?;
+    Ok(())
+}
+
+// The order, and the text of a report.
+fn lanes_text<H: Hasher<Digest = Digest32>>(
+    alloc: Global,
+    order: &[u64],
+    report: &Report<H>,
+) -> Result<Vec<u8>, NoMemory>
+    ensures { IfOk result (λ text. text.items ≡ spec.lanes_text H.digest_of order.now report.now) }
+{
+    let mut text = order_text(alloc, order)?.into_bytes();
+    let rest = report_text::<H>(alloc, report)?;
+    text.extend_from_slice(&rest)?;
+    Ok(text)
+}
+
+// The order, and the line of a clash.
+fn clash_lines(
+    alloc: Global,
+    order: &[u64],
+    earlier: &[u8],
+    later: &[u8],
+) -> Result<Vec<u8>, NoMemory>
+    ensures { IfOk result (λ text. text.items ≡ spec.clash_lines order.now earlier.now later.now) }
+{
+    let mut text = order_text(alloc, order)?.into_bytes();
+    let rest = clash_text(alloc, earlier, later)?;
+    text.extend_from_slice(&rest)?;
+    Ok(text)
+}
