@@ -142,3 +142,9 @@ module _ {H : Type 0} (hash : List ℕ → Digest32) (text : List ℕ) (held wri
   pub whole_silent : LanesAnswers hash text held written w later result → IsSilent held written result
   whole_silent (Ran order r told ends) = ends_silent held written 0 0 w later (lanes_text hash order r) (order, r) result ends
   whole_silent (Stopped order x cause ends) = stopped_silent held written 0 0 w later order x result ends
+
+-- ---- the answers of a run
+
+module _ {H : Type 0} (hash : List ℕ → Digest32) (text : List ℕ) (held written : Option (List ℕ)) (w later : ℕ) (result : Exit (List ℕ × Report H)) where
+  pub ran_whole : (order : List ℕ) (r : Report H) (due : List ℕ) → IsLanesReport hash text order r → due ≡ lanes_text hash order r → Finishes held written w later due (Done (order, r)) result → LanesAnswers hash text held written w later result
+  ran_whole order r due told is ends = Ran order r told (inl (subst (λ (t : List ℕ). Finishes held written w later t (Done (order, r)) result) is ends))

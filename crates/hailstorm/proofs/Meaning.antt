@@ -108,7 +108,7 @@ module _ {H : Type 0} (hash : List ℕ → Digest32) (text : List ℕ) (rest hel
 -- ---- reading and running
 
 -- what was read to the end is what the source had left
-all_read : (text given : List ℕ) (rest : Option (List ℕ)) → Consumes (Some text) rest given → IsAtEnd rest → given ≡ text
+pub all_read : (text given : List ℕ) (rest : Option (List ℕ)) → Consumes (Some text) rest given → IsAtEnd rest → given ≡ text
 all_read text given None c e = absurd c
 all_read text given (Some ys) c e = sym (c ∙ rw e (append-nil given))
 

@@ -69,11 +69,13 @@ returns-clause-ok g c =
     let at = line_at c.lines.result.now s.lines c.args.from c.index-lines-from.result c.index-lines-from.result all (one_within c.lines.result.now s.lines c.args.from all c.requires.within) c.index-lines-from.is in
     let begin = begins x order cursors c.args.lane c.args.from c.args.end line b.rest c.requires.cursor c.requires.some at r ((rw c.script-plain.ensures at c.is_cluster.ensures) r refl) in
     let number = c.number_of-number.ensures ∙ ap (λ (l : List ℕ). slice_index l c.args.from) c.numbers.ensures in
-    let plays = rw (c.in_ok-put_entry.ensures, ← number) ((rw c.script-plain.ensures at c.in-Ok.ensures.played) w (played x order) begin b.played) in (
+    let plays = played_same r w (played x order) c.number_of-number.result (slice_index x.numbers c.args.from) line (c.args.pool.now ++ c.in-Ok.entry ∷ []) c.put_entry.new.pool c.turn_line.new.places c.args.faulty.now number c.in_ok-put_entry.ensures
+    ((rw c.script-plain.ensures at c.in-Ok.ensures.played) w (played x order) begin b.played) in
+    let given = rw c.script-plain.ensures at c.in-Ok.ensures.gives in (
       record {
         row = (slice_index x.numbers c.args.from, line);
         next = next_row x order cursors c.args.lane c.args.from c.args.end line b.rest c.requires.cursor c.requires.some at;
-        gives = c.in_ok-first.ensures ∙ (rw c.script-plain.ensures at c.in-Ok.ensures.gives) w (played x order) b.played ∙ ap (λ (n : ℕ). entry_of r (run r w (lines_of (played x order))) n line) number;
+        gives = c.in_ok-first.ensures ∙ given w (played x order) b.played ∙ ap (λ (n : ℕ). entry_of r (run r w (lines_of (played x order))) n line) number;
       },
       turned_on hash x order cursors _ c.args.pool.now c.put_entry.new.pool c.args.places.now c.turn_line.new.places c.args.faulty.now c.args.lane c.args.from c.args.end line b c.requires.cursor c.requires.some at
           plays (rw c.script-plain.ensures at c.in-Ok.ensures.sound) (c.turn_line.auto.places ∙ b.count) refl,
