@@ -1,7 +1,7 @@
 -- What stands at the front of bytes: a value and the bytes after it, or a refusal and the bytes that it leaves.
 use Rattle.std.specs.Int.{Width, w16, w32, w64, byte_len, from_be_bytes}
 use Rattle.std.specs.Prelude.{◌≡◌, ℕ, zero, suc, ◌+◌, ◌*◌, ◌-◌, ◌==◌, ◌&&◌, Bool, true, false, not, nat_lt, if◌then◌else◌, List, [], ◌∷◌, length, take, drop, Result, Ok, Err}
-use Rattle.cw_base.specs.Shards.{Shards}
+use Rattle.cw_base.specs.Counts.{Counts}
 use Rattle.cw_base.specs.declared.reader.CodecError.{CodecError}
 use Rattle.cw_base.specs.declared.reader.CodecError.TheVariants.{EndOfBuffer, InvalidVarint, Invalid, Extra, NoMemory}
 
@@ -95,7 +95,7 @@ nonzero_at bytes = do
   if n.0 == 0 then Err (Invalid, n.1) else Ok n
 
 -- the two numbers of a config
-unfoldable pub config_at : List ℕ → Reading Shards
+unfoldable pub config_at : List ℕ → Reading Counts
 config_at bytes = do
   minimum ← nonzero_at bytes
   extra ← nonzero_at minimum.1

@@ -2,7 +2,7 @@
 use Rattle.std.specs.Prelude.{[], ℕ, ◌&&◌, ◌++◌, ◌==◌, ◌∷◌, Bool, List, None, Option, false, if◌then◌else◌, length, nat_le, not, true}
 use Rattle.std.specs.List.{list_all, list_any}
 use Rattle.std.specs.Option.{option_map_or, option_or}
-use Rattle.cw_base.specs.Config.{same_shards}
+use Rattle.cw_base.specs.Config.{same_counts}
 use Rattle.cw_types.specs.Block.{Block}
 use Rattle.cw_types.specs.Epochs.{is_member, rises_from, size}
 use Rattle.cw_types.specs.Numbers.{quorum}
@@ -70,7 +70,7 @@ take_part came fits x = if fits && not (list_any (same_part x) came.parts) then 
 
 -- a chunk of a commitment with the config of some epoch, which stands under its root
 abbrev pub is_chunk_of : Rules → Commitment → Chunk → Bool
-is_chunk_of r c x = list_any (λ list. same_shards c.config (config_for (length list))) r.epochs.lists && is_under r c x
+is_chunk_of r c x = list_any (λ list. same_counts c.config (config_for (length list))) r.epochs.lists && is_under r c x
 
 -- what a delivered message leaves
 abbrev pub accepted : Rules → (ℕ → Vote → Bool) → Came → Message → Came

@@ -5,7 +5,7 @@ use Rattle.std.specs.Coded.{le_prop}
 use Rattle.std.specs.declared.num.NonZeroU16.{NonZeroU16}
 
 -- how many shards hold the text, and how many are added
-pub record Shards : Type 0 where
+pub record Counts : Type 0 where
   pub minimum : ℕ
   pub extra : ℕ
 
