@@ -20,20 +20,21 @@ abbrev pub IsRead : {X Y : Type 0} → (X → Y) → Result X CodecError → Lis
 IsRead view (Ok x) left read = read ≡ Ok (view x, left)
 IsRead view (Err e) left read = read ≡ Err (e, left)
 
--- a call that also takes memory may find none at any point, and then tells nothing
+-- All parts were read, and these bytes are left behind them. No format refuses for want of memory itself.
+abbrev pub IsBehind : {A : Type 0} → Reading A → List ℕ → Type 0
+IsBehind (Ok x) left = x.1 ≡ left
+IsBehind (Err e) left = e ≡ (NoMemory, left)
+
+-- A call that takes memory says that it found none only where nothing else refuses the bytes, and then it stands behind
+-- all parts; each other refusal is that of the bytes.
 abbrev pub IsRefused : {Y : Type 0} → CodecError → List ℕ → Reading Y → Type 0
-IsRefused NoMemory left read = Unit {0}
+IsRefused NoMemory left read = IsBehind read left
 IsRefused e left read = read ≡ Err (e, left)
 
 -- a call that takes memory answered what is read, as view sees it, and these bytes are left
 abbrev pub Gives : {X Y : Type 0} → (X → Y) → Result X CodecError → List ℕ → Reading Y → Type 0
 Gives view (Ok x) left read = read ≡ Ok (view x, left)
 Gives view (Err e) left read = IsRefused e left read
-
--- A reader that took memory and found none stands behind the parts that it read, and these were read whole: so it does
--- not answer want of memory where one of them is refused.
-abbrev pub IsBehind : {A : Type 0} → Reading A → List ℕ → Type 0
-IsBehind {A} read left = (x : A) × (read ≡ Ok (x, left))
 
 -- a byte
 abbrev pub byte_at : List ℕ → Reading ℕ

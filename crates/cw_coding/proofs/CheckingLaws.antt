@@ -9,7 +9,8 @@ use Rattle.cw_base.specs.Rows.{listed, length-listed}
 use Rattle.cw_tree.specs.Chunks.{Piece}
 use Rattle.cw_tree.specs.Formats.{chunk_bytes, widest, piece_of_bytes}
 use Rattle.cw_tree.specs.FormatLaws.{AreDigests, FitsChunk}
-use Rattle.cw_tree.specs.Sizes.{AreSized, chunk_bytes-le, sized_path}
+use Rattle.cw_tree.specs.Sizes.{AreSized}
+use Rattle.cw_tree.proofs.Bounds.{chunk_bytes-le, sized_path}
 use Rattle.cw_tree.specs.Tree.{root_of, root_by, path_of}
 use Rattle.cw_tree.specs.TreeRoots.{IsHeight, root_by-path_of, path_of-le}
 use Rattle.cw_tree.specs.Widths.{shard_len}

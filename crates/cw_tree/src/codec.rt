@@ -3,7 +3,7 @@
 ghost use Rattle.std.specs.Prelude.{◌≡◌, ℕ, ◌+◌, ◌*◌, ◌-◌, ◌^◌, ◌<◌, ◌≤◌, ◌%◌, min, [], ◌∷◌, ◌++◌, List, length, map, take, IfOk, OnOk, OnErr};
 ghost use Rattle.std.specs.List.{flat_map};
 ghost use Rattle.cw_base.specs.Ends.{IsEnd};
-ghost use Rattle.cw_base.specs.Reading.{IsRead, Gives, bytes_at};
+ghost use Rattle.cw_base.specs.Reading.{IsRead, IsRefused, Gives, bytes_at};
 ghost use Rattle.cw_tree.specs.Formats.{proof_bytes, chunk_bytes, digests_at, siblings_at, proof_at, shard_at, chunk_at, widest, piece_of_bytes};
 
 use crate::bmt::Proof;
@@ -112,11 +112,29 @@ fn read_digests<D: Digest>(
     let mut digests = Items::new(alloc);
     for i in 0..count {
         match read_digest::<D>(reader) {
-            Ok(digest) => digests.push(digest)?,
+            Ok(digest) => match digests.push(digest) {
+                Ok(()) => {}
+                Err(NoMemory) => return Err(skip_digests::<D>(reader, count - i - 1)),
+            },
             Err(error) => return Err(error),
         }
     }
     Ok(digests)
+}
+
+// Why so many digests are not read that there is no memory for: where they are cut, for that.
+#[tactic(auto, using(cw_base::specs::Ends::ends))]
+fn skip_digests<D: Digest>(reader: &mut Reader, count: u8) -> CodecError
+    ensures value { IsRefused result reader.new (digests_at D.SIZE count reader.old) }
+    ensures place { IsEnd reader.old reader.new }
+{
+    for i in 0..count {
+        match read_digest::<D>(reader) {
+            Ok(_) => {}
+            Err(error) => return error,
+        }
+    }
+    CodecError::NoMemory
 }
 
 // At most 32 digests, behind their number.
@@ -138,7 +156,8 @@ fn read_siblings<D: Digest>(alloc: Global, reader: &mut Reader) -> Result<Items<
 impl<D: Digest> Proof<D> {
     /// The proof at the front: `TooLong` above 32 siblings, `EndOfBuffer` where it is cut.
     ///
-    /// Refused, the reader stands behind the parts that were taken, a refused number among them.
+    /// Refused, the reader stands behind the parts that were taken, a refused number among them. For
+    /// want of memory it is refused only where a whole proof stands there, and all of it is taken.
     #[tactic(auto, using(cw_base::specs::Ends::ends), unfolding(crate::specs::Formats::proof_at))]
     pub fn read(alloc: Global, reader: &mut Reader) -> Result<Proof<D>, CodecError>
         ensures value { Gives (λ proof. (proof.leaf_count, map D.content proof.siblings)) result reader.new (proof_at D.SIZE reader.old) }
@@ -175,7 +194,8 @@ impl<D: Digest> Chunk<D> {
     /// is less, and above 32 siblings; `InvalidVarint` for a length in another form than its
     /// shortest; `EndOfBuffer` where it is cut.
     ///
-    /// Refused, the reader stands behind the parts that were taken, a refused number among them.
+    /// Refused, the reader stands behind the parts that were taken, a refused number among them. For
+    /// want of memory it is refused only where a whole chunk stands there, and all of it is taken.
     #[tactic(auto, using(cw_base::specs::Ends::ends), unfolding(crate::specs::Formats::chunk_at))]
     pub fn read(
         alloc: Global,

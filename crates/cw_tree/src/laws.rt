@@ -7,6 +7,7 @@ ghost use Rattle.cw_base.specs.ReadingLaws.{ReadsBack};
 ghost use Rattle.cw_tree.specs.Chunks.{Piece};
 ghost use Rattle.cw_tree.specs.Formats.{proof_bytes, proof_at, chunk_bytes, chunk_at, piece_of_bytes};
 ghost use Rattle.cw_tree.specs.FormatLaws.{FitsProof, FitsChunk};
+ghost use Rattle.cw_tree.specs.Sizes.{AreSized};
 
 use cw_base::{Digest, Hasher};
 
@@ -23,6 +24,16 @@ pub fn chunks_with_digests_read_back<D: Digest>()
     ensures again { (bound : ℕ) (p : Piece D) (rest : List ℕ) → FitsChunk D.SIZE bound (piece_of_bytes D.content p) →
         chunk_at D.SIZE bound (chunk_bytes D.content p ++ rest) ≡ Ok (piece_of_bytes D.content p, rest) }
     ensures told { (p q : Piece D) → piece_of_bytes D.content p ≡ piece_of_bytes D.content q → p ≡ q }
+{}
+
+/// No proof has more bytes than `Proof::max_encode_size` says of its siblings, and no chunk more than
+/// `Chunk::max_encode_size` says of its shard and siblings. Digests have `D::SIZE` bytes each, as
+/// `Digest::as_bytes` says.
+pub fn chunks_are_bounded<D: Digest>()
+    ensures proof { (leaf_count most : ℕ) (siblings : List D) → AreSized D.content D.SIZE siblings → length siblings ≤ most →
+        length (proof_bytes D.content leaf_count siblings) ≤ 5 + D.SIZE * most }
+    ensures chunk { (shard most : ℕ) (p : Piece D) → AreSized D.content D.SIZE p.siblings → length p.shard ≤ shard → length p.siblings ≤ most →
+        length (chunk_bytes D.content p) ≤ 12 + shard + D.SIZE * most }
 {}
 
 /// Each digest of a tree leads to the root by the siblings of its proof, of which there is at most

@@ -304,7 +304,8 @@ impl ChainBlock {
     /// `InvalidVarint` for a payload's length in another form than its shortest, `TooLong` for one
     /// above `Payload::MAX`, `EndOfBuffer` where it is cut.
     ///
-    /// Refused, the reader stands behind the parts that were taken, a refused value among them.
+    /// Refused, the reader stands behind the parts that were taken, a refused value among them. For want
+    /// of memory it is refused only where a whole block stands there, and all of it is taken.
     #[tactic(auto, using(cw_base::specs::Ends::end_of_end), unfolding(crate::specs::Reading::block_at))]
     pub fn read(alloc: Global, reader: &mut Reader) -> Result<ChainBlock, CodecError>
         ensures value { Gives (λ block. block) result reader.new (block_at reader.old) }

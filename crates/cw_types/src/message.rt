@@ -114,7 +114,7 @@ impl Message {
     }
 
     /// The message that all bytes left are: those that don't read as a message to their end are junk.
-    /// The reader is then at its end. The only refusal is `NoMemory`.
+    /// The reader is then at its end. The only refusal is `NoMemory`, which leaves it there too.
     #[tactic(auto, using(cw_base::specs::Ends::ends))]
     pub fn read(alloc: Global, reader: &mut Reader) -> Result<Message, CodecError>
         ensures value { Gives (λ message. message) result reader.new (message_at reader.old) }
@@ -124,7 +124,10 @@ impl Message {
         let bytes = reader.rest();
         match read_tagged(alloc, reader) {
             Ok(message) if reader.rest().is_empty() => Ok(message),
-            Err(CodecError::NoMemory) => Err(CodecError::NoMemory),
+            Err(CodecError::NoMemory) => {
+                *reader = Reader::new(&[]);
+                Err(CodecError::NoMemory)
+            }
             _ => {
                 *reader = Reader::new(&[]);
                 let junk = Vec::from_slice(alloc, bytes)?;

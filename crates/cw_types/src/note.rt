@@ -120,6 +120,7 @@ impl Note {
     /// config with a zero; `InvalidVarint`, `TooLong` and `EndOfBuffer` as for its block.
     ///
     /// Refused, the reader stands behind the parts that were taken, a refused tag or value among them.
+    /// For want of memory it is refused only where a whole note stands there, and all of it is taken.
     #[tactic(auto, using(cw_base::specs::Ends::end_of_end), unfolding(crate::specs::Reading::note_at))]
     pub fn read(alloc: Global, reader: &mut Reader) -> Result<Note, CodecError>
         ensures value { Gives (λ note. note) result reader.new (note_at reader.old) }

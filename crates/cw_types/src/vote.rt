@@ -7,7 +7,7 @@ ghost use Rattle.cw_types.specs.Same.{same_cert, same_proposal, same_vote};
 ghost use Rattle.cw_types.specs.Reading.{proposal_at, later_epoch_at, later_at, notarize_at, nullify_at, finalize_at, vote_at, signers_at, signed_at, cert_at};
 ghost use Rattle.cw_types.specs.Votes as votes;
 ghost use Rattle.cw_base.specs.Ends.{IsEnd};
-ghost use Rattle.cw_base.specs.Reading.{IsRead, Gives};
+ghost use Rattle.cw_base.specs.Reading.{IsRead, IsRefused, Gives};
 
 use crate::commitment::Commitment;
 use cw_base::{CodecError, Items, NoMemory, Reader, put_be16, put_be64, put_u8};
@@ -301,6 +301,8 @@ impl Cert {
     /// The certificate at the front: `Invalid` as for its vote, `EndOfBuffer` where it is cut.
     ///
     /// Refused, the reader stands behind the parts that were taken, a refused tag or value among them.
+    /// For want of memory it is refused only where a whole certificate stands there, and all of it is
+    /// taken.
     #[tactic(auto, using(cw_base::specs::Ends::end_of_end), unfolding(crate::specs::Reading::cert_at))]
     pub fn read(alloc: Global, reader: &mut Reader) -> Result<Cert, CodecError>
         ensures value { Gives (λ cert. cert) result reader.new (cert_at reader.old) }
@@ -340,11 +342,29 @@ fn read_signers(alloc: Global, reader: &mut Reader, count: u16) -> Result<Items<
     let mut signers = Items::new(alloc);
     for i in 0..count {
         match reader.be16() {
-            Ok(signer) => signers.push(signer)?,
+            Ok(signer) => match signers.push(signer) {
+                Ok(()) => {}
+                Err(NoMemory) => return Err(skip_signers(reader, count - i - 1)),
+            },
             Err(error) => return Err(error),
         }
     }
     Ok(signers)
+}
+
+// Why so many numbers are not read that there is no memory for: where they are cut, for that.
+#[tactic(auto, using(cw_base::specs::Ends::ends))]
+fn skip_signers(reader: &mut Reader, count: u16) -> CodecError
+    ensures value { IsRefused result reader.new (signers_at count reader.old) }
+    ensures place { IsEnd reader.old reader.new }
+{
+    for i in 0..count {
+        match reader.be16() {
+            Ok(_) => {}
+            Err(error) => return error,
+        }
+    }
+    CodecError::NoMemory
 }
 
 // Two bytes of each.
