@@ -14,7 +14,8 @@ use Rattle.cw_types.specs.declared.note.Note.{Note}
 use Rattle.cw_types.specs.declared.vote.Cert.{Cert}
 use Rattle.cw_types.specs.declared.vote.Proposal.{Proposal}
 use Rattle.cw_types.specs.declared.vote.Vote.{Vote}
-use Rattle.cw_rules.specs.Rules.{Chunk, Rules, config_for, is_under}
+use Rattle.cw_rules.specs.Rules.{Chunk, Rules, is_under}
+use Rattle.cw_types.specs.Numbers.{config_for}
 
 -- what f answers at the first element at which it answers something
 abbrev pub first_some : {X Y : Type 0} → (X → Option Y) → List X → Option Y

@@ -6,7 +6,7 @@ use Rattle.cw_base.specs.declared.hash.Digest32.{Digest32}
 use Rattle.cw_tree.specs.Chunks.{Piece}
 use Rattle.cw_types.specs.Block.{Block}
 use Rattle.cw_types.specs.Epochs.{Epochs, size}
-use Rattle.cw_types.specs.Numbers.{extra_chunks, least_chunks}
+use Rattle.cw_types.specs.Numbers.{config_for}
 use Rattle.cw_types.specs.declared.block.Context.{Context}
 use Rattle.cw_types.specs.declared.commitment.Commitment.{Commitment}
 use Rattle.cw_types.specs.Commit as first
@@ -52,10 +52,6 @@ among r epochs backlog accepts = record {
   read_block = r.read_block;
   accepts = accepts;
 }
-
--- the config of n members
-abbrev pub config_for : ℕ → Counts
-config_for n = record { minimum = least_chunks n; extra = extra_chunks n }
 
 -- the config of an epoch
 abbrev pub config : Rules → ℕ → Counts

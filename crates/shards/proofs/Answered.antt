@@ -12,7 +12,8 @@ use Rattle.cw_types.specs.Same.{same_commitment}
 use Rattle.cw_types.specs.declared.commitment.Commitment.{Commitment}
 use Rattle.cw_rules.specs.Accepted.{is_chunk_of}
 use Rattle.cw_rules.specs.Held.{if_committed}
-use Rattle.cw_rules.specs.Rules.{Chunk, Rules, block_of, config_for, is_under, total_of}
+use Rattle.cw_rules.specs.Rules.{Chunk, Rules, block_of, is_under, total_of}
+use Rattle.cw_types.specs.Numbers.{config_for}
 use Rattle.shards.specs.Enough.{AreEnough, AreUnder}
 use Rattle.shards.specs.Kept.{AreKept, chunks_of, is_known, rules_of, with_chunk}
 use Rattle.shards.specs.Verdicts.{kept_verdict, of_shown, verdict}

@@ -1,6 +1,6 @@
 use Rattle.std.proofs.Common.{◌≡◌, ◌∙◌, ap, arith, sym, length}
 use Rattle.cw_base.specs.Config.{same_counts}
-use Rattle.cw_rules.specs.Rules.{config_for}
+use Rattle.cw_types.specs.Numbers.{config_for}
 use Rattle.shards.proofs.Lists.{any_epoch, none_epoch}
 use Rattle.shards.proofs.configs.has_config.Goals as goal
 
