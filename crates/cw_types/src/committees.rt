@@ -9,6 +9,7 @@ use crate::numbers::config_for;
 use cw_base::{Config, Items, NoMemory};
 use std::alloc::Global;
 use std::marker::Model;
+use std::sync::Arc;
 
 /// The committees of a cluster, which are known to all: how many members there are, how many heights
 /// an epoch covers, and the members of each epoch. There are 1 to 64 lists, the last of which serves
@@ -18,18 +19,20 @@ pub struct Committees {
     total: u16,
     // none: the first epoch has no end
     span: Option<u64>,
-    lists: Items<Items<u16>>,
+    // all copies share them
+    lists: Arc<Items<Items<u16>>, Global>,
 }
 
 impl Model for Committees {
     ghost use Rattle.std.specs.Prelude.{IsTrue};
+    ghost use Rattle.std.specs.Arc.{arc_value};
     ghost use Rattle.cw_types.specs.Epochs.{Epochs, is_sound};
 
     ghost Value = { Epochs };
 
-    ghost view = { λ c. record { total = c.total; span = c.span; lists = c.lists } };
+    ghost view = { λ c. record { total = c.total; span = c.span; lists = arc_value c.lists } };
 
-    ghost invariant = { λ c. IsTrue (is_sound (record { total = c.total; span = c.span; lists = c.lists })) };
+    ghost invariant = { λ c. IsTrue (is_sound (record { total = c.total; span = c.span; lists = arc_value c.lists })) };
 }
 
 impl Committees {
@@ -47,7 +50,7 @@ impl Committees {
         Ok(Committees {
             total: n,
             span: None,
-            lists,
+            lists: Arc::new(alloc, lists)?,
         })
     }
 
@@ -71,19 +74,19 @@ impl Committees {
         Ok(Committees {
             total,
             span: Some(span),
-            lists: copies,
+            lists: Arc::new(alloc, copies)?,
         })
     }
 
-    /// An equal value.
-    pub fn copy(&self, alloc: Global) -> Result<Committees, NoMemory>
+    /// An equal value, which shares the lists and takes no memory. It is refused only where as many
+    /// copies are held as can be counted.
+    pub fn copy(&self, _alloc: Global) -> Result<Committees, NoMemory>
         ensures { IfOk result (λ copy. copy ≡ self.now) }
     {
-        let lists = copy_lists(alloc, self.lists.as_slice())?;
         Ok(Committees {
             total: self.total,
             span: self.span,
-            lists,
+            lists: Arc::try_clone(&self.lists)?,
         })
     }
 
@@ -115,7 +118,7 @@ impl Committees {
         ensures value { result.now ≡ epochs.members_in self.now epoch }
         ensures committee { IsTrue (epochs.is_committee self.now.total result.now) }
     {
-        members_of(self.lists.as_slice(), epoch as usize)
+        members_of(self.lists(), epoch as usize)
     }
 
     /// How many members an epoch has. Takes no memory.
@@ -201,16 +204,6 @@ fn members_of(lists: &[Items<u16>], epoch: usize) -> &[u16]
         Some(list) => list.as_slice(),
         None => &[],
     }
-}
-
-fn copy_lists(alloc: Global, lists: &[Items<u16>]) -> Result<Items<Items<u16>>, NoMemory>
-    ensures { IfOk result (λ copy. copy ≡ lists.now) }
-{
-    let mut copies = Items::new(alloc);
-    for list in lists {
-        copies.push(Items::from_vec(Vec::from_slice(alloc, list.as_slice())?))?;
-    }
-    Ok(copies)
 }
 
 /// The member that leads a view of an epoch: each in turn. Takes no memory.
