@@ -19,7 +19,7 @@ use std::alloc::{AllocError, Global};
 use std::thread::Threads;
 
 // How many columns are worked on at once: their sums stay in the caches near the processor.
-const BLOCK: usize = 4096;
+const BLOCK: usize = 8192;
 
 /// The rows at the targets, of the polynomials through the rows at the points of a basis.
 ///
