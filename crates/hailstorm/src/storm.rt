@@ -153,7 +153,7 @@ impl Drawn {
         ensures { OnOk result (spec.shown_draw self.new.state (string_bytes self.new.text) (spec.round round (spec.drawn (string_bytes self.old.text) self.old.state))) }
     {
         self.propose(alloc, round)?;
-        self.deliver_from(24, 24 * (round - 1))?;
+        self.deliver_from(48, 24 * (round - 1))?;
         self.ack()?;
         if round % 8 == 0 {
             self.cut()?;
