@@ -1,6 +1,7 @@
 //! Who the members are, epoch by epoch.
 
-ghost use Rattle.std.specs.Prelude.{◌≡◌, ◌+◌, ◌*◌, ◌≤◌, ◌==◌, Some, map, length, position, IfOk, IsTrue};
+ghost use Rattle.std.specs.Prelude.{◌≡◌, ◌+◌, ◌*◌, ◌≤◌, ◌==◌, Some, map, length, position, IfOk};
+ghost use Rattle.std.specs.Prelude.{IsTrue};
 ghost use Rattle.std.specs.List.{list_all};
 ghost use Rattle.cw_coding.specs.Totals.{total_of};
 ghost use Rattle.cw_types.specs.Epochs as epochs;
@@ -11,9 +12,9 @@ use std::alloc::Global;
 use std::marker::Model;
 use std::sync::Arc;
 
-/// The committees of a cluster, which are known to all: how many members there are, how many heights
-/// an epoch covers, and the members of each epoch. There are 1 to 64 lists, the last of which serves
-/// for all later epochs. Each has at least four members, which rise.
+/// The committees of a cluster, which are known to all: how many members there are, how many
+/// heights an epoch covers, and the members of each epoch. There are 1 to 64 lists, the last of
+/// which serves for all later epochs. Each has at least four members, which rise.
 #[derive(Debug, Drop)]
 pub struct Committees {
     total: u16,
@@ -32,7 +33,8 @@ impl Model for Committees {
 
     ghost view = { λ c. record { total = c.total; span = c.span; lists = arc_value c.lists } };
 
-    ghost invariant = { λ c. IsTrue (is_sound (record { total = c.total; span = c.span; lists = arc_value c.lists })) };
+    ghost invariant = { λ c. IsTrue
+        (is_sound (record { total = c.total; span = c.span; lists = arc_value c.lists })) };
 }
 
 impl Committees {
@@ -64,8 +66,12 @@ impl Committees {
         requires covers { 1 ≤ span }
         requires some { 1 ≤ length lists.now }
         requires few { length lists.now ≤ 64 }
-        requires committees { IsTrue (list_all (epochs.is_committee total) (map (λ list. list.items) lists.now)) }
-        ensures { IfOk result (λ committees. committees ≡ record { total = total; span = Some span; lists = map (λ list. list.items) lists.now }) }
+        requires committees { IsTrue
+            (list_all (epochs.is_committee total) (map (λ list. list.items) lists.now)) }
+        ensures { IfOk result
+            (λ committees. committees
+            ≡ record { total = total; span = Some span;
+            lists = map (λ list. list.items) lists.now }) }
     {
         let mut copies = Items::new(alloc);
         for list in lists {
@@ -148,7 +154,8 @@ impl Committees {
         self.members(epoch).iter().any(|other| *other == member)
     }
 
-    /// The place of a member in the list of an epoch; none for one that isn't in it. Takes no memory.
+    /// The place of a member in the list of an epoch; none for one that isn't in it. Takes no
+    /// memory.
     pub fn place(&self, epoch: u64, member: u16) -> Option<u16>
         ensures { result ≡ epochs.place self.now epoch member }
     {

@@ -4,7 +4,9 @@ ghost use Rattle.std.specs.Prelude.{◌≡◌, ◌++◌, ◌<◌, IfOk, OnOk, On
 ghost use Rattle.cw_base.specs.Bytes.{be16};
 ghost use Rattle.cw_types.specs.Encoding.{cert_bytes, proposal_bytes, tag_bytes, vote_bytes};
 ghost use Rattle.cw_types.specs.Same.{same_cert, same_proposal, same_vote};
-ghost use Rattle.cw_types.specs.Reading.{proposal_at, later_epoch_at, later_at, notarize_at, nullify_at, finalize_at, vote_at, signers_at, signed_at, cert_at};
+ghost use Rattle.cw_types.specs.Reading.{proposal_at, later_epoch_at, later_at, notarize_at};
+ghost use Rattle.cw_types.specs.Reading.{nullify_at, finalize_at, vote_at, signers_at, signed_at};
+ghost use Rattle.cw_types.specs.Reading.{cert_at};
 ghost use Rattle.cw_types.specs.Votes as votes;
 ghost use Rattle.cw_base.specs.Ends.{IsEnd};
 ghost use Rattle.cw_base.specs.Reading.{IsRead, IsRefused, Gives};
@@ -83,9 +85,11 @@ impl Proposal {
     /// `EndOfBuffer` where it is cut.
     ///
     /// Refused, the reader stands behind the parts that were taken, a zero among them.
-    #[tactic(auto, using(cw_base::specs::Ends::end_of_end), unfolding(crate::specs::Reading::proposal_at))]
+    #[tactic(auto, using(cw_base::specs::Ends::end_of_end),
+        unfolding(crate::specs::Reading::proposal_at))]
     pub fn read(reader: &mut Reader, epoch: u64) -> Result<Proposal, CodecError>
-        ensures value { IsRead (λ proposal. proposal) result reader.new (proposal_at epoch reader.old) }
+        ensures value { IsRead (λ proposal. proposal) result reader.new
+            (proposal_at epoch reader.old) }
         ensures place { IsEnd reader.old reader.new }
     {
         let view = reader.be64()?;
@@ -142,8 +146,8 @@ impl Vote {
         }
     }
 
-    /// Appends its bytes: a tag, 8 of the epoch where it isn't 0, and what the vote is on. Where memory
-    /// is short nothing changes.
+    /// Appends its bytes: a tag, 8 of the epoch where it isn't 0, and what the vote is on. Where
+    /// memory is short nothing changes.
     pub fn write(&self, out: &mut Vec<u8>) -> Result<(), NoMemory>
         ensures ok { OnOk result (out.new.items ≡ out.old.items ++ vote_bytes self.now) }
         ensures err { OnErr result (out.new.items ≡ out.old.items) }
@@ -184,8 +188,10 @@ impl Vote {
     /// The vote at the front: `Invalid` for another tag, for a later epoch's tag with an epoch of 0
     /// behind it, and for a config with a zero; `EndOfBuffer` where it is cut.
     ///
-    /// Refused, the reader stands behind the parts that were taken, a refused tag or value among them.
-    #[tactic(auto, using(cw_base::specs::Ends::end_of_end), unfolding(crate::specs::Reading::vote_at))]
+    /// Refused, the reader stands behind the parts that were taken, a refused tag or value among
+    /// them.
+    #[tactic(auto, using(cw_base::specs::Ends::end_of_end),
+        unfolding(crate::specs::Reading::vote_at))]
     pub fn read(reader: &mut Reader) -> Result<Vote, CodecError>
         ensures value { IsRead (λ vote. vote) result reader.new (vote_at reader.old) }
         ensures place { IsEnd reader.old reader.new }
@@ -240,7 +246,8 @@ fn read_finalize(reader: &mut Reader, epoch: u64) -> Result<Vote, CodecError>
 }
 
 // An epoch above 0.
-#[tactic(auto, using(cw_base::specs::Ends::end_of_end), unfolding(crate::specs::Reading::later_epoch_at))]
+#[tactic(auto, using(cw_base::specs::Ends::end_of_end),
+    unfolding(crate::specs::Reading::later_epoch_at))]
 pub(crate) fn read_later_epoch(reader: &mut Reader) -> Result<u64, CodecError>
     ensures value { IsRead (λ epoch. epoch) result reader.new (later_epoch_at reader.old) }
     ensures place { IsEnd reader.old reader.new }
@@ -272,8 +279,8 @@ impl Cert {
         })
     }
 
-    /// Appends its bytes: its vote, 2 of the number of signers, and 2 of each. Where memory is short
-    /// nothing changes.
+    /// Appends its bytes: its vote, 2 of the number of signers, and 2 of each. Where memory is
+    /// short nothing changes.
     pub fn write(&self, out: &mut Vec<u8>) -> Result<(), NoMemory>
         ensures ok { OnOk result (out.new.items ≡ out.old.items ++ cert_bytes self.now) }
         ensures err { OnErr result (out.new.items ≡ out.old.items) }
@@ -300,10 +307,11 @@ impl Cert {
 
     /// The certificate at the front: `Invalid` as for its vote, `EndOfBuffer` where it is cut.
     ///
-    /// Refused, the reader stands behind the parts that were taken, a refused tag or value among them.
-    /// For want of memory it is refused only where a whole certificate stands there, and all of it is
-    /// taken.
-    #[tactic(auto, using(cw_base::specs::Ends::end_of_end), unfolding(crate::specs::Reading::cert_at))]
+    /// Refused, the reader stands behind the parts that were taken, a refused tag or value among
+    /// them. For want of memory it is refused only where a whole certificate stands there, and all
+    /// of it is taken.
+    #[tactic(auto, using(cw_base::specs::Ends::end_of_end),
+        unfolding(crate::specs::Reading::cert_at))]
     pub fn read(alloc: Global, reader: &mut Reader) -> Result<Cert, CodecError>
         ensures value { Gives (λ cert. cert) result reader.new (cert_at reader.old) }
         ensures place { IsEnd reader.old reader.new }
@@ -317,7 +325,8 @@ impl Cert {
 }
 
 // The signers of a vote, behind their number.
-#[tactic(auto, using(cw_base::specs::Ends::end_of_end), unfolding(crate::specs::Reading::signed_at))]
+#[tactic(auto, using(cw_base::specs::Ends::end_of_end),
+    unfolding(crate::specs::Reading::signed_at))]
 pub(crate) fn read_signed(
     alloc: Global,
     reader: &mut Reader,

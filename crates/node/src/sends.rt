@@ -1,6 +1,7 @@
 //! What the notes of a step send, and the chunk of its own that a member passes on.
 
-ghost use Rattle.std.specs.Prelude.{◌≡◌, ◌++◌, ◌∷◌, ◌==◌, [], ℕ, IfOk, OnOk, None, Some, filter_map, flat_map, if◌then◌else◌, slice_get};
+ghost use Rattle.std.specs.Prelude.{◌≡◌, ◌++◌, ◌∷◌, ◌==◌, [], ℕ, IfOk, OnOk, None, Some};
+ghost use Rattle.std.specs.Prelude.{filter_map, flat_map, if◌then◌else◌, slice_get};
 ghost use Rattle.cw_base.specs.Config.{same_counts};
 ghost use Rattle.cw_rules.specs.Rules.{config as config_of};
 ghost use Rattle.cw_types.specs.declared.event.Event.TheVariants as event;

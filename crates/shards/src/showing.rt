@@ -1,6 +1,7 @@
 //! The block that chunks show.
 
-ghost use Rattle.std.specs.Prelude.{◌&&◌, ◌≡◌, ◌≢◌, ◌≤◌, IfNone, IfOk, IfSome, IsNone, List, false, ℕ, map, option_and_then, true};
+ghost use Rattle.std.specs.Prelude.{◌&&◌, ◌≡◌, ◌≢◌, ◌≤◌, IfNone, IfOk, IfSome, IsNone, List, false};
+ghost use Rattle.std.specs.Prelude.{ℕ, map, option_and_then, true};
 ghost use Rattle.cw_base.specs.Config.{same_counts};
 ghost use Rattle.cw_rules.specs.Accepted.{is_chunk_of};
 ghost use Rattle.cw_rules.specs.Held.{if_committed};

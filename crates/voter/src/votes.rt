@@ -1,6 +1,8 @@
 //! The vote that a member owes.
 
-ghost use Rattle.std.specs.Prelude.{◌≡◌, ◌==◌, ◌&&◌, ◌<◌, ◌-◌, ◌^◌, IfSome, IsTrue, None, Some, false, find, if◌then◌else◌, nat_lt, not, option_and_then, option_map};
+ghost use Rattle.std.specs.Prelude.{◌≡◌, ◌==◌, ◌&&◌, ◌<◌, ◌-◌, ◌^◌, IfSome, IsTrue, None, Some};
+ghost use Rattle.std.specs.Prelude.{false, find, if◌then◌else◌, nat_lt, not, option_and_then};
+ghost use Rattle.std.specs.Prelude.{option_map};
 ghost use Rattle.std.specs.List.{list_any};
 ghost use Rattle.std.specs.Option.{option_map_or};
 ghost use Rattle.cw_base.specs.Config.{same_counts};
