@@ -24,8 +24,10 @@ impl Model for Config {
 
     ghost view = { λ c. record { minimum = c.minimum_shards.value; extra = c.extra_shards.value } };
 
-    ghost inverse = { λ s. record { minimum_shards = positive s.minimum;
-        extra_shards = positive s.extra } };
+    ghost inverse = { λ s. record {
+      minimum_shards = positive s.minimum;
+      extra_shards = positive s.extra;
+    } };
 
     ghost inverse_ok = { λ a h. from_values
         (λ m e. record { minimum_shards = m; extra_shards = e }) a.minimum_shards a.extra_shards };

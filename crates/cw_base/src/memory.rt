@@ -47,8 +47,13 @@ impl MemorySource {
     pub fn new(bytes: Vec<u8>, piece: usize, failing: Vec<u64>) -> MemorySource
         requires { 1 ≤ piece }
         ensures { result
-            ≡ record { left = bytes.items; piece = piece; failing = failing.items; calls = 0;
-            faults = 0 } }
+            ≡ record {
+              left = bytes.items;
+              piece = piece;
+              failing = failing.items;
+              calls = 0;
+              faults = 0;
+            } }
     {
         MemorySource {
             bytes,
@@ -76,8 +81,10 @@ impl Source for MemorySource {
             ≡ record self.old { left = drop n self.old.left; calls = counted self.old.calls }) }
         ensures err { OnErr result
             (self.new
-            ≡ record self.old { calls = counted self.old.calls;
-            faults = counted self.old.faults }) }
+            ≡ record self.old {
+              calls = counted self.old.calls;
+              faults = counted self.old.faults;
+            }) }
 
         // what every source promises
         ensures bound { ReadsAtMost result room.new }
@@ -134,8 +141,14 @@ impl MemorySink {
         requires { 1 ≤ piece }
         ensures { IfOk result
             (λ s. s
-            ≡ record { held = []; room = 1024; piece = piece; failing = failing.items; calls = 0;
-            faults = 0 }) }
+            ≡ record {
+              held = [];
+              room = 1024;
+              piece = piece;
+              failing = failing.items;
+              calls = 0;
+              faults = 0;
+            }) }
     {
         Ok(MemorySink {
             bytes: Vec::with_capacity(alloc, 1024)?,
@@ -178,12 +191,17 @@ impl Sink for MemorySink {
             (λ n. n ≡ min (min self.old.piece (length bytes.now)) self.old.room) }
         ensures ok { IfOk result
             (λ n. self.new
-            ≡ record self.old { held = self.old.held ++ take n bytes.now; room = self.old.room - n;
-            calls = counted self.old.calls }) }
+            ≡ record self.old {
+              held = self.old.held ++ take n bytes.now;
+              room = self.old.room - n;
+              calls = counted self.old.calls;
+            }) }
         ensures err { OnErr result
             (self.new
-            ≡ record self.old { calls = counted self.old.calls;
-            faults = counted self.old.faults }) }
+            ≡ record self.old {
+              calls = counted self.old.calls;
+              faults = counted self.old.faults;
+            }) }
 
         // what every sink promises
         ensures bound { TakesSome result bytes.now }

@@ -31,11 +31,20 @@ impl<H: Hasher> Model for CheckedChunk<H> {
 
     ghost Value = { Checked H.Digest };
 
-    ghost view = { λ c. record { root = c.root; shard = c.shard; index = c.index;
-        digest = c.digest } };
+    ghost view = { λ c. record {
+      root = c.root;
+      shard = c.shard;
+      index = c.index;
+      digest = c.digest;
+    } };
 
-    ghost inverse = { λ c. record { root = c.root; shard = c.shard; index = c.index;
-        digest = c.digest; hasher = record {} } };
+    ghost inverse = { λ c. record {
+      root = c.root;
+      shard = c.shard;
+      index = c.index;
+      digest = c.digest;
+      hasher = record {};
+    } };
 }
 
 impl<H: Hasher> CheckedChunk<H> {
@@ -125,8 +134,12 @@ fn checked<H: Hasher>(
 ) -> Result<CheckedChunk<H>, NoMemory>
     ensures { IfOk result
         (λ c. c
-        ≡ record { root = commitment.now; shard = shard.now.shard; index = index;
-        digest = digest }) }
+        ≡ record {
+          root = commitment.now;
+          shard = shard.now.shard;
+          index = index;
+          digest = digest;
+        }) }
 {
     Ok(CheckedChunk {
         root: *commitment,

@@ -73,7 +73,7 @@ fn clash_of<H: Hasher>(
     requires { AreRivals H.digest_of H.Digest.content ours.now theirs.now }
     ensures { IfOk result (λ found. IsFirstClash H.digest_of
         (way_of H.digest_of H.Digest.content ours.now)
-            (way_of H.digest_of H.Digest.content theirs.now)
+        (way_of H.digest_of H.Digest.content theirs.now)
         found.0.items found.1.items) }
 {
     let ours = way_from_chunk::<H>(alloc, ours)?;
@@ -112,9 +112,9 @@ pub fn find_clash<H: Hasher, R: Threads + Sync, S: Strategy>(
     ensures found { IfOk result (λ found. MatchOption found
         ((first.now ≡ second.now)
         ⊎ (root_of_text H.digest_of H.Digest.content config.now first.now ≢ root_of_text H.digest_of
-            H.Digest.content config.now second.now))
+        H.Digest.content config.now second.now))
         (λ clash. AreClash H.digest_of H.Digest.content config.now first.now second.now
-            clash.0.items clash.1.items)) }
+        clash.0.items clash.1.items)) }
     ensures refused { IfErr result (λ e. IsEncodeRefusal config.now (length first.now) e
         ⊎ (IsEncodable config.now (length first.now)
         × IsEncodeRefusal config.now (length second.now) e)) }

@@ -60,11 +60,11 @@ pub(crate) fn decode_text<
     ensures decoded { IfOk result (λ text. (given : _) × Drains I.next_gives shards given
         × AreDecodable config.now commitment.now (map (λ chunk. chunk.now) given)
         × IsDecoding H.digest_of H.Digest.content config.now commitment.now
-            (map (λ chunk. chunk.now) given) text.items) }
+        (map (λ chunk. chunk.now) given) text.items) }
     ensures refused { IfErr result (λ e. (e ≡ ReedSolomonError.NoMemory)
         ⊎ ((given : _) × Drains I.next_gives shards given
         × IsRefusal H.digest_of H.Digest.content config.now commitment.now
-            (map (λ chunk. chunk.now) given) e)) }
+        (map (λ chunk. chunk.now) given) e)) }
 {
     let chunks = gathered::<H, I>(alloc, shards)?;
     decode_chunks::<H, R, S>(rt, alloc, config, commitment, &chunks, strategy)

@@ -182,9 +182,9 @@ fn confirmed<H: Hasher, R: Threads + Sync, S: Strategy>(
     ensures value { IfOk result (λ yes. IsTrue yes ↔ (
         ((s : ℕ) → s < given.now.compared
         → row_of given.now.rows.items width s ≡ row_at k text.now
-            (slice_index given.now.indices.items s))
+        (slice_index given.now.indices.items s))
         × (root_of H.digest_of H.Digest.content (row_digests H.digest_of k m text.now)
-            ≡ Some root.now))) }
+        ≡ Some root.now))) }
 {
     let rows = rows_of_text(rt, alloc, k, m, text, strategy)?;
     let total = k + m;
@@ -230,9 +230,9 @@ pub(crate) fn recovered<H: Hasher, R: Threads + Sync, S: Strategy>(
     ensures { IfOk result (λ found. MatchOption found
         ((text : List ℕ)
         → Fits H.digest_of H.Digest.content k m root.now width given.now.indices.items
-            given.now.rows.items given.now.compared text → ⊥)
+        given.now.rows.items given.now.compared text → ⊥)
         (λ text. Fits H.digest_of H.Digest.content k m root.now width given.now.indices.items
-            given.now.rows.items given.now.compared text.items)) }
+        given.now.rows.items given.now.compared text.items)) }
 {
     if width == 0 || width % 2 != 0 {
         return Ok(None);

@@ -36,7 +36,7 @@ pub trait Scheme {
         requires digests { Self.Hasher.Digest.SIZE < 2 ^ 32 }
         ensures { (levels : ℕ) × IsHeight (total_of config.now) levels
             × (result
-                ≡ 12 + shard_len length config.now.minimum + Self.Hasher.Digest.SIZE * levels) }
+            ≡ 12 + shard_len length config.now.minimum + Self.Hasher.Digest.SIZE * levels) }
     {
         let width = canonical_shard_len(length, minimum(config));
         let levels = height_of(config.total_shards());
@@ -145,11 +145,11 @@ pub trait Scheme {
         ensures decoded { IfOk result (λ text. (given : _) × Drains I.next_gives shards given
             × AreDecodable config.now commitment.now (map (λ chunk. chunk.now) given)
             × IsDecoding Self.Hasher.digest_of Self.Hasher.Digest.content config.now commitment.now
-                (map (λ chunk. chunk.now) given) text.items) }
+            (map (λ chunk. chunk.now) given) text.items) }
         ensures refused { IfErr result (λ e. (e ≡ ReedSolomonError.NoMemory)
             ⊎ ((given : _) × Drains I.next_gives shards given
             × IsRefusal Self.Hasher.digest_of Self.Hasher.Digest.content config.now commitment.now
-                (map (λ chunk. chunk.now) given) e)) }
+            (map (λ chunk. chunk.now) given) e)) }
     {
         decode_text::<Self::Hasher, I, R, S>(rt, alloc, config, commitment, shards, strategy)
     }

@@ -247,7 +247,7 @@ pub fn store_laws()
     ensures handed { (r : Rules) (x : Epochs) (accepts : Block → Block → Bool)
         → (notes : List Note) (came others : Came) (given : List ℕ)
         → deliveries (among r x r.backlog accepts)
-            (record { notes = notes; came = came; given = given })
+        (record { notes = notes; came = came; given = given })
         ≡ deliveries r (record { notes = notes; came = others; given = given }) }
 {}
 

@@ -39,19 +39,16 @@ pub fn commits_by_rules()
     ensures commit { (hash : List ℕ → Digest32) (epochs : Epochs) (backlog : ℕ) (accepts : Block
         → Block → Bool) (b : Block)
         → types.commit hash (size epochs b.context.epoch) b ≡ commit
-            (coded hash epochs backlog accepts) b }
+        (coded hash epochs backlog accepts) b }
     ensures chunks { (hash : List ℕ → Digest32) (epochs : Epochs) (backlog : ℕ) (accepts : Block
         → Block → Bool) (b : Block)
         → types.block_chunks hash (size epochs b.context.epoch) b ≡ chunks
-            (coded hash epochs backlog accepts) b }
+        (coded hash epochs backlog accepts) b }
 {}
 
 /// Under the hash that adds up: the digests of genesis and of the block of view 1 with the payload
 /// "hi", how many bytes that block has, how wide its shards are, and in how many it is cut.
-#[tactic(auto, unfolding(cw_types::specs::Encoding::block_bytes,
-    cw_types::specs::Encoding::context_bytes, cw_types::specs::Encoding::commitment_bytes,
-    cw_base::specs::Config::config_bytes, cw_base::specs::Bytes::be64, cw_base::specs::Bytes::be16,
-    cw_base::specs::Bytes::varint, cw_tree::specs::Widths::shard_len))]
+#[tactic(auto, unfolding(cw_types::specs::Encoding::block_bytes, cw_types::specs::Encoding::context_bytes, cw_types::specs::Encoding::commitment_bytes, cw_base::specs::Config::config_bytes, cw_base::specs::Bytes::be64, cw_base::specs::Bytes::be16, cw_base::specs::Bytes::varint, cw_tree::specs::Widths::shard_len))]
 pub fn worked_block()
     ensures genesis { digest summed (genesis summed) ≡ record { 0 = replicate 32 2 } }
     ensures block { digest summed hi_block ≡ record { 0 = replicate 32 216 } }

@@ -1,9 +1,6 @@
 //! Scripts made at random: what an independent program computed of each agrees with the
 //! definitions, message by message, and in the notes and hand-outs of each member.
-#![tactic(auto, unfolding(cw_types::specs::Same::same_commitment,
-    cw_types::specs::Same::same_context, cw_types::specs::Same::same_proposal,
-    cw_types::specs::Same::same_vote, cw_types::specs::Same::same_cert,
-    cw_types::specs::Same::same_block))]
+#![tactic(auto, unfolding(cw_types::specs::Same::same_commitment, cw_types::specs::Same::same_context, cw_types::specs::Same::same_proposal, cw_types::specs::Same::same_vote, cw_types::specs::Same::same_cert, cw_types::specs::Same::same_block))]
 
 ghost use Rattle.std.specs.Prelude.{◌≡◌, ℕ, List, [], ◌∷◌};
 ghost use Rattle.cw_rules.specs.World.{world_of};

@@ -3,10 +3,7 @@
 //!
 //! A message is told as its sender, whom it goes to (100 for all) and what it says: the tag of its
 //! kind (0 shard, 1 vote, 2 certificate, 3 and 4 questions, 5 block) and its numbers.
-#![tactic(auto, unfolding(cw_types::specs::Same::same_commitment,
-    cw_types::specs::Same::same_context, cw_types::specs::Same::same_proposal,
-    cw_types::specs::Same::same_vote, cw_types::specs::Same::same_cert,
-    cw_types::specs::Same::same_block))]
+#![tactic(auto, unfolding(cw_types::specs::Same::same_commitment, cw_types::specs::Same::same_context, cw_types::specs::Same::same_proposal, cw_types::specs::Same::same_vote, cw_types::specs::Same::same_cert, cw_types::specs::Same::same_block))]
 
 ghost use Rattle.std.specs.Prelude.{◌≡◌, ℕ, List, [], ◌∷◌, None, Some, map};
 ghost use Rattle.cw_types.specs.declared.event.Event.{Event};
@@ -28,11 +25,11 @@ ghost use Rattle.cw_rules_runs.specs.Scenes.{two_committees, two_offers};
 pub fn timeouts_and_a_block_in_the_next_view()
     ensures sent { told_from 0 (world_of four timeouts).pool
         ≡ (0 ∷ 100 ∷ 1 ∷ 0 ∷ 1 ∷ 0 ∷ 1 ∷ []) ∷ (1 ∷ 100 ∷ 1 ∷ 1 ∷ 1 ∷ 0 ∷ 1 ∷ []) ∷
-            (2 ∷ 100 ∷ 1 ∷ 2 ∷ 1 ∷ 0 ∷ 1 ∷ []) ∷ (2 ∷ 100 ∷ 2 ∷ 3 ∷ 1 ∷ 0 ∷ 1 ∷ [])
+        (2 ∷ 100 ∷ 1 ∷ 2 ∷ 1 ∷ 0 ∷ 1 ∷ []) ∷ (2 ∷ 100 ∷ 2 ∷ 3 ∷ 1 ∷ 0 ∷ 1 ∷ [])
         ∷ (2 ∷ 0 ∷ 0 ∷ 0 ∷ []) ∷ (2 ∷ 1 ∷ 0 ∷ 1 ∷ []) ∷ (2 ∷ 100 ∷ 0 ∷ 2 ∷ []) ∷
-            (2 ∷ 3 ∷ 0 ∷ 3 ∷ [])
+        (2 ∷ 3 ∷ 0 ∷ 3 ∷ [])
         ∷ (2 ∷ 100 ∷ 1 ∷ 2 ∷ 0 ∷ 0 ∷ 2 ∷ 0 ∷ []) ∷ (0 ∷ 100 ∷ 2 ∷ 3 ∷ 1 ∷ 0 ∷ 1 ∷ []) ∷
-            (0 ∷ 100 ∷ 0 ∷ 0 ∷ []) ∷ (0 ∷ 100 ∷ 1 ∷ 0 ∷ 0 ∷ 0 ∷ 2 ∷ 0 ∷ []) ∷ [] }
+        (0 ∷ 100 ∷ 0 ∷ 0 ∷ []) ∷ (0 ∷ 100 ∷ 1 ∷ 0 ∷ 0 ∷ 0 ∷ 2 ∷ 0 ∷ []) ∷ [] }
     // the nullification is of three members, and goes on with their names
     ensures signers { signers (world_of four timeouts).pool ≡ (0 ∷ 1 ∷ 2 ∷ []) ∷ (0 ∷ 1 ∷ 2 ∷ [])
         ∷ [] }
@@ -49,7 +46,7 @@ pub fn timeouts_and_a_block_in_the_next_view()
 pub fn a_block_is_finalized()
     ensures sent { kinds (world_of four finalized_run).pool
         ≡ (1, 0) ∷ (1, 0) ∷ (1, 0) ∷ (1, 0) ∷ (1, 1) ∷ (0, 0) ∷ (0, 1) ∷ (2, 0) ∷ (2, 1) ∷ (0, 2) ∷
-            (0, 1) ∷ (1, 2) ∷ (1, 1) ∷ (2, 2) ∷ (2, 3) ∷ (2, 1) ∷ (2, 2) ∷ [] }
+        (0, 1) ∷ (1, 2) ∷ (1, 1) ∷ (2, 2) ∷ (2, 3) ∷ (2, 1) ∷ (2, 2) ∷ [] }
     ensures entries { steps_from 0 four finalized_run ≡ (2, None, 0 ∷ 1 ∷ 2 ∷ 3 ∷ 4 ∷ [], []) ∷
         (3, None, 5 ∷ [], []) ∷ (4, None, [], []) ∷ (5, None, 6 ∷ [], []) ∷ (6, None, 7 ∷ [], []) ∷
         (7, None, 8 ∷ [], []) ∷ (8, None, 9 ∷ 10 ∷ [], []) ∷ (9, None, 11 ∷ 12 ∷ [], []) ∷
@@ -63,12 +60,12 @@ pub fn a_block_is_finalized()
 pub fn a_cut_leaves_all_or_none()
     ensures lost { kinds (world_of four (cut_run 0)).pool
         ≡ (1, 0) ∷ (1, 0) ∷ (1, 0) ∷ (1, 0) ∷ (1, 1) ∷ (0, 0) ∷ (0, 1) ∷ (2, 0) ∷ (2, 1) ∷ (0, 2) ∷
-            (0, 1) ∷ (1, 2) ∷ (1, 1) ∷ (2, 2) ∷ (2, 3) ∷ (2, 1) ∷ (2, 1) ∷ [] }
+        (0, 1) ∷ (1, 2) ∷ (1, 1) ∷ (2, 2) ∷ (2, 3) ∷ (2, 1) ∷ (2, 1) ∷ [] }
     ensures lost_counts { counts (world_of four (cut_run 0)) ≡ (5, 1) ∷ (6, 1) ∷ (5, 1) ∷ (0, 1)
         ∷ [] }
     ensures kept { kinds (world_of four (cut_run 1)).pool
         ≡ (1, 0) ∷ (1, 0) ∷ (1, 0) ∷ (1, 0) ∷ (1, 1) ∷ (0, 0) ∷ (0, 1) ∷ (2, 0) ∷ (2, 1) ∷ (0, 2) ∷
-            (0, 1) ∷ (1, 2) ∷ (1, 1) ∷ (2, 2) ∷ (2, 3) ∷ (2, 1) ∷ (2, 2) ∷ [] }
+        (0, 1) ∷ (1, 2) ∷ (1, 1) ∷ (2, 2) ∷ (2, 3) ∷ (2, 1) ∷ (2, 2) ∷ [] }
     ensures kept_counts { counts (world_of four (cut_run 1)) ≡ (5, 1) ∷ (6, 1) ∷ (6, 2) ∷ (0, 1)
         ∷ [] }
     ensures lost_chain { chain_heights four (cut_run 0) ≡ 0 ∷ [] }
@@ -88,9 +85,9 @@ pub fn tickets_wait_for_blocks()
         (Event.WatchDigest (digest four (genesis four)) ∷ Event.WatchCommitment
         (commit four first_block) ∷ Event.Deliver (Message.Block first_block) ∷ [])
         ≡ (record { number = 0; commitment = None }
-            ∷ record { number = 0; commitment = Some (genesis_commitment four) } ∷ [])
+        ∷ record { number = 0; commitment = Some (genesis_commitment four) } ∷ [])
         ∷ (record { number = 1; commitment = None } ∷ []) ∷
-            (record { number = 1; commitment = Some (commit four first_block) } ∷ []) ∷ [] }
+        (record { number = 1; commitment = Some (commit four first_block) } ∷ []) ∷ [] }
     ensures cancelled { tickets_of four fresh
         (Event.WatchDigest (digest four first_block) ∷ Event.Cancel 0 ∷ Event.Deliver
         (Message.Block first_block) ∷ [])
@@ -102,13 +99,13 @@ pub fn tickets_wait_for_blocks()
 pub fn a_faulty_leader_offers_two_blocks()
     ensures sent { told_from 0 (world_of four two_offers).pool
         ≡ (1 ∷ 0 ∷ 0 ∷ 0 ∷ []) ∷ (1 ∷ 100 ∷ 0 ∷ 1 ∷ []) ∷ (1 ∷ 2 ∷ 0 ∷ 2 ∷ []) ∷
-            (1 ∷ 3 ∷ 0 ∷ 3 ∷ []) ∷ (1 ∷ 100 ∷ 1 ∷ 1 ∷ 0 ∷ 0 ∷ 1 ∷ 0 ∷ [])
+        (1 ∷ 3 ∷ 0 ∷ 3 ∷ []) ∷ (1 ∷ 100 ∷ 1 ∷ 1 ∷ 0 ∷ 0 ∷ 1 ∷ 0 ∷ [])
         ∷ (1 ∷ 0 ∷ 0 ∷ 0 ∷ []) ∷ (1 ∷ 100 ∷ 0 ∷ 1 ∷ []) ∷ (1 ∷ 2 ∷ 0 ∷ 2 ∷ []) ∷
-            (1 ∷ 3 ∷ 0 ∷ 3 ∷ []) ∷ (1 ∷ 100 ∷ 1 ∷ 1 ∷ 0 ∷ 0 ∷ 1 ∷ 0 ∷ [])
+        (1 ∷ 3 ∷ 0 ∷ 3 ∷ []) ∷ (1 ∷ 100 ∷ 1 ∷ 1 ∷ 0 ∷ 0 ∷ 1 ∷ 0 ∷ [])
         ∷ (0 ∷ 100 ∷ 0 ∷ 0 ∷ []) ∷ (0 ∷ 100 ∷ 1 ∷ 0 ∷ 0 ∷ 0 ∷ 1 ∷ 0 ∷ []) ∷ (2 ∷ 100 ∷ 0 ∷ 2 ∷ []) ∷
-            (2 ∷ 100 ∷ 1 ∷ 2 ∷ 0 ∷ 0 ∷ 1 ∷ 0 ∷ []) ∷ (3 ∷ 100 ∷ 0 ∷ 3 ∷ [])
+        (2 ∷ 100 ∷ 1 ∷ 2 ∷ 0 ∷ 0 ∷ 1 ∷ 0 ∷ []) ∷ (3 ∷ 100 ∷ 0 ∷ 3 ∷ [])
         ∷ (3 ∷ 100 ∷ 1 ∷ 3 ∷ 0 ∷ 0 ∷ 1 ∷ 0 ∷ []) ∷ (0 ∷ 100 ∷ 2 ∷ 3 ∷ 0 ∷ 0 ∷ 1 ∷ 0 ∷ []) ∷
-            (0 ∷ 100 ∷ 3 ∷ 0 ∷ []) ∷ [] }
+        (0 ∷ 100 ∷ 3 ∷ 0 ∷ []) ∷ [] }
     // the votes are for the one block and the other, and the notarization is of the first
     ensures payloads { payloads (world_of four two_offers).pool ≡ 61 ∷ 62 ∷ 61 ∷ 62 ∷ 61 ∷ 61 ∷ [] }
     ensures signers { signers (world_of four two_offers).pool ≡ (0 ∷ 1 ∷ 3 ∷ []) ∷ [] }
@@ -135,13 +132,13 @@ pub fn a_clash_ends_the_run()
 pub fn a_block_at_the_end_of_its_epoch_is_proposed_again()
     ensures sent { told_from 16 (world_of short_epochs again).pool
         ≡ (2 ∷ 100 ∷ 1 ∷ 2 ∷ 0 ∷ 0 ∷ 2 ∷ 1 ∷ []) ∷ (0 ∷ 100 ∷ 1 ∷ 0 ∷ 0 ∷ 0 ∷ 2 ∷ 1 ∷ []) ∷
-            (1 ∷ 100 ∷ 1 ∷ 1 ∷ 0 ∷ 0 ∷ 2 ∷ 1 ∷ [])
+        (1 ∷ 100 ∷ 1 ∷ 1 ∷ 0 ∷ 0 ∷ 2 ∷ 1 ∷ [])
         ∷ (2 ∷ 100 ∷ 2 ∷ 3 ∷ 0 ∷ 0 ∷ 2 ∷ 1 ∷ []) ∷ (2 ∷ 100 ∷ 1 ∷ 2 ∷ 2 ∷ 0 ∷ 2 ∷ 1 ∷ []) ∷ [] }
     ensures chain { chain_heights short_epochs again ≡ 0 ∷ [] }
     // without an end of the epoch the same events make a new block
     ensures new { told_from 16 (world_of four proposed_next).pool
         ≡ (2 ∷ 0 ∷ 0 ∷ 0 ∷ []) ∷ (2 ∷ 1 ∷ 0 ∷ 1 ∷ []) ∷ (2 ∷ 100 ∷ 0 ∷ 2 ∷ []) ∷
-            (2 ∷ 3 ∷ 0 ∷ 3 ∷ []) ∷ (2 ∷ 100 ∷ 1 ∷ 2 ∷ 0 ∷ 0 ∷ 2 ∷ 1 ∷ []) ∷ [] }
+        (2 ∷ 3 ∷ 0 ∷ 3 ∷ []) ∷ (2 ∷ 100 ∷ 1 ∷ 2 ∷ 0 ∷ 0 ∷ 2 ∷ 1 ∷ []) ∷ [] }
 {}
 
 /// The last block of an epoch is finalized, and the next epoch's leader proposes to the next
@@ -149,7 +146,7 @@ pub fn a_block_at_the_end_of_its_epoch_is_proposed_again()
 pub fn the_next_epochs_leader_proposes()
     ensures sent { told_from 17 (world_of two_committees next_epoch).pool
         ≡ (2 ∷ 1 ∷ 0 ∷ 0 ∷ []) ∷ (2 ∷ 100 ∷ 0 ∷ 1 ∷ []) ∷ (2 ∷ 3 ∷ 0 ∷ 2 ∷ []) ∷
-            (2 ∷ 4 ∷ 0 ∷ 3 ∷ []) ∷ (2 ∷ 100 ∷ 1 ∷ 2 ∷ 0 ∷ 1 ∷ 1 ∷ 0 ∷ []) ∷ [] }
+        (2 ∷ 4 ∷ 0 ∷ 3 ∷ []) ∷ (2 ∷ 100 ∷ 1 ∷ 2 ∷ 0 ∷ 1 ∷ 1 ∷ 0 ∷ []) ∷ [] }
     ensures counts { counts (world_of two_committees next_epoch) ≡ (5, 1) ∷ (6, 1) ∷ (10, 2) ∷
         (0, 1) ∷ (0, 1) ∷ [] }
     ensures chain { chain_heights two_committees next_epoch ≡ 0 ∷ 1 ∷ [] }
@@ -163,25 +160,25 @@ pub fn the_next_epochs_leader_proposes()
 pub fn three_epochs_follow_one_another()
     ensures sent { told_short (world_of two_committees three_epochs).pool
         ≡ (1 ∷ 0 ∷ 0 ∷ 0 ∷ []) ∷ (1 ∷ 100 ∷ 0 ∷ 1 ∷ []) ∷ (1 ∷ 2 ∷ 0 ∷ 2 ∷ []) ∷
-            (1 ∷ 3 ∷ 0 ∷ 3 ∷ []) ∷ (1 ∷ 100 ∷ 1 ∷ 1 ∷ 0 ∷ 0 ∷ 1 ∷ []) ∷ (0 ∷ 100 ∷ 0 ∷ 0 ∷ []) ∷
-            (0 ∷ 100 ∷ 1 ∷ 0 ∷ 0 ∷ 0 ∷ 1 ∷ []) ∷ (2 ∷ 100 ∷ 0 ∷ 2 ∷ [])
+        (1 ∷ 3 ∷ 0 ∷ 3 ∷ []) ∷ (1 ∷ 100 ∷ 1 ∷ 1 ∷ 0 ∷ 0 ∷ 1 ∷ []) ∷ (0 ∷ 100 ∷ 0 ∷ 0 ∷ []) ∷
+        (0 ∷ 100 ∷ 1 ∷ 0 ∷ 0 ∷ 0 ∷ 1 ∷ []) ∷ (2 ∷ 100 ∷ 0 ∷ 2 ∷ [])
         ∷ (2 ∷ 100 ∷ 1 ∷ 2 ∷ 0 ∷ 0 ∷ 1 ∷ []) ∷ (0 ∷ 100 ∷ 2 ∷ 3 ∷ 0 ∷ 0 ∷ 1 ∷ []) ∷
-            (0 ∷ 100 ∷ 1 ∷ 0 ∷ 2 ∷ 0 ∷ 1 ∷ []) ∷ (1 ∷ 100 ∷ 2 ∷ 3 ∷ 0 ∷ 0 ∷ 1 ∷ []) ∷
-            (1 ∷ 100 ∷ 1 ∷ 1 ∷ 2 ∷ 0 ∷ 1 ∷ []) ∷ (2 ∷ 100 ∷ 2 ∷ 3 ∷ 0 ∷ 0 ∷ 1 ∷ []) ∷
-            (2 ∷ 100 ∷ 3 ∷ []) ∷ (2 ∷ 100 ∷ 1 ∷ 2 ∷ 2 ∷ 0 ∷ 1 ∷ [])
+        (0 ∷ 100 ∷ 1 ∷ 0 ∷ 2 ∷ 0 ∷ 1 ∷ []) ∷ (1 ∷ 100 ∷ 2 ∷ 3 ∷ 0 ∷ 0 ∷ 1 ∷ []) ∷
+        (1 ∷ 100 ∷ 1 ∷ 1 ∷ 2 ∷ 0 ∷ 1 ∷ []) ∷ (2 ∷ 100 ∷ 2 ∷ 3 ∷ 0 ∷ 0 ∷ 1 ∷ []) ∷
+        (2 ∷ 100 ∷ 3 ∷ []) ∷ (2 ∷ 100 ∷ 1 ∷ 2 ∷ 2 ∷ 0 ∷ 1 ∷ [])
         ∷ (2 ∷ 100 ∷ 2 ∷ 3 ∷ 2 ∷ 0 ∷ 1 ∷ []) ∷ (2 ∷ 1 ∷ 0 ∷ 0 ∷ []) ∷ (2 ∷ 100 ∷ 0 ∷ 1 ∷ []) ∷
-            (2 ∷ 3 ∷ 0 ∷ 2 ∷ []) ∷ (2 ∷ 4 ∷ 0 ∷ 3 ∷ []) ∷ (2 ∷ 100 ∷ 1 ∷ 2 ∷ 0 ∷ 1 ∷ 1 ∷ []) ∷
-            (1 ∷ 100 ∷ 2 ∷ 3 ∷ 2 ∷ 0 ∷ 1 ∷ []) ∷ (1 ∷ 100 ∷ 0 ∷ 0 ∷ [])
+        (2 ∷ 3 ∷ 0 ∷ 2 ∷ []) ∷ (2 ∷ 4 ∷ 0 ∷ 3 ∷ []) ∷ (2 ∷ 100 ∷ 1 ∷ 2 ∷ 0 ∷ 1 ∷ 1 ∷ []) ∷
+        (1 ∷ 100 ∷ 2 ∷ 3 ∷ 2 ∷ 0 ∷ 1 ∷ []) ∷ (1 ∷ 100 ∷ 0 ∷ 0 ∷ [])
         ∷ (1 ∷ 100 ∷ 1 ∷ 1 ∷ 0 ∷ 1 ∷ 1 ∷ []) ∷ (4 ∷ 100 ∷ 2 ∷ 3 ∷ 2 ∷ 0 ∷ 1 ∷ []) ∷
-            (4 ∷ 100 ∷ 3 ∷ []) ∷ (2 ∷ 4 ∷ 5 ∷ 1 ∷ []) ∷ (4 ∷ 100 ∷ 0 ∷ 3 ∷ []) ∷
-            (4 ∷ 100 ∷ 1 ∷ 4 ∷ 0 ∷ 1 ∷ 1 ∷ []) ∷ (2 ∷ 100 ∷ 2 ∷ 3 ∷ 0 ∷ 1 ∷ 1 ∷ []) ∷
-            (2 ∷ 100 ∷ 1 ∷ 2 ∷ 2 ∷ 1 ∷ 1 ∷ [])
+        (4 ∷ 100 ∷ 3 ∷ []) ∷ (2 ∷ 4 ∷ 5 ∷ 1 ∷ []) ∷ (4 ∷ 100 ∷ 0 ∷ 3 ∷ []) ∷
+        (4 ∷ 100 ∷ 1 ∷ 4 ∷ 0 ∷ 1 ∷ 1 ∷ []) ∷ (2 ∷ 100 ∷ 2 ∷ 3 ∷ 0 ∷ 1 ∷ 1 ∷ []) ∷
+        (2 ∷ 100 ∷ 1 ∷ 2 ∷ 2 ∷ 1 ∷ 1 ∷ [])
         ∷ (1 ∷ 100 ∷ 2 ∷ 3 ∷ 0 ∷ 1 ∷ 1 ∷ []) ∷ (1 ∷ 100 ∷ 1 ∷ 1 ∷ 2 ∷ 1 ∷ 1 ∷ []) ∷
-            (4 ∷ 100 ∷ 2 ∷ 3 ∷ 0 ∷ 1 ∷ 1 ∷ []) ∷ (4 ∷ 100 ∷ 1 ∷ 4 ∷ 2 ∷ 1 ∷ 1 ∷ []) ∷
-            (2 ∷ 100 ∷ 2 ∷ 3 ∷ 2 ∷ 1 ∷ 1 ∷ []) ∷ (2 ∷ 1 ∷ 0 ∷ 0 ∷ []) ∷ (2 ∷ 100 ∷ 0 ∷ 1 ∷ []) ∷
-            (2 ∷ 3 ∷ 0 ∷ 2 ∷ [])
+        (4 ∷ 100 ∷ 2 ∷ 3 ∷ 0 ∷ 1 ∷ 1 ∷ []) ∷ (4 ∷ 100 ∷ 1 ∷ 4 ∷ 2 ∷ 1 ∷ 1 ∷ []) ∷
+        (2 ∷ 100 ∷ 2 ∷ 3 ∷ 2 ∷ 1 ∷ 1 ∷ []) ∷ (2 ∷ 1 ∷ 0 ∷ 0 ∷ []) ∷ (2 ∷ 100 ∷ 0 ∷ 1 ∷ []) ∷
+        (2 ∷ 3 ∷ 0 ∷ 2 ∷ [])
         ∷ (2 ∷ 4 ∷ 0 ∷ 3 ∷ []) ∷ (2 ∷ 100 ∷ 1 ∷ 2 ∷ 0 ∷ 2 ∷ 1 ∷ []) ∷
-            (4 ∷ 100 ∷ 2 ∷ 3 ∷ 2 ∷ 1 ∷ 1 ∷ []) ∷ [] }
+        (4 ∷ 100 ∷ 2 ∷ 3 ∷ 2 ∷ 1 ∷ 1 ∷ []) ∷ [] }
     ensures counts { counts (world_of two_committees three_epochs) ≡ (5, 1) ∷ (13, 2) ∷ (18, 3) ∷
         (0, 1) ∷ (10, 3) ∷ [] }
     ensures clear { outcome two_committees (opening two_committees three_epochs) three_epochs ≡ Ends

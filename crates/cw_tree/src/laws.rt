@@ -30,7 +30,7 @@ pub fn chunks_with_digests_read_back<D: Digest>()
     ensures again { (bound : ℕ) (p : Piece D) (rest : List ℕ)
         → FitsChunk D.SIZE bound (piece_of_bytes D.content p) →
         chunk_at D.SIZE bound (chunk_bytes D.content p ++ rest) ≡ Ok
-            (piece_of_bytes D.content p, rest) }
+        (piece_of_bytes D.content p, rest) }
     ensures told { (p q : Piece D) → piece_of_bytes D.content p ≡ piece_of_bytes D.content q
         → p ≡ q }
 {}
@@ -54,7 +54,7 @@ pub fn paths_lead_to_the_root<H: Hasher>()
     ensures leads { (digests : List H.Digest) (i : ℕ) (d : H.Digest)
         → slice_get digests i ≡ Some d →
         root_by H.digest_of H.Digest.content (length digests)
-            (path_of H.digest_of H.Digest.content i digests) i d
+        (path_of H.digest_of H.Digest.content i digests) i d
         ≡ root_of H.digest_of H.Digest.content digests }
     ensures short { (digests : List H.Digest) (i height : ℕ) → i < length digests
         → IsHeight (length digests) height →

@@ -70,8 +70,11 @@ impl Committees {
             (list_all (epochs.is_committee total) (map (λ list. list.items) lists.now)) }
         ensures { IfOk result
             (λ committees. committees
-            ≡ record { total = total; span = Some span;
-            lists = map (λ list. list.items) lists.now }) }
+            ≡ record {
+              total = total;
+              span = Some span;
+              lists = map (λ list. list.items) lists.now;
+            }) }
     {
         let mut copies = Items::new(alloc);
         for list in lists {

@@ -141,8 +141,7 @@ impl Message {
 }
 
 // A message at the front.
-#[tactic(auto, using(cw_base::specs::Ends::end_of_end),
-    unfolding(crate::specs::Reading::tagged_message_at))]
+#[tactic(auto, using(cw_base::specs::Ends::end_of_end), unfolding(crate::specs::Reading::tagged_message_at))]
 fn read_tagged(alloc: Global, reader: &mut Reader) -> Result<Message, CodecError>
     ensures value { Gives (λ message. message) result reader.new (tagged_message_at reader.old) }
     ensures place { IsEnd reader.old reader.new }

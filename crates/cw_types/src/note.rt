@@ -124,8 +124,7 @@ impl Note {
     /// Refused, the reader stands behind the parts that were taken, a refused tag or value among
     /// them. For want of memory it is refused only where a whole note stands there, and all of it
     /// is taken.
-    #[tactic(auto, using(cw_base::specs::Ends::end_of_end),
-        unfolding(crate::specs::Reading::note_at))]
+    #[tactic(auto, using(cw_base::specs::Ends::end_of_end), unfolding(crate::specs::Reading::note_at))]
     pub fn read(alloc: Global, reader: &mut Reader) -> Result<Note, CodecError>
         ensures value { Gives (λ note. note) result reader.new (note_at reader.old) }
         ensures place { IsEnd reader.old reader.new }
@@ -191,8 +190,7 @@ fn read_verified(reader: &mut Reader, epoch: u64) -> Result<Note, CodecError>
 }
 
 // A proposal of an epoch that is well formed.
-#[tactic(auto, using(cw_base::specs::Ends::end_of_end),
-    unfolding(crate::specs::Reading::ordered_at))]
+#[tactic(auto, using(cw_base::specs::Ends::end_of_end), unfolding(crate::specs::Reading::ordered_at))]
 fn read_certified(reader: &mut Reader, epoch: u64) -> Result<Note, CodecError>
     ensures value { IsRead (λ note. note) result reader.new (certified_at epoch reader.old) }
     ensures place { IsEnd reader.old reader.new }
@@ -214,8 +212,7 @@ fn read_entered(reader: &mut Reader, epoch: u64) -> Result<Note, CodecError>
 }
 
 // A vote that is well formed.
-#[tactic(auto, using(cw_base::specs::Ends::end_of_end),
-    unfolding(crate::specs::Reading::formed_vote_at))]
+#[tactic(auto, using(cw_base::specs::Ends::end_of_end), unfolding(crate::specs::Reading::formed_vote_at))]
 fn read_formed_vote(reader: &mut Reader) -> Result<Vote, CodecError>
     ensures value { IsRead (λ vote. vote) result reader.new (formed_vote_at reader.old) }
     ensures place { IsEnd reader.old reader.new }

@@ -85,8 +85,7 @@ impl Proposal {
     /// `EndOfBuffer` where it is cut.
     ///
     /// Refused, the reader stands behind the parts that were taken, a zero among them.
-    #[tactic(auto, using(cw_base::specs::Ends::end_of_end),
-        unfolding(crate::specs::Reading::proposal_at))]
+    #[tactic(auto, using(cw_base::specs::Ends::end_of_end), unfolding(crate::specs::Reading::proposal_at))]
     pub fn read(reader: &mut Reader, epoch: u64) -> Result<Proposal, CodecError>
         ensures value { IsRead (λ proposal. proposal) result reader.new
             (proposal_at epoch reader.old) }
@@ -190,8 +189,7 @@ impl Vote {
     ///
     /// Refused, the reader stands behind the parts that were taken, a refused tag or value among
     /// them.
-    #[tactic(auto, using(cw_base::specs::Ends::end_of_end),
-        unfolding(crate::specs::Reading::vote_at))]
+    #[tactic(auto, using(cw_base::specs::Ends::end_of_end), unfolding(crate::specs::Reading::vote_at))]
     pub fn read(reader: &mut Reader) -> Result<Vote, CodecError>
         ensures value { IsRead (λ vote. vote) result reader.new (vote_at reader.old) }
         ensures place { IsEnd reader.old reader.new }
@@ -246,8 +244,7 @@ fn read_finalize(reader: &mut Reader, epoch: u64) -> Result<Vote, CodecError>
 }
 
 // An epoch above 0.
-#[tactic(auto, using(cw_base::specs::Ends::end_of_end),
-    unfolding(crate::specs::Reading::later_epoch_at))]
+#[tactic(auto, using(cw_base::specs::Ends::end_of_end), unfolding(crate::specs::Reading::later_epoch_at))]
 pub(crate) fn read_later_epoch(reader: &mut Reader) -> Result<u64, CodecError>
     ensures value { IsRead (λ epoch. epoch) result reader.new (later_epoch_at reader.old) }
     ensures place { IsEnd reader.old reader.new }
@@ -310,8 +307,7 @@ impl Cert {
     /// Refused, the reader stands behind the parts that were taken, a refused tag or value among
     /// them. For want of memory it is refused only where a whole certificate stands there, and all
     /// of it is taken.
-    #[tactic(auto, using(cw_base::specs::Ends::end_of_end),
-        unfolding(crate::specs::Reading::cert_at))]
+    #[tactic(auto, using(cw_base::specs::Ends::end_of_end), unfolding(crate::specs::Reading::cert_at))]
     pub fn read(alloc: Global, reader: &mut Reader) -> Result<Cert, CodecError>
         ensures value { Gives (λ cert. cert) result reader.new (cert_at reader.old) }
         ensures place { IsEnd reader.old reader.new }
@@ -325,8 +321,7 @@ impl Cert {
 }
 
 // The signers of a vote, behind their number.
-#[tactic(auto, using(cw_base::specs::Ends::end_of_end),
-    unfolding(crate::specs::Reading::signed_at))]
+#[tactic(auto, using(cw_base::specs::Ends::end_of_end), unfolding(crate::specs::Reading::signed_at))]
 pub(crate) fn read_signed(
     alloc: Global,
     reader: &mut Reader,

@@ -43,8 +43,11 @@ impl Model for Script {
 
     ghost Value = { Scenario };
 
-    ghost view = { λ s. record { committees = s.committees; backlog = s.backlog;
-        lines = map line_of s.events } };
+    ghost view = { λ s. record {
+      committees = s.committees;
+      backlog = s.backlog;
+      lines = map line_of s.events;
+    } };
 
     ghost invariant = { λ s. (1 ≤ s.backlog) × (s.first ≡ first_event s.committees) × (s.first ≤ 66)
         × IsRunnable
@@ -194,12 +197,18 @@ impl Script {
         requires later { IsTrue (list_all grammar.is_later (map line_of events)) }
         ensures ok { IfOk result
             (λ read. grammar.admitted
-            (record { committees = record { total = members; span = Some span; lists = lists };
-            backlog = backlog; lines = map line_of events }) ≡ Ok read) }
+            (record {
+              committees = record { total = members; span = Some span; lists = lists };
+              backlog = backlog;
+              lines = map line_of events;
+            }) ≡ Ok read) }
         ensures err { IfErr result (λ e. (e ≡ error.NoMemory)
             ⊎ (grammar.admitted
-            (record { committees = record { total = members; span = Some span; lists = lists };
-            backlog = backlog; lines = map line_of events }) ≡ Err e)) }
+            (record {
+              committees = record { total = members; span = Some span; lists = lists };
+              backlog = backlog;
+              lines = map line_of events;
+            }) ≡ Err e)) }
     {
         if !are_sized(members, lists.as_slice()) {
             return Err(RunError::BadCommittee);

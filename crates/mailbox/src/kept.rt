@@ -34,8 +34,11 @@ impl<T: Turn, L: Session<T>> Model for Kept<T, L> {
 
     ghost Value = { Course T T.Event T.Reply };
 
-    ghost view = { λ k. record { state = k.state; history = k.history.items;
-        booked = k.book.total } };
+    ghost view = { λ k. record {
+      state = k.state;
+      history = k.history.items;
+      booked = k.book.total;
+    } };
 
     ghost invariant = { λ k. IsReplay T.turns L.opening k.history.items k.state
         × (length k.history.items ≡ k.book.total)

@@ -49,9 +49,9 @@ pub(crate) fn first_fault<T: Turn>(
     ensures { MatchOption result
         ((k : ℕ) → k < length history.now
         → place_holds (is_entry T.Event.eq T.Reply.eq) history.now (map (λ v. v.items) lists.now) k
-            ≡ true)
+        ≡ true)
         (λ place. IsFirstFault (is_entry T.Event.eq T.Reply.eq) history.now
-            (map (λ v. v.items) lists.now) place) }
+        (map (λ v. v.items) lists.now) place) }
 {
     for list in lists {
         mark_list(history, list.as_slice(), marks);
@@ -65,7 +65,7 @@ fn mark_list<T: Turn>(history: &[(T::Event, T::Reply)], list: &[Call<T>], marks:
     ensures { (k : ℕ) (x : _) → slice_get history.now k ≡ Some x
         → get_or marks.new k Mark.Empty
         ≡ marked_by (is_entry T.Event.eq T.Reply.eq x) k
-            (get_or marks.old k Mark.Empty) 0 list.now }
+        (get_or marks.old k Mark.Empty) 0 list.now }
 {
     let mut top = 0;
     for call in list {

@@ -36,15 +36,15 @@ pub fn law_of_recovery()
     ensures verified { (r : Rules) (notes more : List Note) (round : Round) (b : Block)
         → commit r b ≢ genesis_commitment r
         → IsUnpruned (notes ++ verified_notes r notes round b ++ more)
-            (first_noted notes (commit r b) b).height
+        (first_noted notes (commit r b) b).height
         → held r (notes ++ verified_notes r notes round b ++ more) (commit r b) ≡ Some
-            (first_noted notes (commit r b) b) }
+        (first_noted notes (commit r b) b) }
     ensures certified { (r : Rules) (notes more : List Note) (round : Round) (b : Block)
         → commit r b ≢ genesis_commitment r
         → IsUnpruned (notes ++ certified_notes r notes round b ++ more)
-            (first_noted notes (commit r b) b).height
+        (first_noted notes (commit r b) b).height
         → held r (notes ++ certified_notes r notes round b ++ more) (commit r b) ≡ Some
-            (first_noted notes (commit r b) b) }
+        (first_noted notes (commit r b) b) }
     // a committee cuts each block in two chunks at least, so none is committed to as genesis is
     ensures apart { (r : Rules) (b : Block) → 4 ≤ size r.epochs b.context.epoch
         → commit r b ≢ genesis_commitment r }

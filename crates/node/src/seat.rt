@@ -174,7 +174,7 @@ pub fn step_seat<
     ensures ok { IfOk result (λ place.
         HasStepped (IsSeatTurn H.digest_of A.accepts V.signs D.state D.continues)
         ⟦<Event as PartialEq>⟧.eq ⟦<Result<StepOut, NodeError> as PartialEq>⟧.eq event place
-            mailbox.old mailbox.new) }
+        mailbox.old mailbox.new) }
     ensures err { OnErr result (mailbox.new ≡ mailbox.old) }
 {
     mailbox.step_by(rt, alloc, event, |seat, event| seat.turn(rt, alloc, event))

@@ -70,7 +70,7 @@ pub(crate) fn change_by_write(
     ensures unsynced { OnOk result ((held : Held)
         → map write_of pending.old.items ≡ done_writes held.writes
         → map write_of pending.new.items ≡ done_writes
-            (effect held (Write place new.now) outcome).writes) }
+        (effect held (Write place new.now) outcome).writes) }
     ensures err { OnErr result ((bytes.new.items ≡ bytes.old.items)
         × (pending.new.items ≡ pending.old.items)) }
 {

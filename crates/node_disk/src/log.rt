@@ -134,7 +134,7 @@ impl<D: Disk> Log<D> {
         // can be left.
         ensures any_moment { IfOk result (λ log.
             LeavesOnly (D.state disk) (D.state (log_disk log))
-                (IsBeforeOrSame (D.state disk).now)) }
+            (IsBeforeOrSame (D.state disk).now)) }
         ensures any_moment_err { IfErr result (λ e.
             LeavesOnly (D.state disk) (D.state e.0) (IsBeforeOrSame (D.state disk).now)) }
 
@@ -379,13 +379,13 @@ fn add_frame<D: Disk>(disk: &mut D, gate: u64, bytes: &[u8]) -> Result<(), DiskE
         → LeavesOnly (D.state disk.old) (D.state disk.new) (FindsWithOrWithout frames frame) }
     ensures calls { OnOk result
         (HasTold (write_then_sync (gate + 1) bytes.now ++ write_then_sync gate (1 ∷ []))
-            (D.state disk.old) (D.state disk.new)) }
+        (D.state disk.old) (D.state disk.new)) }
     ensures failed { IsErrOf result DiskError.Failed
         → IsCutShort (write_then_sync (gate + 1) bytes.now ++ write_then_sync gate (1 ∷ []))
-            (D.state disk.old) (D.state disk.new) }
+        (D.state disk.old) (D.state disk.new) }
     ensures no_memory { IsErrOf result DiskError.NoMemory
         → IsFront (write_then_sync (gate + 1) bytes.now ++ write_then_sync gate (1 ∷ []))
-            (D.state disk.old) (D.state disk.new) }
+        (D.state disk.old) (D.state disk.new) }
     ensures cause { IsErrOf result DiskError.Failed
         → Rose (D.state disk.old).faults (D.state disk.new).faults }
     ensures faults { (D.state disk.old).faults ≤ (D.state disk.new).faults }
@@ -408,8 +408,10 @@ impl Log<MemoryDisk> {
     pub fn stop_at(&mut self, call: u64, cut: u64, fill: u8)
         ensures armed { is_stopped (log_disk self.old) ≡ false
             → log_disk self.new
-                ≡ record (log_disk self.old) { stop = stop_from_now
-                (log_disk self.old) call cut fill } }
+            ≡ record (log_disk self.old) {
+              stop = stop_from_now
+                  (log_disk self.old) call cut fill;
+            } }
         ensures stopped { is_stopped (log_disk self.old) ≡ true
             → log_disk self.new ≡ log_disk self.old }
         ensures state { memory_state (log_disk self.new) ≡ memory_state (log_disk self.old) }

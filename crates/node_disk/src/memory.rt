@@ -56,7 +56,7 @@ impl Model for MemoryDisk {
 
     ghost invariant = { λ disk.
         Keeps (held_after (map entry_of disk.calls.items) disk.reopened) disk.bytes.items
-            (map write_of disk.pending.items) };
+        (map write_of disk.pending.items) };
 }
 
 impl MemoryDisk {
@@ -127,8 +127,7 @@ impl MemoryDisk {
 
     /// The disk after a restart: what a read gives is on the disk, and no stop is armed. It takes
     /// no memory.
-    #[tactic(auto, unfolding(crate::specs::Record::held_after),
-        using(crate::proofs::Reopens::reopens))]
+    #[tactic(auto, unfolding(crate::specs::Record::held_after), using(crate::proofs::Reopens::reopens))]
     pub fn reopen(self) -> MemoryDisk
         ensures disk { result ≡ reopened_disk self }
         ensures seen { (memory_state result).now.seen ≡ (memory_state self).now.seen }

@@ -193,7 +193,7 @@ fn coefficients_at(
     ensures here { (l : ℕ) → l < 8 → slice_index xs.now l ≡ point → slice_index result l ≡ 1 }
     ensures away { (l : ℕ) → l < 8 → slice_index xs.now l ≢ point →
         slice_index result l ≡ times (slice_index distances.now l)
-            (times weight (inverse (bit_xor (slice_index xs.now l) point))) }
+        (times weight (inverse (bit_xor (slice_index xs.now l) point))) }
 {
     let inverted = inverses_of(inverses, &differences(xs, point));
     let weighed = products(&[weight; 8], &inverted);

@@ -106,7 +106,7 @@ fn add_row(
     ensures high { length high.new ≡ 256 }
     ensures each { (j l : ℕ) → j < length sums.old → l < 8 → lane sums.new j l
         ≡ bit_xor (lane sums.old j l)
-            (times (symbol rows.now width row (first + j)) (slice_index factors.now l)) }
+        (times (symbol rows.now width row (first + j)) (slice_index factors.now l)) }
 {
     spread(low, factors);
     spread(high, &each_by_256(factors));
@@ -139,7 +139,7 @@ fn add_two_by_tables(
         (bit_xor (lane high.now (slice_index rows.now (row * width + 2 * (first + j))) l)
         (lane low.now (slice_index rows.now (row * width + 2 * (first + j) + 1)) l))
         (bit_xor
-            (lane next_high.now (slice_index rows.now (row * width + 2 * (first + j) + width)) l)
+        (lane next_high.now (slice_index rows.now (row * width + 2 * (first + j) + width)) l)
         (lane next_low.now (slice_index rows.now (row * width + 2 * (first + j) + width + 1)) l))) }
 {
     for column in 0..sums.len() {
@@ -210,7 +210,7 @@ fn add_row_pairs(
     ensures each { OnOk result (((j l : ℕ) → j < length sums.old → l < 8 → lane sums.old j l ≡ 0) →
         (j l : ℕ) → j < length sums.old → l < 8 → lane sums.new j l
         ≡ sum_below (2 * (length factors.now / 2))
-            (λ s. times (symbol rows.now width s (first + j)) (lane factors.now s l))) }
+        (λ s. times (symbol rows.now width s (first + j)) (lane factors.now s l))) }
 {
     let mut low = vec![in alloc; [0u16; 8]; 256]?;
     let mut high = vec![in alloc; [0u16; 8]; 256]?;
@@ -249,10 +249,10 @@ fn add_odd_row(
     ensures count { length sums.new ≡ length sums.old }
     ensures each { OnOk result ((j l : ℕ) → j < length sums.old → l < 8 → lane sums.old j l
         ≡ sum_below (2 * (length factors.now / 2))
-            (λ s. times (symbol rows.now width s (first + j)) (lane factors.now s l)) →
+        (λ s. times (symbol rows.now width s (first + j)) (lane factors.now s l)) →
         lane sums.new j l
         ≡ sum_below (length factors.now)
-            (λ s. times (symbol rows.now width s (first + j)) (lane factors.now s l))) }
+        (λ s. times (symbol rows.now width s (first + j)) (lane factors.now s l))) }
 {
     if factors.len() % 2 == 1 {
         let row = factors.len() - 1;
@@ -287,7 +287,7 @@ pub fn group_sums(
     ensures count { IfOk result (λ v. length v.items ≡ count) }
     ensures each { IfOk result (λ v. (j l : ℕ) → j < count → l < 8 → lane v.items j l
         ≡ sum_below (length factors.now)
-            (λ s. times (symbol rows.now width s (first + j)) (lane factors.now s l))) }
+        (λ s. times (symbol rows.now width s (first + j)) (lane factors.now s l))) }
 {
     let mut sums = vec![in alloc; [0u16; 8]; count]?;
     add_row_pairs(alloc, &mut sums, factors, rows, width, first)?;

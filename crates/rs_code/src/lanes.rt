@@ -30,7 +30,7 @@ pub fn sum_of_two(a: &Eight, b: &Eight) -> Eight
 pub fn sum_of_three(a: &Eight, b: &Eight, c: &Eight) -> Eight
     ensures { (l : ℕ) → l < 8 →
         slice_index result l ≡ bit_xor (slice_index a.now l)
-            (bit_xor (slice_index b.now l) (slice_index c.now l)) }
+        (bit_xor (slice_index b.now l) (slice_index c.now l)) }
 {
     [
         a[0] ^ (b[0] ^ c[0]),

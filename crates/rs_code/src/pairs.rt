@@ -30,7 +30,7 @@ pub fn pair_sums(
     ensures count { IfOk result (λ v. length v.items ≡ count) }
     ensures each { IfOk result (λ v. (j l : ℕ) → j < count → l < 2 → lane v.items j l
         ≡ sum_below (length factors.now)
-            (λ s. times (symbol rows.now width s (first + j)) (lane factors.now s l))) }
+        (λ s. times (symbol rows.now width s (first + j)) (lane factors.now s l))) }
 {
     let mut sums = vec![in alloc; [0u16; 2]; count]?;
     add_row_pairs(alloc, &mut sums, factors, rows, width, first)?;
@@ -54,7 +54,7 @@ fn add_row_pairs(
     ensures each { OnOk result (((j l : ℕ) → j < length sums.old → l < 2 → lane sums.old j l ≡ 0) →
         (j l : ℕ) → j < length sums.old → l < 2 → lane sums.new j l
         ≡ sum_below (2 * (length factors.now / 2))
-            (λ s. times (symbol rows.now width s (first + j)) (lane factors.now s l))) }
+        (λ s. times (symbol rows.now width s (first + j)) (lane factors.now s l))) }
 {
     for pair in 0..factors.len() / 2 {
         let row = 2 * pair;
@@ -87,10 +87,10 @@ fn add_odd_row(
     ensures count { length sums.new ≡ length sums.old }
     ensures each { OnOk result ((j l : ℕ) → j < length sums.old → l < 2 → lane sums.old j l
         ≡ sum_below (2 * (length factors.now / 2))
-            (λ s. times (symbol rows.now width s (first + j)) (lane factors.now s l)) →
+        (λ s. times (symbol rows.now width s (first + j)) (lane factors.now s l)) →
         lane sums.new j l
         ≡ sum_below (length factors.now)
-            (λ s. times (symbol rows.now width s (first + j)) (lane factors.now s l))) }
+        (λ s. times (symbol rows.now width s (first + j)) (lane factors.now s l))) }
 {
     if factors.len() % 2 == 1 {
         let row = factors.len() - 1;
@@ -142,7 +142,7 @@ fn add_row(
     ensures count { length sums.new ≡ length sums.old }
     ensures each { OnOk result ((j l : ℕ) → j < length sums.old → l < 2 → lane sums.new j l
         ≡ bit_xor (lane sums.old j l)
-            (times (symbol rows.now width row (first + j)) (slice_index factors.now l))) }
+        (times (symbol rows.now width row (first + j)) (slice_index factors.now l))) }
 {
     let low = pair_table(alloc, factors)?;
     let high = pair_table(alloc, &each_by_256(factors))?;
@@ -194,7 +194,7 @@ fn sum_of_two(a: &Pair, b: &Pair) -> Pair
 fn sum_of_three(a: &Pair, b: &Pair, c: &Pair) -> Pair
     ensures { (l : ℕ) → l < 2 →
         slice_index result l ≡ bit_xor (slice_index a.now l)
-            (bit_xor (slice_index b.now l) (slice_index c.now l)) }
+        (bit_xor (slice_index b.now l) (slice_index c.now l)) }
 {
     [a[0] ^ (b[0] ^ c[0]), a[1] ^ (b[1] ^ c[1])]
 }
@@ -252,7 +252,7 @@ fn add_two_by_tables(
         (bit_xor (lane high.now (slice_index rows.now (row * width + 2 * (first + j))) l)
         (lane low.now (slice_index rows.now (row * width + 2 * (first + j) + 1)) l))
         (bit_xor
-            (lane next_high.now (slice_index rows.now (row * width + 2 * (first + j) + width)) l)
+        (lane next_high.now (slice_index rows.now (row * width + 2 * (first + j) + width)) l)
         (lane next_low.now (slice_index rows.now (row * width + 2 * (first + j) + width + 1)) l))) }
 {
     for column in 0..sums.len() {

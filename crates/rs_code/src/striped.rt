@@ -40,7 +40,7 @@ pub fn rows_at<R: Threads + Sync, S: Strategy>(
     requires room { length targets.now * width < 2 ^ 63 }
     ensures { IfOk result (λ v. v.items ≡ joined (length targets.now)
         (λ i. row_through (length basis.now) (λ s. slice_index basis.now s) rows.now width
-            (slice_index targets.now i))) }
+        (slice_index targets.now i))) }
 {
     let count = stripe_count(width, strategy.pieces());
     let pieces = run_stripes(rt, alloc, basis, rows, width, targets, count, strategy)?;
@@ -78,7 +78,7 @@ fn run_stripes<R: Threads + Sync, S: Strategy>(
         ensures { IfOk result (λ v. v.items ≡ joined (length targets.entry.now)
             (λ i. stripe_bytes width count index.now
             (λ j. symbol_through basis.entry.now rows.entry.now width
-                (slice_index targets.entry.now i) j))) }
+            (slice_index targets.entry.now i) j))) }
     { stripe_rows(alloc, basis, rows, width, targets, count, *index) };
     let pieces = strategy.map(rt, alloc, &indices, &work)?;
     Ok(pieces)
@@ -100,7 +100,7 @@ fn stripe_rows(
     requires index { index < count }
     ensures { IfOk result (λ v. v.items ≡ joined (length targets.now)
         (λ i. stripe_bytes width count index
-            (λ j. symbol_through basis.now rows.now width (slice_index targets.now i) j))) }
+        (λ j. symbol_through basis.now rows.now width (slice_index targets.now i) j))) }
 {
     let (first, last) = stripe(width, count, index);
     let wide = last - first;
@@ -146,7 +146,7 @@ fn fill_group(
     ensures group { OnOk result ((i j : ℕ) → done ≤ i → i < done + 8 → i < length targets.now
         → j < wide / 2 →
         symbol out.new wide i j ≡ symbol_through basis.now rows.now width
-            (slice_index targets.now i) (first + j)) }
+        (slice_index targets.now i) (first + j)) }
 {
     let lanes = (targets.len() - done).min(8);
     let factors = basis.coefficients(alloc, &next_eight(targets, done))?;
@@ -189,7 +189,7 @@ fn fill_block(
     ensures written { OnOk result ((l j : ℕ) → l < lanes → j < count
         → symbol out.new wide (done + l) (start + j)
         ≡ sum_below (length factors.now)
-            (λ s. times (symbol rows.now width s (first + (start + j))) (lane factors.now s l))) }
+        (λ s. times (symbol rows.now width s (first + (start + j))) (lane factors.now s l))) }
 {
     if lanes <= 2 {
         return fill_pairs(
@@ -228,7 +228,7 @@ fn fill_eights(
     ensures written { OnOk result ((l j : ℕ) → l < lanes → j < count
         → symbol out.new wide (done + l) (start + j)
         ≡ sum_below (length factors.now)
-            (λ s. times (symbol rows.now width s (first + (start + j))) (lane factors.now s l))) }
+        (λ s. times (symbol rows.now width s (first + (start + j))) (lane factors.now s l))) }
 {
     let sums = group_sums(alloc, factors, rows, width, first + start, count)?;
     for place in 0..lanes {
@@ -264,7 +264,7 @@ fn fill_pairs(
     ensures written { OnOk result ((l j : ℕ) → l < lanes → j < count
         → symbol out.new wide (done + l) (start + j)
         ≡ sum_below (length factors.now)
-            (λ s. times (symbol rows.now width s (first + (start + j))) (lane factors.now s l))) }
+        (λ s. times (symbol rows.now width s (first + (start + j))) (lane factors.now s l))) }
 {
     let sums = pair_sums(alloc, factors, rows, width, first + start, count)?;
     for place in 0..lanes {
@@ -286,11 +286,11 @@ fn rows_of_stripes(
         → index < length pieces.items →
         IfOk (slice_index_or pieces.items index r) (λ bytes. length bytes.items
         ≡ targets *
-            (stripe_start width (length pieces.items) (index + 1) - stripe_start width
-            (length pieces.items) index)) }
+        (stripe_start width (length pieces.items) (index + 1) - stripe_start width
+        (length pieces.items) index)) }
     ensures { (value : ℕ → ℕ → ℕ) → AreStripes width targets value pieces.items →
         IfOk result
-            (λ v. v.items ≡ joined targets (λ i. symbol_bytes (width / 2) (λ j. value i j))) }
+        (λ v. v.items ≡ joined targets (λ i. symbol_bytes (width / 2) (λ j. value i j))) }
 {
     if pieces.len() == 1 {
         return only_piece(pieces);
@@ -322,11 +322,11 @@ fn rows_of_several(
     requires long { (index : ℕ) (r : Result (Vec ℕ Global) AllocError) → index < length pieces.now →
         IfOk (slice_index_or pieces.now index r) (λ bytes. length bytes.items
         ≡ targets *
-            (stripe_start width (length pieces.now) (index + 1) - stripe_start width
-            (length pieces.now) index)) }
+        (stripe_start width (length pieces.now) (index + 1) - stripe_start width
+        (length pieces.now) index)) }
     ensures { (value : ℕ → ℕ → ℕ) → AreStripes width targets value pieces.now →
         IfOk result
-            (λ v. v.items ≡ joined targets (λ i. symbol_bytes (width / 2) (λ j. value i j))) }
+        (λ v. v.items ≡ joined targets (λ i. symbol_bytes (width / 2) (λ j. value i j))) }
 {
     let mut out = Vec::with_capacity(alloc, targets.saturating_mul(width))?;
     for place in 0..targets {
@@ -345,12 +345,12 @@ fn push_row(
     requires { (index : ℕ) (r : Result (Vec ℕ Global) AllocError) → index < length pieces.now →
         IfOk (slice_index_or pieces.now index r) (λ bytes. (place + 1)
         * (stripe_start width (length pieces.now) (index + 1) - stripe_start width
-            (length pieces.now) index) ≤ length bytes.items) }
+        (length pieces.now) index) ≤ length bytes.items) }
     ensures { (part : ℕ → List ℕ) →
         ((index : ℕ) (r : Result (Vec ℕ Global) AllocError) → index < length pieces.now →
         IfOk (slice_index_or pieces.now index r) (λ bytes.
         let wide = stripe_start width (length pieces.now) (index + 1) - stripe_start width
-            (length pieces.now) index in
+        (length pieces.now) index in
         take wide (drop (place * wide) bytes.items) ≡ part index)) →
         OnOk result (out.new.items ≡ out.old.items ++ joined (length pieces.now) part) }
 {

@@ -95,7 +95,7 @@ impl<H: Hasher> Model for Tree<H> {
 
     ghost invariant = { λ t. (root_of H.digest_of H.Digest.content t.digests ≡ Some t.root)
         × (AreLevels H.digest_of H.Digest.content
-            (leaves_from H.digest_of H.Digest.content 0 t.digests) t.levels)
+        (leaves_from H.digest_of H.Digest.content 0 t.digests) t.levels)
         × (length t.digests ≤ 2 ^ 32 - 1) };
 }
 

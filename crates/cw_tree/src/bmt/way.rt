@@ -68,11 +68,11 @@ fn step_up<H: Hasher>(
     ensures value { MatchOption result
         ((n : ℕ)
         → climb H.digest_of H.Digest.content (n + 1) width at node.now (drop used siblings.now)
-            ≡ None)
+        ≡ None)
         (λ up. (n : ℕ)
         → climb H.digest_of H.Digest.content (n + 1) width at node.now (drop used siblings.now)
         ≡ climb H.digest_of H.Digest.content n ((width + 1) / 2) (at / 2) up.0
-            (drop up.1 siblings.now)) }
+        (drop up.1 siblings.now)) }
 {
     if at % 2 == 0 && u64::from(at) + 1 == u64::from(width) {
         return Some((above_of::<H>(node, node), used));
