@@ -1,7 +1,6 @@
 -- Reading numbers one behind the other, as a loop does.
 use Rattle.std.proofs.Common.{◌≡◌, ℕ, suc, ◌-◌, ◌+◌, ◌<◌, List, [], ◌∷◌, ◌++◌, Ok, Err, refl, sym, ap, subst, ◌∙◌, append_assoc, arith}
 use Rattle.cw_base.specs.declared.reader.CodecError.{CodecError}
-use Rattle.cw_base.specs.declared.reader.CodecError.TheVariants as codec
 use Rattle.cw_base.specs.Reading.{Reading, ◌>>=◌, IsRefused, be16_at}
 use Rattle.cw_base.proofs.Behind.{refused_is, refused_made}
 use Rattle.cw_types.specs.Reading.{signers_at}
@@ -42,12 +41,6 @@ pub refused_here : (count i : ℕ) (bytes left : List ℕ) (e : CodecError) → 
 refused_here count i bytes left e lt h =
     let k : count - i ≡ suc (count - (i + 1)) = omega arith in
     refused_is e left (signers_at (count - i) bytes) (rw (k, h) refl)
-
--- all were skipped
-pub skipped : (count i : ℕ) (bytes : List ℕ) → count ≤ i → IsRefused codec.NoMemory bytes (signers_at (count - i) bytes)
-skipped count i bytes le =
-    let k : count - i ≡ 0 = omega arith in
-    rw k refl
 
 -- what refuses those that are skipped refuses them all
 pub refused_all : (e : CodecError) (front : List ℕ) (count i : ℕ) (bytes : List ℕ) (d : ℕ) (after left : List ℕ) (total : Reading (List ℕ)) → i < count → be16_at bytes ≡ Ok (d, after)
