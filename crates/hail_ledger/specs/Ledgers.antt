@@ -43,8 +43,8 @@ AreLedgers r _ _ = ⊥
 abbrev pub members_of : Reported → List ℕ
 members_of r = map (λ a. a.member) r.acked
 
--- What is handed back and written of a script of this text: the report of its run, the replica of each honest member, and the text of these.
-pub record IsDone {H : Type 0} (hash : List ℕ → Digest32) (text : List ℕ) (both : Report H × List (Ledger MemoryState)) (written : List ℕ) : Type 0 where
-  pub report : IsReport hash text both.0
-  pub ledgers : AreLedgers (shown_report both.0) (members_of (shown_report both.0)) both.1
-  pub text_is : written ≡ ledger_text (members_of (shown_report both.0)) (map (λ r. r.payloads) both.1)
+-- What is handed back and written of a script of this text: the report of its run, the replica of each honest member, and the lines of these.
+pub record IsDone {H : Type 0} (hash : List ℕ → Digest32) (text : List ℕ) (done : Report H × List (Ledger MemoryState)) (due : List ℕ) : Type 0 where
+  pub report : IsReport hash text done.0
+  pub ledgers : AreLedgers (shown_report done.0) (members_of (shown_report done.0)) done.1
+  pub lines : due ≡ ledger_text (members_of (shown_report done.0)) (map (λ r. r.payloads) done.1)

@@ -1,7 +1,7 @@
 //! Replicas that are given the blocks of a chain, by the heights that were handed out.
 
 ghost use Rattle.std.specs.Prelude.{◌≡◌, [], IfOk, OnOk, map};
-ghost use Rattle.hail_ledger.specs.Giving.{given_all, given_one, payloads_of, payloads_of_all};
+ghost use Rattle.hail_ledger.specs.Giving.{NeverFails, given_all, given_one, payloads_of, payloads_of_all};
 ghost use Rattle.hail_ledger.specs.Ledgers.{handed_in_entries};
 ghost use Rattle.hailstorm.specs.Reports.{shown_report};
 
@@ -9,7 +9,7 @@ use cw_base::{Digest32, Hasher, Items, NoMemory};
 use cw_ledger::Replica;
 use cw_types::{ChainBlock, Handed};
 use hailstorm::{Entry, Report};
-use node_disk::MemoryDisk;
+use node_disk::{MemoryDisk, StoreError};
 use std::alloc::Global;
 
 /// The replicas of the honest members, by number: each was given the link of each height that was
@@ -18,7 +18,8 @@ pub(crate) fn replicas_of<H: Hasher<Digest = Digest32>>(
     alloc: Global,
     report: &Report<H>,
 ) -> Result<Items<Replica<MemoryDisk>>, NoMemory>
-    ensures { IfOk result (λ replicas. map (λ r. r.payloads) replicas ≡ payloads_of_all (shown_report report.now)) }
+    ensures { IfOk result (λ replicas. map (λ r. r.payloads) replicas
+        ≡ payloads_of_all (shown_report report.now)) }
 {
     let mut replicas = Items::new(alloc);
     for acked in report.acked.as_slice() {
@@ -33,7 +34,8 @@ fn replica_of<H: Hasher<Digest = Digest32>>(
     report: &Report<H>,
     member: u16,
 ) -> Result<Replica<MemoryDisk>, NoMemory>
-    ensures { IfOk result (λ replica. replica.payloads ≡ payloads_of (shown_report report.now) member) }
+    ensures { IfOk result (λ replica. replica.payloads
+        ≡ payloads_of (shown_report report.now) member) }
 {
     let chain = report.chain.as_slice();
     let mut replica = empty_replica(alloc)?;
@@ -48,13 +50,17 @@ fn replica_of<H: Hasher<Digest = Digest32>>(
     Ok(replica)
 }
 
-// A replica on an empty disk. A disk in memory without failing calls refuses for memory alone.
+// A replica on an empty disk in memory, no call of which is to fail.
 fn empty_replica(alloc: Global) -> Result<Replica<MemoryDisk>, NoMemory>
-    ensures { IfOk result (λ replica. replica.payloads ≡ []) }
+    ensures empty { IfOk result (λ replica. replica.payloads ≡ []) }
+    ensures works { IfOk result (λ replica. NeverFails replica) }
 {
     match Replica::start(alloc, MemoryDisk::new(alloc, Vec::new(alloc))) {
         Ok(replica) => Ok(replica),
-        Err(_) => Err(NoMemory),
+        Err((_, StoreError::NoMemory)) => Err(NoMemory),
+        Err((_, StoreError::Disk)) => unreachable!(),
+        Err((_, StoreError::Failed)) => unreachable!(),
+        Err((_, StoreError::Foreign(_))) => unreachable!(),
     }
 }
 
@@ -66,7 +72,10 @@ fn give_entries(
     member: u16,
     entries: &[Entry],
 ) -> Result<(), NoMemory>
-    ensures { OnOk result (replica.new.payloads ≡ given_all chain.now replica.old.payloads (handed_in_entries member entries.now)) }
+    requires { NeverFails replica.old }
+    ensures given { OnOk result (replica.new.payloads
+        ≡ given_all chain.now replica.old.payloads (handed_in_entries member entries.now)) }
+    ensures works { OnOk result (NeverFails replica.new) }
 {
     for entry in entries {
         if entry.member == Some(member) {
@@ -83,7 +92,10 @@ fn give_handed(
     chain: &[ChainBlock],
     handed: &[Handed],
 ) -> Result<(), NoMemory>
-    ensures { OnOk result (replica.new.payloads ≡ given_all chain.now replica.old.payloads (map (λ h. h.height) handed.now)) }
+    requires { NeverFails replica.old }
+    ensures given { OnOk result (replica.new.payloads
+        ≡ given_all chain.now replica.old.payloads (map (λ h. h.height) handed.now)) }
+    ensures works { OnOk result (NeverFails replica.new) }
 {
     for block in handed {
         give_link(alloc, replica, chain, block.height)?;
@@ -98,13 +110,19 @@ fn give_link(
     chain: &[ChainBlock],
     height: u64,
 ) -> Result<(), NoMemory>
-    ensures { OnOk result (replica.new.payloads ≡ given_one chain.now replica.old.payloads height) }
+    requires { NeverFails replica.old }
+    ensures given { OnOk result (replica.new.payloads
+        ≡ given_one chain.now replica.old.payloads height) }
+    ensures works { OnOk result (NeverFails replica.new) }
 {
     let Some(link) = chain.get(height as usize) else {
         return Ok(());
     };
     match replica.apply(alloc, link) {
         Ok(_) => Ok(()),
-        Err(_) => Err(NoMemory),
+        Err(StoreError::NoMemory) => Err(NoMemory),
+        Err(StoreError::Disk) => unreachable!(),
+        Err(StoreError::Failed) => unreachable!(),
+        Err(StoreError::Foreign(_)) => unreachable!(),
     }
 }

@@ -17,7 +17,8 @@ pub(crate) fn ledger_text(
     replicas: &[Replica<MemoryDisk>],
 ) -> Result<Vec<u8>, NoMemory>
     requires { length members.now ≡ length replicas.now }
-    ensures { IfOk result (λ text. text.items ≡ spec.ledger_text (map (λ a. a.member) members.now) (map (λ r. r.payloads) replicas.now)) }
+    ensures { IfOk result (λ text. text.items
+        ≡ spec.ledger_text (map (λ a. a.member) members.now) (map (λ r. r.payloads) replicas.now)) }
 {
     let mut out = String::new(alloc);
     for index in 0..members.len() {
@@ -34,7 +35,8 @@ fn put_replica(
     member: u16,
     replica: &Replica<MemoryDisk>,
 ) -> Result<(), NoMemory>
-    ensures { OnOk result (string_bytes out.new ≡ string_bytes out.old ++ spec.replica_text member replica.now.payloads) }
+    ensures { OnOk result (string_bytes out.new
+        ≡ string_bytes out.old ++ spec.replica_text member replica.now.payloads) }
 {
     put_height(out, member, replica.height())?;
     let holdings = replica.holdings(alloc)?;
@@ -54,7 +56,8 @@ fn put_height(out: &mut String, member: u16, height: Option<u64>) -> Result<(), 
 }
 
 fn put_holdings(out: &mut String, member: u16, holdings: &[Holding]) -> Result<(), NoMemory>
-    ensures { OnOk result (string_bytes out.new ≡ string_bytes out.old ++ flat_map (spec.balance_line member) holdings.now) }
+    ensures { OnOk result (string_bytes out.new
+        ≡ string_bytes out.old ++ flat_map (spec.balance_line member) holdings.now) }
 {
     for holding in holdings {
         put_holding(out, member, holding)?;
