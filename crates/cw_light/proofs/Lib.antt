@@ -1,2 +1,3 @@
 pub mod Believed
+mod Moments
 mod Walks

@@ -29,11 +29,11 @@ use Rattle.cw_rules.proofs.Lists.{and_then_some, map_some}
 use Rattle.cw_rules.proofs.Runs.{IsClearRun, clear_reached, handed_by, opening_handed}
 use Rattle.cw_rules.proofs.SameLemmas.{same_block_self, same_commitment_self}
 use Rattle.cw_rules.proofs.Worlds.{kept_keep}
-use Rattle.cw_light.specs.Believing.{IsBelieved, IsCollision, IsLinkAt}
+use Rattle.cw_light.specs.Believing.{IsLinkAt}
 use Rattle.cw_light.specs.Checking.{answer, broken_at, broken_below, is_named_by, is_parent_of, path_answer}
 use Rattle.cw_light.specs.declared.check.Answer.{Answer}
 use Rattle.cw_light.specs.declared.check.Answer.TheVariants.{BadSigners, Broken, EmptyPath, NotFinal, Yes}
-use Rattle.cw_light.proofs.Believed.{believed, first_in, known_under}
+use Rattle.cw_light.proofs.Believed.{AreTwo, believed, first_in, known_under}
 use Rattle.hailstorm.specs.Reports.{honest}
 use Rattle.hail_light.specs.Finding.{found_at, found_in, path_to, path_within, shown_by, shown_of}
 use Rattle.hail_light.specs.declared.search.Shown.{Shown}
@@ -205,9 +205,9 @@ module _ (r : Rules) (script : List Line) (w : World) (c : IsCluster r script) (
     told_link : (shown : Shown) → Passes shown.cert shown.path → (d : Digest32) × (answer r (signed w) shown.cert shown.path ≡ Yes height d) × IsLinkAt r (report_of r script w).chain shown.path height d
     told_link shown x = (digest r x.block, x.yes, go (believed r script w c ends shown.cert shown.path height (digest r x.block) x.yes))
       where
-        go : IsBelieved r w (report_of r script w).chain shown.path height (digest r x.block) → IsLinkAt r (report_of r script w).chain shown.path height (digest r x.block)
+        go : IsLinkAt r (report_of r script w).chain shown.path height (digest r x.block) ⊎ AreTwo r w shown.path → IsLinkAt r (report_of r script w).chain shown.path height (digest r x.block)
         go (inl y) = y
-        go (inr y) = absurd (y.different (k.clear y.shown y.noted (x.known y.shown y.in_path) y.known y.one_digest))
+        go (inr y) = absurd (y.different (k.clear y.shown y.noted (x.known y.shown y.in_path) (inr (y.under, y.is_noted)) y.one_digest))
 
   -- what is found on a disk of an honest member passes, and ends in the link
   pub found_told : (height : ℕ) (shown : Shown) → found_in r (signed w) height (honest w) ≡ Some shown
