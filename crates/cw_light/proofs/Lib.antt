@@ -1,3 +1,3 @@
 pub mod Believed
-mod Moments
+pub mod Moments
 mod Walks

@@ -79,7 +79,8 @@ run_append : (r : Rules) (w : World) (xs ys : List Line) → run r w (xs ++ ys) 
 run_append r w [] ys = refl
 run_append r w (x ∷ xs) ys = run_append r (happens r w x) xs ys
 
-ends_run : (r : Rules) (w : World) (lines : List Line) (end : World) → outcome r w lines ≡ Ends end → end ≡ run r w lines
+-- a script that ends without a clash ends in the world that its lines leave
+pub ends_run : (r : Rules) (w : World) (lines : List Line) (end : World) → outcome r w lines ≡ Ends end → end ≡ run r w lines
 ends_run r w [] end h = let e : w ≡ end = cc in sym e
 ends_run r w (line ∷ lines) end h = go (clash_at r w (happens r w line) (line_member line)) h (ends_run r (happens r w line) lines end)
   where

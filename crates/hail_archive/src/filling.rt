@@ -13,8 +13,8 @@ use hailstorm::{Entry, Report, Sent};
 use std::alloc::Global;
 use std::thread::Threads;
 
-/// An archive of so many bytes, to which the chunk of each shard message of a report was put, in the
-/// order in which they were sent.
+/// An archive of so many bytes, to which the chunk of each shard message of a report was put, in
+/// the order in which they were sent.
 pub(crate) fn filled<H: Hasher<Digest = Digest32>, R: Threads + Sync, S: Strategy>(
     rt: &R,
     alloc: Global,

@@ -1,6 +1,7 @@
-//! Reads a script from standard input, runs it, and puts each chunk that was sent into an archive of
-//! as many shard bytes as the word says; prints which links of the chain the archive gives back, and
-//! how many bytes it holds. Chunks are coded on four threads. The exit status is that of the answer.
+//! Reads a script from standard input, runs it, and puts each chunk that was sent into an archive
+//! of as many shard bytes as the word says; prints which links of the chain the archive gives back,
+//! and how many bytes it holds. Chunks are coded on four threads. The exit status is that of the
+//! answer.
 #![tactic(auto)]
 
 mod filling;

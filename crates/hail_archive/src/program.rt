@@ -17,10 +17,10 @@ use std::thread::Threads;
 
 const USAGE: &[u8] = b"usage: hail_archive\n";
 
-/// Reads a script to its end, runs it, and puts the chunk of each shard message that was sent into an
-/// archive of as many shard bytes as the one word says, in the order in which they were sent. Writes
-/// which links above genesis the archive gives back, and how many bytes it holds. All text is made
-/// before the first byte is written. The words are those after the program's name.
+/// Reads a script to its end, runs it, and puts the chunk of each shard message that was sent into
+/// an archive of as many shard bytes as the one word says, in the order in which they were sent.
+/// Writes which links above genesis the archive gives back, and how many bytes it holds. All text
+/// is made before the first byte is written. The words are those after the program's name.
 pub fn archive_program<
     H: Hasher<Digest = Digest32>,
     R: Threads + Sync,
@@ -37,17 +37,21 @@ pub fn archive_program<
 ) -> Exit<(Report<H>, Archive<H>)>
     // With other words than one number nothing is read, and the usage is written.
     ensures usage { spec.limit_of (map string_bytes words.now) ≡ None
-        → (input.new ≡ input.old) × UsageOf usage_line (O.held output.old) (O.held output.new) result }
+        → (input.new ≡ input.old)
+        × UsageOf usage_line (O.held output.old) (O.held output.new) result }
 
     // With a limit each answer has its meaning for the bytes that the source had left.
     ensures answer { (limit : ℕ) (text : List ℕ)
         → spec.limit_of (map string_bytes words.now) ≡ Some limit → I.left input.old ≡ Some text
-        → AnswersBy H.digest_of (IsDone H.digest_of limit) text (I.left input.new) (O.held output.old) (O.held output.new) result }
+        → AnswersBy H.digest_of (IsDone H.digest_of limit) text (I.left input.new)
+        (O.held output.old) (O.held output.new) result }
 
     // A fault is told only where the source or the sink has failed in this call.
-    ensures fault { HasFault (I.faults input.old) (I.faults input.new) (O.faults output.old) (O.faults output.new) result }
+    ensures fault { HasFault (I.faults input.old) (I.faults input.new)
+        (O.faults output.old) (O.faults output.new) result }
 
-    // Where the source failed, or memory is short, nothing is written, whether or not the source tells its bytes.
+    // Where the source failed, or memory is short, nothing is written, whether or not the source
+    // tells its bytes.
     ensures silent { IsSilent (O.held output.old) (O.held output.new) result }
 {
     match limit_of(words) {
@@ -76,8 +80,10 @@ fn run_input<H: Hasher<Digest = Digest32>, R: Threads + Sync, I: Source, O: Sink
     strategy: &S,
 ) -> Exit<(Report<H>, Archive<H>)>
     ensures answer { (text : List ℕ) → I.left input.old ≡ Some text
-        → AnswersBy H.digest_of (IsDone H.digest_of limit) text (I.left input.new) (O.held output.old) (O.held output.new) result }
-    ensures fault { HasFault (I.faults input.old) (I.faults input.new) (O.faults output.old) (O.faults output.new) result }
+        → AnswersBy H.digest_of (IsDone H.digest_of limit) text (I.left input.new)
+        (O.held output.old) (O.held output.new) result }
+    ensures fault { HasFault (I.faults input.old) (I.faults input.new)
+        (O.faults output.old) (O.faults output.new) result }
     ensures silent { IsSilent (O.held output.old) (O.held output.new) result }
 {
     match run_source::<H, R, I, S>(rt, alloc, input, strategy) {
@@ -96,8 +102,10 @@ fn write_run<H: Hasher<Digest = Digest32>, R: Threads + Sync, O: Sink, S: Strate
     strategy: &S,
 ) -> Exit<(Report<H>, Archive<H>)>
     ensures answer { (text : List ℕ) (rest : Option (List ℕ)) → IsRead H.digest_of text rest ran
-        → AnswersBy H.digest_of (IsDone H.digest_of limit) text rest (O.held output.old) (O.held output.new) result }
-    ensures fault { (reads later : ℕ) → HasFault reads later (O.faults output.old) (O.faults output.new) result }
+        → AnswersBy H.digest_of (IsDone H.digest_of limit) text rest
+        (O.held output.old) (O.held output.new) result }
+    ensures fault { (reads later : ℕ)
+        → HasFault reads later (O.faults output.old) (O.faults output.new) result }
     ensures silent { IsSilent (O.held output.old) (O.held output.new) result }
 {
     match filled::<H, R, S>(rt, alloc, limit, &ran.report, strategy) {
@@ -117,9 +125,12 @@ fn write_archive<H: Hasher<Digest = Digest32>, R: Threads + Sync, O: Sink, S: St
 ) -> Exit<(Report<H>, Archive<H>)>
     // whatever the limit for which what the run sent fills this archive
     ensures answer { (limit : ℕ) (text : List ℕ) (rest : Option (List ℕ))
-        → archive ≡ spec.filled H.digest_of limit (shown_report ran.report) → IsRead H.digest_of text rest ran
-        → AnswersBy H.digest_of (IsDone H.digest_of limit) text rest (O.held output.old) (O.held output.new) result }
-    ensures fault { (reads later : ℕ) → HasFault reads later (O.faults output.old) (O.faults output.new) result }
+        → archive ≡ spec.filled H.digest_of limit (shown_report ran.report)
+        → IsRead H.digest_of text rest ran
+        → AnswersBy H.digest_of (IsDone H.digest_of limit) text rest
+        (O.held output.old) (O.held output.new) result }
+    ensures fault { (reads later : ℕ)
+        → HasFault reads later (O.faults output.old) (O.faults output.new) result }
     ensures silent { IsSilent (O.held output.old) (O.held output.new) result }
 {
     match text_of(rt, alloc, &ran, &archive, strategy) {
@@ -137,7 +148,8 @@ fn text_of<H: Hasher<Digest = Digest32>, R: Threads + Sync, S: Strategy>(
     strategy: &S,
 ) -> Result<Vec<u8>, NoMemory>
     ensures { IfOk result (λ text. text.items
-        ≡ spec.archive_text H.digest_of ran.now.script.committees archive.now ran.now.report.chain) }
+        ≡ spec.archive_text H.digest_of ran.now.script.committees archive.now
+        ran.now.report.chain) }
 {
     let committees = ran.script.committees(alloc)?;
     let chain = ran.report.chain.as_slice();

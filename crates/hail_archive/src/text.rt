@@ -13,8 +13,8 @@ use shards::cut_block;
 use std::alloc::Global;
 use std::thread::Threads;
 
-/// A line for each link of the chain above genesis, whether the archive gives it back, and a line of
-/// how many bytes the archive holds.
+/// A line for each link of the chain above genesis, whether the archive gives it back, and a line
+/// of how many bytes the archive holds.
 #[tactic(auto, unfolding(crate::specs::Program::used_line))]
 pub(crate) fn archive_text<H: Hasher<Digest = Digest32>, R: Threads + Sync, S: Strategy>(
     rt: &R,
@@ -58,7 +58,8 @@ fn put_links<H: Hasher<Digest = Digest32>, R: Threads + Sync, S: Strategy>(
 
 #[tactic(auto, unfolding(crate::specs::Program::answer_line))]
 fn put_link(out: &mut String, height: u64, given: bool) -> Result<(), NoMemory>
-    ensures { OnOk result (string_bytes out.new ≡ string_bytes out.old ++ spec.answer_line height given) }
+    ensures { OnOk result
+        (string_bytes out.new ≡ string_bytes out.old ++ spec.answer_line height given) }
 {
     if given {
         write!(out, "archive {height} yes\n")?;

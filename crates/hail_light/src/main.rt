@@ -1,6 +1,6 @@
 //! Reads a script from standard input, runs it, and looks on the disks of the honest members for a
-//! finalization that shows a height, as a light client is shown it. The word is the height. Chunks are
-//! coded on four threads. The exit status is that of the answer.
+//! finalization that shows a height, as a light client is shown it. The word is the height. Chunks
+//! are coded on four threads. The exit status is that of the answer.
 #![tactic(auto)]
 
 mod program;

@@ -17,11 +17,11 @@ use std::thread::Threads;
 
 const USAGE: &[u8] = b"usage: hail_light\n";
 
-/// Reads a script to its end and runs it. Then it goes over the honest members by number, and over the
-/// finalizations on the disk of each in order, to the first that is valid by the votes which were sent
-/// and whose held payload reaches the height by held parents; checks it and the blocks down to that
-/// height as a light client would, and writes `yes`, the height and the block's digest. Where there is
-/// no such finalization it writes `none`.
+/// Reads a script to its end and runs it. Then it goes over the honest members by number, and over
+/// the finalizations on the disk of each in order, to the first that is valid by the votes which
+/// were sent and whose held payload reaches the height by held parents; checks it and the blocks
+/// down to that height as a light client would, and writes `yes`, the height and the block's
+/// digest. Where there is no such finalization it writes `none`.
 ///
 /// The words are those after the program's name: one, the height in digits, below 2^64.
 pub fn light_program<
@@ -40,16 +40,21 @@ pub fn light_program<
 ) -> Exit<Report<H>>
     // With other words nothing is read, and the usage is written.
     ensures usage { asked_height (map string_bytes words.now) ≡ None
-        → (input.new ≡ input.old) × UsageOf usage_line (O.held output.old) (O.held output.new) result }
+        → (input.new ≡ input.old)
+        × UsageOf usage_line (O.held output.old) (O.held output.new) result }
 
     // With a height each answer has its meaning for the bytes that the source had left.
-    ensures answer { (text : List ℕ) (height : ℕ) → asked_height (map string_bytes words.now) ≡ Some height → I.left input.old ≡ Some text
-        → AnswersBy H.digest_of (IsToldRun H.digest_of height) text (I.left input.new) (O.held output.old) (O.held output.new) result }
+    ensures answer { (text : List ℕ) (height : ℕ)
+        → asked_height (map string_bytes words.now) ≡ Some height → I.left input.old ≡ Some text
+        → AnswersBy H.digest_of (IsToldRun H.digest_of height) text (I.left input.new)
+        (O.held output.old) (O.held output.new) result }
 
     // A fault is told only where the source or the sink has failed in this call.
-    ensures fault { HasFault (I.faults input.old) (I.faults input.new) (O.faults output.old) (O.faults output.new) result }
+    ensures fault { HasFault (I.faults input.old) (I.faults input.new)
+        (O.faults output.old) (O.faults output.new) result }
 
-    // Where the source failed, or memory is short, nothing is written, whether or not the source tells its bytes.
+    // Where the source failed, or memory is short, nothing is written, whether or not the source
+    // tells its bytes.
     ensures silent { IsSilent (O.held output.old) (O.held output.new) result }
 {
     match height_of(words) {
@@ -78,8 +83,10 @@ fn run_light<H: Hasher<Digest = Digest32>, R: Threads + Sync, I: Source, O: Sink
     strategy: &S,
 ) -> Exit<Report<H>>
     ensures answer { (text : List ℕ) → I.left input.old ≡ Some text
-        → AnswersBy H.digest_of (IsToldRun H.digest_of height) text (I.left input.new) (O.held output.old) (O.held output.new) result }
-    ensures fault { HasFault (I.faults input.old) (I.faults input.new) (O.faults output.old) (O.faults output.new) result }
+        → AnswersBy H.digest_of (IsToldRun H.digest_of height) text (I.left input.new)
+        (O.held output.old) (O.held output.new) result }
+    ensures fault { HasFault (I.faults input.old) (I.faults input.new)
+        (O.faults output.old) (O.faults output.new) result }
     ensures silent { IsSilent (O.held output.old) (O.held output.new) result }
 {
     match run_source::<H, R, I, S>(rt, alloc, input, strategy) {
@@ -99,8 +106,10 @@ fn write_light<H: Hasher<Digest = Digest32>, R: Threads + Sync, O: Sink, S: Stra
 ) -> Exit<Report<H>>
     requires { IsRun H.digest_of ran.script ran.report }
     ensures answer { (text : List ℕ) (rest : Option (List ℕ)) → IsRead H.digest_of text rest ran
-        → AnswersBy H.digest_of (IsToldRun H.digest_of height) text rest (O.held output.old) (O.held output.new) result }
-    ensures fault { (reads later : ℕ) → HasFault reads later (O.faults output.old) (O.faults output.new) result }
+        → AnswersBy H.digest_of (IsToldRun H.digest_of height) text rest
+        (O.held output.old) (O.held output.new) result }
+    ensures fault { (reads later : ℕ)
+        → HasFault reads later (O.faults output.old) (O.faults output.new) result }
     ensures silent { IsSilent (O.held output.old) (O.held output.new) result }
 {
     match light_text::<H, R, S>(rt, alloc, height, &ran.script, &ran.report, strategy) {
@@ -122,6 +131,7 @@ fn light_text<H: Hasher<Digest = Digest32>, R: Threads + Sync, S: Strategy>(
     ensures { (run : IsRun H.digest_of script.now report.now)
         → IfOk result (λ text. TellsOf H.digest_of height script.now report.now run text.items) }
 {
+    // of each epoch at most f members are faulty
     script.is_cluster();
     let committees = script.committees(alloc)?;
     let faulty = script.faulty(alloc)?;

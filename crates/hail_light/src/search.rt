@@ -37,8 +37,10 @@ pub(crate) fn found_in<H: Hasher<Digest = Digest32>, V: Verifier>(
     disks: &[Items<u8>],
 ) -> Result<Option<Shown>, NoMemory>
     requires { (members : List Member) × HoldNotes members disks.now }
-    ensures { (backlog : ℕ) (accepts : Block → Block → Bool) (members : List Member) → HoldNotes members disks.now
-        → IfOk result (λ found. found ≡ spec.found_in (coded H.digest_of committees.now backlog accepts) (V.signs verifier.now) height members) }
+    ensures { (backlog : ℕ) (accepts : Block → Block → Bool) (members : List Member)
+        → HoldNotes members disks.now → IfOk result (λ found. found
+        ≡ spec.found_in (coded H.digest_of committees.now backlog accepts) (V.signs verifier.now)
+        height members) }
 {
     for disk in disks {
         let notes = notes_of(alloc, disk.as_slice())?;
@@ -71,7 +73,9 @@ fn found_at<H: Hasher<Digest = Digest32>, V: Verifier>(
     notes: &[Note],
 ) -> Result<Option<Shown>, NoMemory>
     ensures { (backlog : ℕ) (accepts : Block → Block → Bool)
-        → IfOk result (λ found. found ≡ spec.found_at (coded H.digest_of committees.now backlog accepts) (V.signs verifier.now) height notes.now) }
+        → IfOk result (λ found. found
+        ≡ spec.found_at (coded H.digest_of committees.now backlog accepts) (V.signs verifier.now)
+        height notes.now) }
 {
     for note in notes {
         if let Some(shown) = shown_by::<H, V>(alloc, committees, verifier, height, notes, note)? {
@@ -91,7 +95,9 @@ fn shown_by<H: Hasher<Digest = Digest32>, V: Verifier>(
     note: &Note,
 ) -> Result<Option<Shown>, NoMemory>
     ensures { (backlog : ℕ) (accepts : Block → Block → Bool)
-        → IfOk result (λ shown. shown ≡ spec.shown_by (coded H.digest_of committees.now backlog accepts) (V.signs verifier.now) height notes.now note.now) }
+        → IfOk result (λ shown. shown
+        ≡ spec.shown_by (coded H.digest_of committees.now backlog accepts) (V.signs verifier.now)
+        height notes.now note.now) }
 {
     let Note::Cert(cert) = note else {
         return Ok(None);
@@ -119,7 +125,9 @@ fn path_to<H: Hasher<Digest = Digest32>>(
     commitment: &Commitment,
 ) -> Result<Option<Items<ChainBlock>>, NoMemory>
     ensures { (epochs : Epochs) (backlog : ℕ) (accepts : Block → Block → Bool)
-        → IfOk result (λ path. path ≡ spec.path_to (coded H.digest_of epochs backlog accepts) notes.now height commitment.now) }
+        → IfOk result (λ path. path
+        ≡ spec.path_to (coded H.digest_of epochs backlog accepts) notes.now height
+        commitment.now) }
 {
     let mut path = Items::new(alloc);
     let mut next = held::<H>(alloc, notes, commitment)?;
@@ -139,7 +147,8 @@ fn path_end(
     height: u64,
     last: ChainBlock,
 ) -> Result<Option<Items<ChainBlock>>, NoMemory>
-    ensures { IfOk result (λ made. made ≡ (if last.height == height then Some (path ++ last ∷ []) else None)) }
+    ensures { IfOk result (λ made. made
+        ≡ (if last.height == height then Some (path ++ last ∷ []) else None)) }
 {
     if last.height() != height {
         return Ok(None);
@@ -156,7 +165,8 @@ fn parent_of<H: Hasher<Digest = Digest32>>(
     block: &ChainBlock,
 ) -> Result<Option<ChainBlock>, NoMemory>
     ensures value { (epochs : Epochs) (backlog : ℕ) (accepts : Block → Block → Bool)
-        → IfOk result (λ parent. parent ≡ rule.parent_of (coded H.digest_of epochs backlog accepts) notes.now block.now) }
+        → IfOk result (λ parent. parent
+        ≡ rule.parent_of (coded H.digest_of epochs backlog accepts) notes.now block.now) }
     ensures below { IfOk result (λ parent. IfSome parent (λ a. a.height + 1 ≡ block.now.height)) }
 {
     match held::<H>(alloc, notes, &block.context().parent)? {
@@ -178,7 +188,8 @@ fn held<H: Hasher<Digest = Digest32>>(
     commitment: &Commitment,
 ) -> Result<Option<ChainBlock>, NoMemory>
     ensures { (epochs : Epochs) (backlog : ℕ) (accepts : Block → Block → Bool)
-        → IfOk result (λ block. block ≡ rule.held (coded H.digest_of epochs backlog accepts) notes.now commitment.now) }
+        → IfOk result (λ block. block
+        ≡ rule.held (coded H.digest_of epochs backlog accepts) notes.now commitment.now) }
 {
     if commitment.is_same(&genesis_commitment::<H>()) {
         return Ok(Some(genesis::<H>(alloc)));

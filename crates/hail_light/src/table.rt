@@ -19,7 +19,8 @@ pub(crate) struct Table<'a> {
 }
 
 impl Verifier for Table<'_> {
-    ghost signs = { λ votes member vote. table votes.faulty.now (sent_in votes.steps.now) member vote };
+    ghost signs = { λ votes member vote.
+        table votes.faulty.now (sent_in votes.steps.now) member vote };
 
     fn signed(&self, member: u16, vote: &Vote) -> bool {
         is_faulty(self.faulty, member) || some_sends(self.steps, member, vote)
@@ -42,7 +43,8 @@ fn some_sends(entries: &[Entry], member: u16, vote: &Vote) -> bool
 }
 
 fn any_sends(entries: &[Entry], member: u16, vote: &Vote) -> bool
-    ensures { result ≡ list_any (λ e. list_any (rule.is_sent_vote member vote.now) e.sent) entries.now }
+    ensures { result
+        ≡ list_any (λ e. list_any (rule.is_sent_vote member vote.now) e.sent) entries.now }
 {
     entries.iter().any(|entry| sends_vote(entry, member, vote))
 }

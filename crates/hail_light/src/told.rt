@@ -23,9 +23,11 @@ pub(crate) fn told_of<H: Hasher<Digest = Digest32>, R: Threads + Sync, V: Verifi
     strategy: &S,
 ) -> Result<(u64, Digest32), NoMemory>
     requires { (backlog : ℕ) × (accepts : Block → Block → Bool) × (height : ℕ) × (d : DigestValue)
-        × (answer (coded H.digest_of committees.now backlog accepts) (V.signs verifier.now) shown.now.cert shown.now.path ≡ Answer.Yes height d) }
+        × (answer (coded H.digest_of committees.now backlog accepts) (V.signs verifier.now)
+        shown.now.cert shown.now.path ≡ Answer.Yes height d) }
     ensures { (backlog : ℕ) (accepts : Block → Block → Bool) (height : ℕ) (d : DigestValue)
-        → answer (coded H.digest_of committees.now backlog accepts) (V.signs verifier.now) shown.now.cert shown.now.path ≡ Answer.Yes height d
+        → answer (coded H.digest_of committees.now backlog accepts) (V.signs verifier.now)
+        shown.now.cert shown.now.path ≡ Answer.Yes height d
         → IfOk result (λ told. told ≡ (height, d)) }
 {
     let path = shown.path.as_slice();
