@@ -35,13 +35,13 @@ module _ {H : Type 0} (hash : List ℕ → Digest32) (height : ℕ) (s : Scenari
   -- what a light client is told of it
   pub told_yes : (shown : Shown) → found ≡ Some shown → (d : Digest32) × (answer (rules_of hash s) (signed x.world) shown.cert shown.path ≡ Yes height d) × IsLinkAt (rules_of hash s) report.chain shown.path height d
   told_yes shown e =
-      let (d, yes, link) = found_told (rules_of hash s) s.lines x.world cluster x.ends height shown e in
-      (d, yes, subst (λ (links : List Block). IsLinkAt (rules_of hash s) links shown.path height d) (sym (ap (λ (y : Reported). y.chain) x.told)) link)
+      let (d, told, link) = found_told (rules_of hash s) s.lines x.world cluster x.ends height shown e in
+      (d, told, subst (λ (links : List Block). IsLinkAt (rules_of hash s) links shown.path height d) (sym (ap (λ (y : Reported). y.chain) x.told)) link)
 
   pub tells_some : (shown : Shown) (due : List ℕ) → found ≡ Some shown → ((d : Digest32) → answer (rules_of hash s) (signed x.world) shown.cert shown.path ≡ Yes height d → due ≡ yes_line height d) → TellsOf hash height s report x due
   tells_some shown due e h =
-      let (d, yes, link) = told_yes shown e in
-      subst (λ (o : Option Shown). Tells (rules_of hash s) report.chain height o due) (sym e) (d, h d yes, link)
+      let (d, told, link) = told_yes shown e in
+      subst (λ (o : Option Shown). Tells (rules_of hash s) report.chain height o due) (sym e) (d, h d told, link)
 
   -- the same, by what the program has of the committees, the marks and the entries
   module _ (committees : Epochs) (faulty : List Bool) (steps : List Entry) (ec : committees ≡ s.committees) (ef : faulty ≡ marks s.lines s.committees.total) (es : steps ≡ report.steps) where

@@ -10,9 +10,6 @@ use Rattle.hail_light.specs.Telling.{TellsOf, none_line, yes_line}
 use Rattle.hail_light.proofs.Telling.{answer_is, found_is, tells_none, tells_some, told_yes}
 use Rattle.hail_light.proofs.program.light_text.Goals as goal
 
-pub found_in-requires : goal.found_in-requires
-found_in-requires g c = (honest c.requires.world, subst (λ (disks : List (List ℕ)). HoldNotes (honest c.requires.world) disks) (sym c.as_slice-disks.ensures) c.requires.disks)
-
 pub returns-in-None : goal.returns-in-None
 returns-in-None g c = λ run.
     let hash = g.H.Hasher.digest_of in
@@ -26,8 +23,8 @@ returns-in-None g c = λ run.
     IfOk-weaker c.none_text.result (λ text. text.items ≡ none_line) (λ text. TellsOf hash height s report run text.items)
     (λ text h. tells_none hash height s report run cluster text.items found h) c.none_text.ensures
 
-pub told_of-requires : goal.told_of-requires
-told_of-requires g c =
+pub told_of-requires-after_bounds : goal.told_of-requires-after_bounds
+told_of-requires-after_bounds g c κs within =
     let hash = g.H.Hasher.digest_of in
     let s : Scenario = c.args.script.now in
     let report = c.args.report.now in
@@ -38,11 +35,11 @@ told_of-requires g c =
     let marks = c.deref.ensures.value ∙ c.in_ok-faulty.ensures in
     let found = sym (found_is hash height s report run cluster c.in_ok-committees.committees c.deref.result.now c.as_slice-steps.result.now c.in_ok-committees.ensures marks c.as_slice-steps.ensures)
     ∙ (sym (c.in_ok-found.ensures s.backlog (λ b a. true) (honest run.world) holds) ∙ c.in-Some.is) in
-    let (d, yes, link) = told_yes hash height s report run cluster c.in-Some.shown found in
-    (s.backlog, λ b a. true, height, d, answer_is hash height s report run cluster c.in_ok-committees.committees c.deref.result.now c.as_slice-steps.result.now c.in_ok-committees.ensures marks c.as_slice-steps.ensures c.in-Some.shown ∙ yes)
+    let (d, told, link) = told_yes hash height s report run cluster c.in-Some.shown found in
+    (s.backlog, λ b a. true, height, d, answer_is hash height s report run cluster c.in_ok-committees.committees c.deref.result.now c.as_slice-steps.result.now c.in_ok-committees.ensures marks c.as_slice-steps.ensures c.in-Some.shown ∙ told)
 
-pub returns-in-Some : goal.returns-in-Some
-returns-in-Some g c = λ run.
+pub returns : goal.returns
+returns g c = λ run.
     let hash = g.H.Hasher.digest_of in
     let s : Scenario = c.args.script.now in
     let report = c.args.report.now in
@@ -53,7 +50,7 @@ returns-in-Some g c = λ run.
     let found = sym (found_is hash height s report run cluster c.in_ok-committees.committees c.deref.result.now c.as_slice-steps.result.now c.in_ok-committees.ensures marks c.as_slice-steps.ensures)
     ∙ (sym (c.in_ok-found.ensures s.backlog (λ b a. true) (honest run.world) holds) ∙ c.in-Some.is) in
     let same = answer_is hash height s report run cluster c.in_ok-committees.committees c.deref.result.now c.as_slice-steps.result.now c.in_ok-committees.ensures marks c.as_slice-steps.ensures c.in-Some.shown in
-    IfOk-weaker c.yes_text.result (λ text. text.items ≡ yes_line c.in_ok-told.told.0 c.in_ok-told.told.1) (λ text. TellsOf hash height s report run text.items)
+    IfOk-weaker c.yes_text.result (λ text. text.items ≡ yes_line c.in_ok-told-in-Some.told.0 c.in_ok-told-in-Some.told.1) (λ text. TellsOf hash height s report run text.items)
     (λ text h. tells_some hash height s report run cluster c.in-Some.shown text.items found
-    (λ d yes. h ∙ ap (λ (told : ℕ × Digest32). yes_line told.0 told.1) (c.in_ok-told.ensures s.backlog (λ b a. true) height d (same ∙ yes))))
+    (λ d is. h ∙ ap (λ (told : ℕ × Digest32). yes_line told.0 told.1) (c.in_ok-told-in-Some.ensures s.backlog (λ b a. true) height d (same ∙ is))))
     c.yes_text.ensures
