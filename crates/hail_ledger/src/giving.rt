@@ -1,7 +1,8 @@
 //! Replicas that are given the blocks of a chain, by the heights that were handed out.
 
 ghost use Rattle.std.specs.Prelude.{◌≡◌, [], IfOk, OnOk, map};
-ghost use Rattle.hail_ledger.specs.Giving.{NeverFails, given_all, given_one, payloads_of, payloads_of_all};
+ghost use Rattle.hail_ledger.specs.Giving.{NeverFails, given_all, given_one, payloads_of};
+ghost use Rattle.hail_ledger.specs.Giving.{payloads_of_all};
 ghost use Rattle.hail_ledger.specs.Ledgers.{handed_in_entries};
 ghost use Rattle.hailstorm.specs.Reports.{shown_report};
 

@@ -1,6 +1,6 @@
 //! Reads a script from standard input, runs it, gives each honest member's replica of the ledger
-//! the blocks that were handed out to it, and prints the balances. Chunks are coded on four threads.
-//! The exit status is that of the answer.
+//! the blocks that were handed out to it, and prints the balances. Chunks are coded on four
+//! threads. The exit status is that of the answer.
 #![tactic(auto)]
 
 mod giving;

@@ -18,9 +18,10 @@ use std::thread::Threads;
 
 const USAGE: &[u8] = b"usage: hail_ledger\n";
 
-/// Reads a script to its end and runs it, gives each honest member's replica the block of the chain at
-/// each height that was handed out to the member, in the report's order, and writes what the replicas
-/// came to, by member. It takes no words. All text is made before the first byte is written.
+/// Reads a script to its end and runs it, gives each honest member's replica the block of the chain
+/// at each height that was handed out to the member, in the report's order, and writes what the
+/// replicas came to, by member. It takes no words. All text is made before the first byte is
+/// written.
 pub fn ledger_program<
     H: Hasher<Digest = Digest32>,
     R: Threads + Sync,
@@ -37,16 +38,20 @@ pub fn ledger_program<
 ) -> Exit<(Report<H>, Items<Replica<MemoryDisk>>)>
     // With words nothing is read, and the usage is written.
     ensures usage { length words.now ≢ 0
-        → (input.new ≡ input.old) × UsageOf usage_line (O.held output.old) (O.held output.new) result }
+        → (input.new ≡ input.old)
+        × UsageOf usage_line (O.held output.old) (O.held output.new) result }
 
     // Without words each answer has its meaning for the bytes that the source had left.
     ensures answer { (text : List ℕ) → length words.now ≡ 0 → I.left input.old ≡ Some text
-        → AnswersBy H.digest_of (IsDone H.digest_of) text (I.left input.new) (O.held output.old) (O.held output.new) result }
+        → AnswersBy H.digest_of (IsDone H.digest_of) text (I.left input.new) (O.held output.old)
+        (O.held output.new) result }
 
     // A fault is told only where the source or the sink has failed in this call.
-    ensures fault { HasFault (I.faults input.old) (I.faults input.new) (O.faults output.old) (O.faults output.new) result }
+    ensures fault { HasFault (I.faults input.old) (I.faults input.new) (O.faults output.old)
+        (O.faults output.new) result }
 
-    // Where the source failed, or memory is short, nothing is written, whether or not the source tells its bytes.
+    // Where the source failed, or memory is short, nothing is written, whether or not the source
+    // tells its bytes.
     ensures silent { IsSilent (O.held output.old) (O.held output.new) result }
 {
     if words.is_empty() {
@@ -65,8 +70,10 @@ fn run_input<H: Hasher<Digest = Digest32>, R: Threads + Sync, I: Source, O: Sink
     strategy: &S,
 ) -> Exit<(Report<H>, Items<Replica<MemoryDisk>>)>
     ensures answer { (text : List ℕ) → I.left input.old ≡ Some text
-        → AnswersBy H.digest_of (IsDone H.digest_of) text (I.left input.new) (O.held output.old) (O.held output.new) result }
-    ensures fault { HasFault (I.faults input.old) (I.faults input.new) (O.faults output.old) (O.faults output.new) result }
+        → AnswersBy H.digest_of (IsDone H.digest_of) text (I.left input.new) (O.held output.old)
+        (O.held output.new) result }
+    ensures fault { HasFault (I.faults input.old) (I.faults input.new) (O.faults output.old)
+        (O.faults output.new) result }
     ensures silent { IsSilent (O.held output.old) (O.held output.new) result }
 {
     match run_source::<H, R, I, S>(rt, alloc, input, strategy) {
@@ -82,8 +89,10 @@ fn write_run<H: Hasher<Digest = Digest32>, O: Sink>(
     output: &mut O,
 ) -> Exit<(Report<H>, Items<Replica<MemoryDisk>>)>
     ensures answer { (text : List ℕ) (rest : Option (List ℕ)) → IsRead H.digest_of text rest ran
-        → AnswersBy H.digest_of (IsDone H.digest_of) text rest (O.held output.old) (O.held output.new) result }
-    ensures fault { (reads later : ℕ) → HasFault reads later (O.faults output.old) (O.faults output.new) result }
+        → AnswersBy H.digest_of (IsDone H.digest_of) text rest (O.held output.old)
+        (O.held output.new) result }
+    ensures fault { (reads later : ℕ)
+        → HasFault reads later (O.faults output.old) (O.faults output.new) result }
     ensures silent { IsSilent (O.held output.old) (O.held output.new) result }
 {
     match replicas_of::<H>(alloc, &ran.report) {
@@ -101,8 +110,10 @@ fn write_replicas<H: Hasher<Digest = Digest32>, O: Sink>(
 ) -> Exit<(Report<H>, Items<Replica<MemoryDisk>>)>
     requires given { map (λ r. r.payloads) replicas ≡ payloads_of_all (shown_report ran.report) }
     ensures answer { (text : List ℕ) (rest : Option (List ℕ)) → IsRead H.digest_of text rest ran
-        → AnswersBy H.digest_of (IsDone H.digest_of) text rest (O.held output.old) (O.held output.new) result }
-    ensures fault { (reads later : ℕ) → HasFault reads later (O.faults output.old) (O.faults output.new) result }
+        → AnswersBy H.digest_of (IsDone H.digest_of) text rest (O.held output.old)
+        (O.held output.new) result }
+    ensures fault { (reads later : ℕ)
+        → HasFault reads later (O.faults output.old) (O.faults output.new) result }
     ensures silent { IsSilent (O.held output.old) (O.held output.new) result }
 {
     match ledger_text(alloc, ran.report.acked.as_slice(), replicas.as_slice()) {

@@ -46,7 +46,8 @@ fn put_replica(
 
 #[tactic(auto, unfolding(crate::specs::Text::height_line))]
 fn put_height(out: &mut String, member: u16, height: Option<u64>) -> Result<(), NoMemory>
-    ensures { OnOk result (string_bytes out.new ≡ string_bytes out.old ++ spec.height_line member height) }
+    ensures { OnOk result
+        (string_bytes out.new ≡ string_bytes out.old ++ spec.height_line member height) }
 {
     match height {
         Some(height) => write!(out, "ledger {member} {height}\n")?,
@@ -67,7 +68,8 @@ fn put_holdings(out: &mut String, member: u16, holdings: &[Holding]) -> Result<(
 
 #[tactic(auto, unfolding(crate::specs::Text::balance_line))]
 fn put_holding(out: &mut String, member: u16, holding: &Holding) -> Result<(), NoMemory>
-    ensures { OnOk result (string_bytes out.new ≡ string_bytes out.old ++ spec.balance_line member holding.now) }
+    ensures { OnOk result
+        (string_bytes out.new ≡ string_bytes out.old ++ spec.balance_line member holding.now) }
 {
     let account = holding.account;
     let amount = holding.amount;
