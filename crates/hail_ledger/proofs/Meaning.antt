@@ -32,7 +32,7 @@ module _ {H : Type 0} (report : Report H) (replicas : List (Ledger MemoryState))
       report = is;
       ledgers = all_ledgers (rules_of hash is.script) is.script.lines is.run.world (shown_report report) is.run.told is.run.ends is.chain replicas given;
       lines =
-        lines
-        ∙ ap (λ (l : List Acked). ledger_text (map (λ a. a.member) l) (map (λ (r : Ledger MemoryState). r.payloads) shown)) members_are
-        ∙ ap (λ (l : List (Ledger MemoryState)). ledger_text (map (λ (a : Acked). a.member) report.acked) (map (λ r. r.payloads) l)) replicas_are;
+          lines
+          ∙ ap (λ (l : List Acked). ledger_text (map (λ a. a.member) l) (map (λ (r : Ledger MemoryState). r.payloads) shown)) members_are
+          ∙ ap (λ (l : List (Ledger MemoryState)). ledger_text (map (λ (a : Acked). a.member) report.acked) (map (λ r. r.payloads) l)) replicas_are;
     }
