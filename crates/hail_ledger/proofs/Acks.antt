@@ -1,5 +1,5 @@
 -- Which notes of a step acknowledge a height: that of an Ack event, a height that was handed out.
-use Rattle.std.proofs.Common.{◌≡◌, ℕ, zero, suc, ◌+◌, ◌-◌, ◌*◌, ◌^◌, ◌<◌, ◌≤◌, ◌==◌, ◌&&◌, Bool, true, false, cond, nat_le, nat_lt, min, List, [], ◌∷◌, ◌++◌, Option, Some, None, filter, filter_map, flat_map, option_map, option_and_then, refl, sym, ◌∙◌, ap, subst, inl, inr, ◌⊎◌, arith, append-nil}
+use Rattle.std.proofs.Common.{◌≡◌, ℕ, zero, suc, ◌-◌, ◌*◌, ◌^◌, ◌≤◌, ◌==◌, ◌&&◌, Bool, true, false, cond, nat_le, nat_lt, min, List, [], ◌∷◌, ◌++◌, Option, Some, None, filter, filter_map, option_map, option_and_then, refl, sym, ◌∙◌, ap, subst, inl, inr, ◌⊎◌, arith}
 use Rattle.std.specs.Prelude.{not}
 use Rattle.std.specs.List.{cons_option, last_or}
 use Rattle.std.specs.Option.{option_map_or, option_or}

@@ -1,18 +1,16 @@
 -- What the links of a chain leave in a replica.
-use Rattle.std.proofs.Common.{◌≡◌, ◌⊎◌, inl, inr, ℕ, zero, suc, ◌+◌, ◌<◌, ◌≤◌, ◌==◌, Bool, true, false, cond, List, [], ◌∷◌, ◌++◌, length, map, take, fold, slice_get, Option, Some, None, refl, sym, ◌∙◌, ap, subst, arith, add-one}
+use Rattle.std.proofs.Common.{◌≡◌, ◌⊎◌, inl, inr, ℕ, zero, suc, ◌+◌, ◌<◌, ◌≤◌, ◌==◌, Bool, true, false, cond, List, [], ◌∷◌, ◌++◌, length, map, take, fold, slice_get, Some, refl, sym, ◌∙◌, ap, subst, arith, add-one}
 use Rattle.std.specs.Option.{option_map_or}
 use Rattle.std.proofs.lemmas.Bool.{cases_eq, eqb-true}
 use Rattle.std.proofs.lemmas.Option.{same_Some}
 use Rattle.cw_types.specs.Block.{Block}
-use Rattle.cw_types.specs.declared.event.Handed.{Handed}
 use Rattle.cw_types.specs.declared.commitment.Commitment.{Commitment}
 use Rattle.cw_rules.specs.Chains.{Follow, IsChain}
-use Rattle.cw_rules.specs.Reached.{In, IsLinkOf}
+use Rattle.cw_rules.specs.Reached.{In}
 use Rattle.cw_rules.specs.Rules.{Rules, commit, genesis_commitment}
 use Rattle.cw_rules.specs.World.{World}
 use Rattle.cw_ledger.specs.Ledger.{applied}
 use Rattle.hail_ledger.specs.Giving.{given_all, given_one}
-use Rattle.hail_ledger.specs.Ledgers.{IsLedgerOf}
 use Rattle.hail_ledger.proofs.Orders.{after_one, reached_by}
 
 -- ---- each link of a chain is of its height
@@ -27,9 +25,6 @@ chain_height r w [] k i x h = absurd k
 chain_height r w (b ∷ bs) k i x h = omega (arith, ap (λ (y : Block). y.height) k.0, follow_height r w (genesis_commitment r) b bs k.1 i x h)
 
 -- ---- lists
-
-payload_of : Block → List ℕ
-payload_of b = b.payload
 
 get_below : {X : Type 0} (xs : List X) (i : ℕ) (x : X) → slice_get xs i ≡ Some x → i < length xs
 get_below [] i x h = cc

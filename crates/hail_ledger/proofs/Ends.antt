@@ -1,16 +1,13 @@
 -- The replicas of a run hold what the links of the heights below the first missing one leave.
-use Rattle.std.proofs.Common.{◌≡◌, ◌⊎◌, inl, inr, ℕ, zero, suc, ◌+◌, ◌<◌, ◌≤◌, ◌==◌, Bool, true, false, cond, List, [], ◌∷◌, ◌++◌, length, map, take, slice_get, flat_map, filter_map, Option, Some, None, option_map, refl, sym, ◌∙◌, ap, subst, arith, append_assoc, length-append}
-use Rattle.std.specs.List.{cons_option, enumerate_from}
-use Rattle.std.specs.Option.{option_map_or}
-use Rattle.std.proofs.lemmas.Option.{same_Some}
-use Rattle.cw_base.specs.declared.hash.Digest32.{Digest32}
+use Rattle.std.proofs.Common.{◌≡◌, ◌⊎◌, inl, inr, ℕ, zero, suc, ◌+◌, ◌<◌, Bool, true, false, cond, List, [], ◌∷◌, ◌++◌, length, map, take, slice_get, flat_map, filter_map, Option, Some, None, refl, sym, ◌∙◌, ap, subst, arith, append_assoc, length-append}
+use Rattle.std.specs.List.{enumerate_from}
 use Rattle.cw_types.specs.Block.{Block}
 use Rattle.cw_types.specs.declared.event.Handed.{Handed}
 use Rattle.cw_rules.specs.Chains.{Ends, outcome}
-use Rattle.cw_rules.specs.Reached.{In, IsLinkOf, IsReported}
-use Rattle.cw_rules.specs.Report.{Acked, Entry, Report as Reported, acked_at, all_entries, entries_from, first_line, handed_in, opening_entries, report_of}
+use Rattle.cw_rules.specs.Reached.{In, IsReported}
+use Rattle.cw_rules.specs.Report.{Acked, Entry, Report as Reported, acked_at, all_entries, first_line, handed_in, report_of}
 use Rattle.cw_rules.specs.Rules.{Rules}
-use Rattle.cw_rules.specs.Step.{Member, member_notes}
+use Rattle.cw_rules.specs.Step.{Member}
 use Rattle.cw_rules.specs.World.{Line, World, opening}
 use Rattle.cw_rules.proofs.Lists.{in_cases, in_left, in_right}
 use Rattle.node_disk.specs.Memory.{MemoryState}
@@ -18,7 +15,7 @@ use Rattle.cw_ledger.specs.Ledger.{Ledger}
 use Rattle.hail_ledger.specs.Giving.{given_all, payloads_of}
 use Rattle.hail_ledger.specs.Ledgers.{AreLedgers, IsLedgerOf, handed_by, handed_in_entries, handed_to, is_of}
 use Rattle.hail_ledger.proofs.Chains.{HasHeights, HasLinks, chain_height, given_are}
-use Rattle.hail_ledger.proofs.Orders.{IsInOrder, reached_by}
+use Rattle.hail_ledger.proofs.Orders.{reached_by}
 use Rattle.hail_ledger.proofs.Worlds.{run_in_order}
 
 -- ---- what is handed out to a member is handed out

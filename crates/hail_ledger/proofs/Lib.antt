@@ -1,4 +1,4 @@
-pub mod Given
+pub mod Texts
 pub mod Acks
 pub mod Orders
 pub mod Worlds

@@ -1,23 +1,22 @@
 -- The heights that a run hands out to each member.
-use Rattle.std.proofs.Common.{◌≡◌, ◌⊎◌, inl, inr, ℕ, zero, suc, ◌+◌, ◌<◌, ◌≤◌, ◌==◌, ◌||◌, ◌&&◌, Bool, true, false, cond, nat_lt, List, [], ◌∷◌, ◌++◌, length, map, Option, Some, None, option_map, option_and_then, slice_get, slice_set, filter_map, flat_map, refl, sym, ◌∙◌, ap, subst, arith, append_assoc, append-nil}
+use Rattle.std.proofs.Common.{◌≡◌, ◌⊎◌, inl, inr, ℕ, zero, suc, ◌+◌, ◌<◌, ◌≤◌, ◌==◌, ◌||◌, ◌&&◌, Bool, true, false, cond, nat_lt, List, [], ◌∷◌, ◌++◌, length, map, Option, Some, None, option_map, slice_get, filter_map, refl, sym, ◌∙◌, ap, subst, arith, append_assoc, append-nil}
 use Rattle.std.specs.List.{cons_option, list_any, range_with_len}
 use Rattle.std.specs.Option.{option_map_or}
-use Rattle.std.proofs.lemmas.Bool.{cases_Bool, cases_eq, eqb-true}
+use Rattle.std.proofs.lemmas.Bool.{cases_eq, eqb-true}
 use Rattle.std.proofs.lemmas.Option.{same_Some}
 use Rattle.cw_types.specs.Block.{Block}
 use Rattle.cw_types.specs.declared.event.Event.{Event}
 use Rattle.cw_types.specs.declared.event.Handed.{Handed}
 use Rattle.cw_types.specs.declared.note.Note.{Note}
 use Rattle.cw_rules.specs.Accepted.{State}
-use Rattle.cw_rules.specs.Chains.{Clashes, Ends, Outcome, clash_at, outcome}
-use Rattle.cw_rules.specs.Reached.{In}
-use Rattle.cw_rules.specs.Report.{Entry, entries_from, entry_of, named_by, opening_entries, opening_entry}
+use Rattle.cw_rules.specs.Chains.{Clashes, Ends, clash_at, outcome}
+use Rattle.cw_rules.specs.Report.{Entry, entries_from, entry_of, opening_entries, opening_entry}
 use Rattle.cw_rules.specs.Rules.{Rules}
 use Rattle.cw_rules.specs.Step.{Member, Stepped, cut_step, deliveries, member_notes, most_delivered, start, state_of, step, step_notes, stopped, taken, with_notes}
-use Rattle.cw_rules.specs.World.{Ask, Cut, Do, Faulty, Line, Restart, World, done_by, event_of, faults, happens, line_member, member_at, opening, signed, turned, with_done}
+use Rattle.cw_rules.specs.World.{Cut, Do, Faulty, Line, Restart, World, done_by, event_of, faults, happens, line_member, member_at, opening, signed, turned, with_done}
 use Rattle.cw_rules.proofs.Lists.{and_then_some}
 use Rattle.cw_rules.proofs.Worlds.{frames_join, get-map_from, get-range, get-set, member_there}
-use Rattle.hail_ledger.specs.Ledgers.{handed_by, handed_in_entries, is_of}
+use Rattle.hail_ledger.specs.Ledgers.{handed_by, handed_in_entries}
 use Rattle.hail_ledger.proofs.Acks.{step_acks}
 use Rattle.hail_ledger.proofs.Orders.{IsInOrder, handed_in_order, noted_in_order, nothing_yet, started_in_order}
 

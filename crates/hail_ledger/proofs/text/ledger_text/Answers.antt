@@ -1,7 +1,7 @@
 use Rattle.std.proofs.Common.{◌≡◌, ◌<◌, ◌∙◌, ◌++◌, ℕ, List, ap, length, sym, arith, rules}
 use Rattle.std.specs.Prelude.{string_bytes}
 use Rattle.hail_ledger.specs.Text as spec
-use Rattle.hail_ledger.proofs.Given.{text_more}
+use Rattle.hail_ledger.proofs.Texts.{text_more}
 use Rattle.hail_ledger.proofs.text.ledger_text.Goals as goal
 
 pub loop-index-preserved : goal.loop-index-preserved
