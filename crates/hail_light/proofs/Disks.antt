@@ -1,10 +1,9 @@
 -- The disks of members, one by one.
-use Rattle.std.proofs.Common.{◌≡◌, ℕ, zero, suc, ◌<◌, ◌≤◌, List, [], ◌∷◌, Option, Some, None, Ok, Bool, length, slice_get, refl, sym, ◌∙◌, ap, arith}
+use Rattle.std.proofs.Common.{◌≡◌, ℕ, zero, suc, List, [], ◌∷◌, Option, Some, Ok, Bool, length, slice_get, refl, sym, ◌∙◌, ap}
 use Rattle.cw_types.specs.declared.note.Note.{Note}
 use Rattle.cw_types.specs.declared.vote.Vote.{Vote}
 use Rattle.cw_rules.specs.Rules.{Rules}
 use Rattle.cw_rules.specs.Step.{Member, member_notes}
-use Rattle.marshal.specs.Frames.{FindsNotes}
 use Rattle.marshal.specs.Stored.{joined_notes, read_notes}
 use Rattle.hailstorm.specs.Reports.{HoldNotes}
 use Rattle.hail_light.specs.Finding.{found_at}

@@ -1,15 +1,13 @@
 -- The table of a run is that of its world.
-use Rattle.std.proofs.Common.{◌≡◌, ℕ, zero, suc, ◌+◌, Bool, true, false, cond, List, [], ◌∷◌, ◌++◌, ◌||◌, Option, Some, None, slice_get, option_map, refl, sym, ◌∙◌, ap, append_assoc, append-nil, is_none, map, option_and_then}
+use Rattle.std.proofs.Common.{◌≡◌, ℕ, zero, suc, ◌+◌, Bool, true, false, cond, List, [], ◌∷◌, ◌++◌, ◌||◌, Option, Some, None, slice_get, refl, sym, ◌∙◌, ap, append_assoc, append-nil, is_none, map}
 use Rattle.std.specs.List.{list_any, range_with_len}
 use Rattle.std.proofs.lemmas.List.Folds.{list_any-append}
 use Rattle.std.specs.Option.{option_map_or}
 use Rattle.cw_base.specs.declared.hash.Digest32.{Digest32}
-use Rattle.cw_types.specs.declared.event.Out.{Out}
-use Rattle.cw_types.specs.declared.vote.Vote.{Vote}
 use Rattle.cw_rules.specs.Report.{Entry, Report as Reported, entries_from, entry_of, first_line}
 use Rattle.cw_rules.specs.Rules.{Rules}
 use Rattle.cw_rules.specs.Step.{Member, Stepped, start}
-use Rattle.cw_rules.specs.World.{Cut, Do, Faulty, Line, Restart, Sent, World, done_by, fault_sends, faults, happens, is_faulty, is_sent_vote, line_member, opening, run, sent_now, signed, with_done}
+use Rattle.cw_rules.specs.World.{Cut, Do, Faulty, Line, Restart, Sent, World, done_by, faults, happens, is_faulty, is_sent_vote, opening, run, sent_now, signed, with_done}
 use Rattle.hail_script.specs.Grammar.{is_faulty_in, marks}
 use Rattle.hail_script.specs.Scenario.{Scenario}
 use Rattle.hailstorm.specs.declared.report.Report.{Report}

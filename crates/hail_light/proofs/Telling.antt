@@ -1,5 +1,5 @@
 -- The line that is due for what was found.
-use Rattle.std.proofs.Common.{◌≡◌, ℕ, Bool, true, List, Option, Some, None, Ok, refl, sym, ◌∙◌, ap, subst}
+use Rattle.std.proofs.Common.{◌≡◌, ℕ, Bool, true, List, Option, Some, None, Ok, sym, ◌∙◌, ap, subst}
 use Rattle.cw_base.specs.declared.hash.Digest32.{Digest32}
 use Rattle.cw_types.specs.Block.{Block}
 use Rattle.cw_types.specs.Epochs.{Epochs}
@@ -8,10 +8,9 @@ use Rattle.cw_rules.specs.Report.{Entry, Report as Reported}
 use Rattle.cw_rules.specs.World.{signed}
 use Rattle.cw_light.specs.Believing.{IsLinkAt}
 use Rattle.cw_light.specs.Checking.{answer}
-use Rattle.cw_light.specs.declared.check.Answer.{Answer}
 use Rattle.cw_light.specs.declared.check.Answer.TheVariants.{Yes}
 use Rattle.cw_rules_coded.specs.Coded.{coded}
-use Rattle.hail_script.specs.Grammar.{marks, script_of}
+use Rattle.hail_script.specs.Grammar.{marks}
 use Rattle.hail_script.specs.Scenario.{Scenario}
 use Rattle.hailstorm.specs.declared.report.Ran.{Ran}
 use Rattle.hailstorm.specs.declared.report.Report.{Report}

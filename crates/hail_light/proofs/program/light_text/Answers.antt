@@ -1,11 +1,9 @@
-use Rattle.std.proofs.Common.{◌≡◌, ◌∙◌, ℕ, Bool, true, List, Option, Some, None, refl, sym, ap, subst}
+use Rattle.std.proofs.Common.{◌≡◌, ◌∙◌, ℕ, true, List, refl, sym, ap, subst}
 use Rattle.std.proofs.lemmas.Result.{IfOk-weaker}
 use Rattle.cw_base.specs.declared.hash.Digest32.{Digest32}
-use Rattle.cw_types.specs.Block.{Block}
 use Rattle.hail_script.specs.Scenario.{Scenario}
 use Rattle.hailstorm.specs.Places.{rules_of}
-use Rattle.hailstorm.specs.Reports.{HoldNotes, IsRun, honest}
-use Rattle.hail_light.specs.declared.search.Shown.{Shown}
+use Rattle.hailstorm.specs.Reports.{HoldNotes, honest}
 use Rattle.hail_light.specs.Telling.{TellsOf, none_line, yes_line}
 use Rattle.hail_light.proofs.Telling.{answer_is, found_is, tells_none, tells_some, told_yes}
 use Rattle.hail_light.proofs.program.light_text.Goals as goal

@@ -1,6 +1,5 @@
-use Rattle.std.proofs.Common.{◌≡◌, ◌+◌, ℕ, Bool, List, Option, Some, None, ◌∙◌, ap, sym, drop, length, slice_get, refl, arith}
+use Rattle.std.proofs.Common.{◌≡◌, ℕ, List, Some, ◌∙◌, sym, length, slice_get, refl, arith}
 use Rattle.std.proofs.lemmas.Option.{slice_get_read}
-use Rattle.cw_types.specs.Block.{Block}
 use Rattle.cw_types.specs.declared.note.Note.{Note}
 use Rattle.cw_rules.specs.Rules.{Rules}
 use Rattle.cw_rules_coded.specs.Coded.{coded}

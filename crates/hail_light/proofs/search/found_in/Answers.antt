@@ -1,7 +1,5 @@
-use Rattle.std.proofs.Common.{◌≡◌, ◌+◌, ℕ, Bool, List, Option, Some, None, Ok, ◌∙◌, ap, sym, subst, drop, length, slice_get, refl, arith}
+use Rattle.std.proofs.Common.{◌≡◌, ℕ, List, Some, Ok, ◌∙◌, sym, subst, length, slice_get, refl, arith}
 use Rattle.std.proofs.lemmas.Option.{slice_get_read}
-use Rattle.cw_types.specs.Block.{Block}
-use Rattle.cw_types.specs.declared.note.Note.{Note}
 use Rattle.cw_rules.specs.Rules.{Rules}
 use Rattle.cw_rules.specs.Step.{Member, member_notes}
 use Rattle.cw_rules_coded.specs.Coded.{coded}

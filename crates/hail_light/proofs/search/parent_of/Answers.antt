@@ -1,6 +1,5 @@
-use Rattle.std.proofs.Common.{◌≡◌, ◌+◌, ◌==◌, ℕ, Bool, List, Option, Some, None, true, false, ◌∙◌, ap, sym, arith, eq-eqb, ne_eqb}
+use Rattle.std.proofs.Common.{◌+◌, ◌∙◌, ap, sym, arith, eq-eqb, ne_eqb}
 use Rattle.cw_types.specs.Block.{Block}
-use Rattle.cw_types.specs.Epochs.{Epochs}
 use Rattle.cw_types.specs.declared.block.Context.{Context}
 use Rattle.cw_rules.specs.Held.{held}
 use Rattle.cw_rules.specs.Rules.{Rules}

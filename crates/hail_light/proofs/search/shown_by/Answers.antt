@@ -1,8 +1,6 @@
-use Rattle.std.proofs.Common.{◌≡◌, ℕ, Bool, Option, Some, None, ◌∙◌, ap, sym, option_map}
-use Rattle.cw_types.specs.Block.{Block}
+use Rattle.std.proofs.Common.{Some, ◌∙◌, ap, sym, option_map}
 use Rattle.cw_rules.specs.Rules.{Rules}
 use Rattle.cw_rules_coded.specs.Coded.{coded}
-use Rattle.hail_light.specs.declared.search.Shown.{Shown}
 use Rattle.hail_light.proofs.Paths.{pair, shown_is}
 use Rattle.hail_light.proofs.search.shown_by.Goals as goal
 

@@ -1,4 +1,4 @@
-use Rattle.std.proofs.Common.{◌≡◌, ◌∙◌, sym}
+use Rattle.std.proofs.Common.{◌∙◌, sym}
 use Rattle.cw_rules.specs.World.{is_sent_vote}
 use Rattle.hail_light.proofs.Tables.{any_sent}
 use Rattle.hail_light.proofs.table.some_sends.Goals as goal

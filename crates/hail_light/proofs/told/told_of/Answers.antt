@@ -1,5 +1,4 @@
-use Rattle.std.proofs.Common.{◌≡◌, ℕ, Bool, List, ◌∙◌, ap, sym}
-use Rattle.cw_base.specs.declared.hash.Digest32.{Digest32}
+use Rattle.std.proofs.Common.{List, ◌∙◌, ap, sym}
 use Rattle.cw_types.specs.Block.{Block}
 use Rattle.cw_rules_coded.specs.Coded.{coded}
 use Rattle.cw_light.specs.Checking.{answer}
