@@ -7,7 +7,7 @@ use Rattle.std.proofs.lemmas.List.Elements.{All-from_recursion, recursion_from_A
 use Rattle.std.proofs.lemmas.Option.{same_Some, slice_get_past}
 use Rattle.std.proofs.Math.Nat.{mul-le-mul_left}
 use Rattle.cw_base.specs.Rows.{length-listed, listed}
-use Rattle.cw_base.specs.Shards.{Shards}
+use Rattle.cw_base.specs.Counts.{Counts}
 use Rattle.cw_base.specs.declared.hash.Digest32.{Digest32}
 use Rattle.rs_code.specs.Indices.{AreSound}
 use Rattle.cw_coding.specs.Checked.{Checked}
@@ -105,7 +105,7 @@ hardly_wider n (suc k) h =
         omega arith
 
 -- a text that is as short as a block's is cut by any config
-pub short_codable : (x : Shards) (n : ℕ) → 1 ≤ x.minimum → total_of x ≤ 65535 → n ≤ 1048745 → IsCodable x n
+pub short_codable : (x : Counts) (n : ℕ) → 1 ≤ x.minimum → total_of x ≤ 65535 → n ≤ 1048745 → IsCodable x n
 short_codable x n some few short =
     let wide = hardly_wider n x.minimum some in
     let fits = product_fits (total_of x) (shard_len n x.minimum) few (omega arith) in

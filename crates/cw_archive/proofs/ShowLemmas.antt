@@ -4,7 +4,7 @@ use Rattle.std.specs.List.{AllByRecursion}
 use Rattle.std.specs.Option.{option_and_then}
 use Rattle.std.proofs.lemmas.Bool.{cases_Bool, cond-true, cond-false}
 use Rattle.std.proofs.lemmas.Option.{same_Some}
-use Rattle.cw_base.specs.Config.{same_shards}
+use Rattle.cw_base.specs.Config.{same_counts}
 use Rattle.cw_base.specs.ReadingLaws.{IsBytes}
 use Rattle.cw_base.specs.declared.hash.Digest32.{Digest32}
 use Rattle.cw_coding.specs.Layout.{row_digests}
@@ -15,7 +15,7 @@ use Rattle.cw_types.specs.FormatLaws.{IsBlock}
 use Rattle.cw_types.specs.Reading.{block_in}
 use Rattle.cw_types.specs.Same.{same_commitment, same_digest}
 use Rattle.cw_types.specs.declared.commitment.Commitment.{Commitment}
-use Rattle.cw_types.proofs.Same.{same_commitment-true, same_commitment_self, same_digest_self, same_shards_self}
+use Rattle.cw_types.proofs.Same.{same_commitment-true, same_commitment_self, same_digest_self, same_counts_self}
 use Rattle.cw_rules.specs.Coding.{AreApart, AreByteChunks, AreRowsOf, IsCoder, IsText}
 use Rattle.cw_rules.specs.Rules.{Chunk, total_of}
 use Rattle.cw_rules_coded.specs.Coded.{code_rows, decoded, digest_bytes, root_over}
@@ -78,7 +78,7 @@ module _ (hash : List ℕ → Digest32) (c : Commitment) where
       let yes : same_digest own c.root ≡ true = subst (λ (r : Digest32). same_digest own r ≡ true) root (same_digest_self own) in
       ap (λ (y : Digest32). same_digest y c.block && same_digest e c.context) (isd ∙ ap hash (sym is))
       ∙ (ap (λ (y : Digest32). same_digest (hash (block_bytes b)) c.block && same_digest y c.context) ise
-      ∙ rw (yes, same_shards_self c.config) (rest (same_digest (hash (block_bytes b)) c.block) (same_digest (hash (context_bytes b.context)) c.context)))
+      ∙ rw (yes, same_counts_self c.config) (rest (same_digest (hash (block_bytes b)) c.block) (same_digest (hash (context_bytes b.context)) c.context)))
     where
       rest : (p q : Bool) → (p && q) ≡ (p && (q && true))
       rest true true = refl

@@ -2,7 +2,7 @@
 use Rattle.std.specs.Prelude.{[], ℕ, ◌&&◌, ◌==◌, ◌∷◌, Bool, List, None, Option, Some, filter_map, find, if◌then◌else◌, length, map, nat_le, nat_lt, sum_by, take}
 use Rattle.std.specs.List.{range_with_len}
 use Rattle.std.specs.Option.{option_and_then}
-use Rattle.cw_base.specs.Shards.{Shards}
+use Rattle.cw_base.specs.Counts.{Counts}
 use Rattle.cw_base.specs.declared.hash.Digest32.{Digest32}
 use Rattle.cw_types.specs.Block.{Block}
 use Rattle.cw_types.specs.Encoding.{block_bytes, context_bytes}
@@ -66,7 +66,7 @@ abbrev pub least_chunks : Commitment → List KeptChunk → List Chunk
 least_chunks c kept = take c.config.minimum (by_index c kept)
 
 -- what names a block that is cut by this config, whatever its epoch: the hash of its bytes, the root of their codeword, the hash of its context's bytes, and the config
-abbrev pub name_of : (List ℕ → Digest32) → Shards → Block → Commitment
+abbrev pub name_of : (List ℕ → Digest32) → Counts → Block → Commitment
 name_of hash config b = record {
   block = hash (block_bytes b);
   root = root_over hash (map hash (rows_under (rules_of hash no_committees) config (block_bytes b)));

@@ -1,7 +1,8 @@
 //! The archive.
 
 ghost use Rattle.std.specs.Prelude.{◌≡◌, ◌≤◌, ◌+◌, [], IfOk, OnErr, OnOk, length};
-ghost use Rattle.cw_archive.specs.Archived.{after_put, given_back, put_answer, used_of, within_limit};
+ghost use Rattle.cw_archive.specs.Archived.{after_put, given_back, put_answer, used_of};
+ghost use Rattle.cw_archive.specs.Archived.{within_limit};
 ghost use Rattle.cw_archive.specs.Showing.{HasNewest};
 ghost use Rattle.shards.specs.Kept.{chunks_of};
 
@@ -16,9 +17,9 @@ use std::alloc::Global;
 use std::marker::{Model, PhantomData};
 use std::thread::Threads;
 
-/// Chunks that check under their commitments, the oldest of which leave where their shards would have
-/// more bytes than the limit. Contracts see the limit and the list of the chunks, each with its
-/// commitment, the oldest first.
+/// Chunks that check under their commitments, the oldest of which leave where their shards would
+/// have more bytes than the limit. Contracts see the limit and the list of the chunks, each with
+/// its commitment, the oldest first.
 ///
 /// In a cluster of four a block is cut into four chunks, of which any two give it back:
 ///
@@ -67,11 +68,12 @@ impl<H: Hasher<Digest = Digest32>> Archive<H> {
         })
     }
 
-    /// Takes a chunk of that commitment. The answer is the first that holds: it is known, where a chunk
-    /// of that commitment and index is kept; foreign, where it doesn't check under the commitment's root
-    /// and config at its index; too large, where its shard is longer than the limit. Else it is kept: it
-    /// goes last, and chunks leave from the front as long as all shards have more bytes than the limit.
-    /// No other answer changes anything. Where memory is short nothing changes.
+    /// Takes a chunk of that commitment. The answer is the first that holds: it is known, where a
+    /// chunk of that commitment and index is kept; foreign, where it doesn't check under the
+    /// commitment's root and config at its index; too large, where its shard is longer than the
+    /// limit. Else it is kept: it goes last, and chunks leave from the front as long as all shards
+    /// have more bytes than the limit. No other answer changes anything. Where memory is short
+    /// nothing changes.
     pub fn put<R: Threads + Sync, S: Strategy>(
         &mut self,
         _rt: &R,
@@ -105,8 +107,8 @@ impl<H: Hasher<Digest = Digest32>> Archive<H> {
 
     /// The block that the chunks of a commitment give back: where at least as many are kept as its
     /// config asks for, those of least index are rows of the codeword of the block's bytes, and the
-    /// commitment names the block: by the hash of its bytes, the root of that codeword, the hash of its
-    /// context's bytes, and the config.
+    /// commitment names the block: by the hash of its bytes, the root of that codeword, the hash of
+    /// its context's bytes, and the config.
     pub fn get<R: Threads + Sync, S: Strategy>(
         &self,
         rt: &R,

@@ -11,7 +11,8 @@ use cw_coding::{CheckedChunk, Chunk, ReedSolomon, ReedSolomonError, Scheme};
 use cw_types::Commitment;
 use std::alloc::Global;
 
-/// The chunk with its digest, where it checks under the commitment's root and config at its own index.
+/// The chunk with its digest, where it checks under the commitment's root and config at its own
+/// index.
 pub(crate) fn checked<H: Hasher<Digest = Digest32>, S: Strategy>(
     alloc: Global,
     commitment: &Commitment,

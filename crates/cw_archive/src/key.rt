@@ -6,8 +6,8 @@ ghost use Rattle.cw_archive.specs.Keys.{key_of};
 use cw_base::Digest32;
 use cw_types::Commitment;
 
-/// The commitment and the index of a chunk. Its order brings the chunks of a commitment together, by
-/// index.
+/// The commitment and the index of a chunk. Its order brings the chunks of a commitment together,
+/// by index.
 #[derive(Clone, Copy, Debug, PartialEq, Eq, PartialOrd, Ord)]
 pub(crate) struct ChunkKey {
     pub block: Digest32,

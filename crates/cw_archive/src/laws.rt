@@ -12,8 +12,8 @@ ghost use Rattle.cw_archive.specs.Showing.{Shows};
 
 use cw_rules_coded::coded_laws;
 
-/// What an archive gives back is the one block of whose bytes' codeword the chunks of least index are
-/// rows, and which the commitment names.
+/// What an archive gives back is the one block of whose bytes' codeword the chunks of least index
+/// are rows, and which the commitment names.
 pub fn archives_show()
     // the chunks of least index are of different indices
     ensures apart { (c : Commitment) (kept : List KeptChunk) → AreApart (least_chunks c kept) }

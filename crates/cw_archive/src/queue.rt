@@ -1,6 +1,7 @@
 //! Chunks in the order in which they came, found by commitment and index.
 
-ghost use Rattle.std.specs.Prelude.{◌<◌, ◌≡◌, [], IsFalse, None, OnErr, OnOk, Some, drop, length, slice_get};
+ghost use Rattle.std.specs.Prelude.{◌<◌, ◌≡◌, [], IsFalse, None, OnErr, OnOk, Some, drop, length};
+ghost use Rattle.std.specs.Prelude.{slice_get};
 ghost use Rattle.std.specs.List.{AllByRecursion};
 ghost use Rattle.std.specs.Option.{option_copied, option_map};
 ghost use Rattle.cw_archive.specs.Archived.{chunk_at};

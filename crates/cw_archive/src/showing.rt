@@ -1,6 +1,7 @@
 //! The block that chunks give back.
 
-ghost use Rattle.std.specs.Prelude.{◌≡◌, ◌≢◌, ◌&&◌, IfNone, IfOk, IfSome, IsNone, map, option_and_then};
+ghost use Rattle.std.specs.Prelude.{◌≡◌, ◌≢◌, ◌&&◌, IfNone, IfOk, IfSome, IsNone, map};
+ghost use Rattle.std.specs.Prelude.{option_and_then};
 ghost use Rattle.cw_archive.specs.Archived.{if_named, least_chunks, name_of, shown_by};
 ghost use Rattle.cw_archive.specs.Showing.{AreEnough, IsOfNoBlock};
 ghost use Rattle.cw_types.specs.Encoding.{block_bytes};

@@ -1,7 +1,7 @@
 -- What stands at the front of bytes: a value and the bytes after it, or a refusal and the bytes that it leaves.
 use Rattle.std.specs.Int.{Width, w16, w32, w64, byte_len, from_be_bytes}
 use Rattle.std.specs.Prelude.{◌≡◌, ℕ, zero, suc, ◌+◌, ◌*◌, ◌-◌, ◌==◌, ◌&&◌, Bool, true, false, not, nat_lt, if◌then◌else◌, List, [], ◌∷◌, length, take, drop, Result, Ok, Err}
-use Rattle.cw_base.specs.Shards.{Shards}
+use Rattle.cw_base.specs.Counts.{Counts}
 use Rattle.cw_base.specs.declared.reader.CodecError.{CodecError}
 use Rattle.cw_base.specs.declared.reader.CodecError.TheVariants.{EndOfBuffer, InvalidVarint, Invalid, Extra, NoMemory}
 
@@ -20,20 +20,21 @@ abbrev pub IsRead : {X Y : Type 0} → (X → Y) → Result X CodecError → Lis
 IsRead view (Ok x) left read = read ≡ Ok (view x, left)
 IsRead view (Err e) left read = read ≡ Err (e, left)
 
--- a call that also takes memory may find none at any point, and then tells nothing
+-- All parts were read, and these bytes are left behind them. No format refuses for want of memory itself.
+abbrev pub IsBehind : {A : Type 0} → Reading A → List ℕ → Type 0
+IsBehind (Ok x) left = x.1 ≡ left
+IsBehind (Err e) left = e ≡ (NoMemory, left)
+
+-- A call that takes memory says that it found none only where nothing else refuses the bytes, and then it stands behind
+-- all parts; each other refusal is that of the bytes.
 abbrev pub IsRefused : {Y : Type 0} → CodecError → List ℕ → Reading Y → Type 0
-IsRefused NoMemory left read = Unit {0}
+IsRefused NoMemory left read = IsBehind read left
 IsRefused e left read = read ≡ Err (e, left)
 
 -- a call that takes memory answered what is read, as view sees it, and these bytes are left
 abbrev pub Gives : {X Y : Type 0} → (X → Y) → Result X CodecError → List ℕ → Reading Y → Type 0
 Gives view (Ok x) left read = read ≡ Ok (view x, left)
 Gives view (Err e) left read = IsRefused e left read
-
--- A reader that took memory and found none stands behind the parts that it read, and these were read whole: so it does
--- not answer want of memory where one of them is refused.
-abbrev pub IsBehind : {A : Type 0} → Reading A → List ℕ → Type 0
-IsBehind {A} read left = (x : A) × (read ≡ Ok (x, left))
 
 -- a byte
 abbrev pub byte_at : List ℕ → Reading ℕ
@@ -95,7 +96,7 @@ nonzero_at bytes = do
   if n.0 == 0 then Err (Invalid, n.1) else Ok n
 
 -- the two numbers of a config
-unfoldable pub config_at : List ℕ → Reading Shards
+unfoldable pub config_at : List ℕ → Reading Counts
 config_at bytes = do
   minimum ← nonzero_at bytes
   extra ← nonzero_at minimum.1

@@ -10,7 +10,7 @@ use Rattle.cw_base.specs.declared.reader.CodecError.{CodecError}
 use Rattle.cw_base.specs.declared.reader.CodecError.TheVariants.{EndOfBuffer, InvalidVarint, Invalid}
 use Rattle.cw_base.specs.Bytes.{be16, be32, be64, varint, varint_within}
 use Rattle.cw_base.specs.Config.{config_bytes}
-use Rattle.cw_base.specs.Shards.{Shards}
+use Rattle.cw_base.specs.Counts.{Counts}
 use Rattle.cw_base.specs.Reading.{Reading, ◌>>=◌, byte_at, bytes_at, number_at, be16_at, be32_at, be64_at, varint_from, varint_at, last_byte, low_byte, or_all_left, nonzero_at, config_at}
 
 -- every number is a byte
@@ -288,21 +288,21 @@ nonzero_reads_back = record { found = found; again = again }
     again (suc n) rest fits = rw (be16_reads_back.again (suc n) rest fits.1, eqb-suc-zero n) refl
 
 -- a config, both of whose numbers are positive numbers of two bytes
-pub record IsConfig (c : Shards) : Type 0 where
+pub record IsConfig (c : Counts) : Type 0 where
   pub minimum : IsPositive16 c.minimum
   pub extra : IsPositive16 c.extra
 
-abbrev with_extra : ℕ → ℕ × List ℕ → Reading Shards
+abbrev with_extra : ℕ → ℕ × List ℕ → Reading Counts
 with_extra m x = Ok (record { minimum = m; extra = x.0 }, x.1)
 
-abbrev with_minimum : ℕ × List ℕ → Reading Shards
+abbrev with_minimum : ℕ × List ℕ → Reading Counts
 with_minimum m = nonzero_at m.1 >>= with_extra m.0
 
 pub config_reads_back : ReadsBack config_bytes IsConfig config_at
 unfolding config_bytes config_at
 config_reads_back = record { found = found; again = again }
   where
-    found : (bytes rest : List ℕ) (c : Shards) → IsBytes bytes → nonzero_at bytes >>= with_minimum ≡ Ok (c, rest) → (bytes ≡ be16 c.minimum ++ be16 c.extra ++ rest) × IsConfig c
+    found : (bytes rest : List ℕ) (c : Counts) → IsBytes bytes → nonzero_at bytes >>= with_minimum ≡ Ok (c, rest) → (bytes ≡ be16 c.minimum ++ be16 c.extra ++ rest) × IsConfig c
     found bytes rest c fits e =
         let a = bind_ok (nonzero_at bytes) with_minimum (c, rest) e in
         let m = a.0 in
@@ -314,8 +314,8 @@ config_reads_back = record { found = found; again = again }
         let parts : bytes ≡ be16 m.0 ++ be16 x.0 ++ x.1 = first.0 ∙ ap (λ (ys : List ℕ). be16 m.0 ++ ys) second.0 ∙ sym (append_assoc (be16 m.0) (be16 x.0) x.1) in
         let whole : (bytes ≡ be16 m.0 ++ be16 x.0 ++ rest) × IsConfig (record { minimum = m.0; extra = x.0 }) =
         (rw same.1 at parts, record { minimum = first.1; extra = second.1 }) in
-        subst (λ (s : Shards). (bytes ≡ be16 s.minimum ++ be16 s.extra ++ rest) × IsConfig s) same.0 whole
+        subst (λ (s : Counts). (bytes ≡ be16 s.minimum ++ be16 s.extra ++ rest) × IsConfig s) same.0 whole
 
-    again : (c : Shards) (rest : List ℕ) → IsConfig c → nonzero_at (be16 c.minimum ++ be16 c.extra ++ rest) >>= with_minimum ≡ Ok (c, rest)
+    again : (c : Counts) (rest : List ℕ) → IsConfig c → nonzero_at (be16 c.minimum ++ be16 c.extra ++ rest) >>= with_minimum ≡ Ok (c, rest)
     again c rest fits =
         rw (append_assoc, nonzero_reads_back.again c.minimum (be16 c.extra ++ rest) fits.minimum, nonzero_reads_back.again c.extra rest fits.extra) refl

@@ -59,8 +59,8 @@ pub fn put_varint(out: &mut Vec<u8>, value: u32) -> Result<(), NoMemory>
     put_bytes(out, &bytes[..count])
 }
 
-/// What a writer answers that began where `out` had `start` bytes: refused for memory, `out` gets the
-/// bytes back that it had then.
+/// What a writer answers that began where `out` had `start` bytes: refused for memory, `out` gets
+/// the bytes back that it had then.
 ///
 /// ```text
 /// let start = out.len();

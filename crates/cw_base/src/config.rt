@@ -1,7 +1,7 @@
 //! Into how many shards a text is cut.
 
 ghost use Rattle.std.specs.Prelude.{◌≡◌, ◌+◌, ◌≤◌};
-ghost use Rattle.cw_base.specs.Config.{config_bytes, same_shards};
+ghost use Rattle.cw_base.specs.Config.{config_bytes, same_counts};
 
 use std::marker::Model;
 use std::num::NonZeroU16;
@@ -16,17 +16,21 @@ pub struct Config {
 }
 
 impl Model for Config {
-    ghost use Rattle.cw_base.specs.Shards.{Shards};
+    ghost use Rattle.cw_base.specs.Counts.{Counts};
 
-    ghost Value = { Shards };
+    ghost Value = { Counts };
 
-    ghost use Rattle.cw_base.specs.Shards.{positive, from_values};
+    ghost use Rattle.cw_base.specs.Counts.{positive, from_values};
 
     ghost view = { λ c. record { minimum = c.minimum_shards.value; extra = c.extra_shards.value } };
 
-    ghost inverse = { λ s. record { minimum_shards = positive s.minimum; extra_shards = positive s.extra } };
+    ghost inverse = { λ s. record {
+      minimum_shards = positive s.minimum;
+      extra_shards = positive s.extra;
+    } };
 
-    ghost inverse_ok = { λ a h. from_values (λ m e. record { minimum_shards = m; extra_shards = e }) a.minimum_shards a.extra_shards };
+    ghost inverse_ok = { λ a h. from_values
+        (λ m e. record { minimum_shards = m; extra_shards = e }) a.minimum_shards a.extra_shards };
 }
 
 impl Config {
@@ -58,7 +62,7 @@ impl Config {
 
     /// Whether the two have the same numbers.
     pub fn is_same(&self, other: &Config) -> bool
-        ensures { result ≡ same_shards self.now other.now }
+        ensures { result ≡ same_counts self.now other.now }
     {
         self.minimum_shards.get() == other.minimum_shards.get()
             && self.extra_shards.get() == other.extra_shards.get()

@@ -1,6 +1,7 @@
 //! Digests, and the hash functions that give them.
 
-ghost use Rattle.std.specs.Prelude.{◌≡◌, ◌↔◌, ℕ, ◌%◌, ◌^◌, ◌++◌, List, length, replicate, sum, IfOk, IfSome, IsSome, IsTrue, ◌<◌};
+ghost use Rattle.std.specs.Prelude.{◌≡◌, ◌↔◌, ℕ, ◌%◌, ◌^◌, ◌++◌, List, length, replicate, sum};
+ghost use Rattle.std.specs.Prelude.{IfOk, IfSome, IsSome, IsTrue, ◌<◌};
 ghost use Rattle.sha2.specs.Sha256.{sha256};
 ghost use Rattle.cw_base.specs.Hash.{sum_bytes};
 ghost use Rattle.cw_base.specs.Rows.{row_hashes};
@@ -116,13 +117,15 @@ pub trait Hasher: Send + Sync {
     ) -> Result<Vec<Self::Digest>, NoMemory>
         requires positive { 0 < width }
         requires whole_rows { length rows.now % width ≡ 0 }
-        ensures each_row { IfOk result (λ digests. digests.items ≡ row_hashes digest_of width rows.now) }
+        ensures each_row { IfOk result
+            (λ digests. digests.items ≡ row_hashes digest_of width rows.now) }
     {
         hash_rows::<Self, R, S>(rt, alloc, rows, width, strategy)
     }
 
     /// Each digest has `SIZE` bytes.
-    ghost sized: { (bytes : List ℕ) → length (Self.Digest.content (digest_of bytes)) ≡ Self.Digest.SIZE };
+    ghost sized: { (bytes : List ℕ)
+        → length (Self.Digest.content (digest_of bytes)) ≡ Self.Digest.SIZE };
 }
 
 /// SHA-256, of FIPS 180-4.

@@ -1,6 +1,7 @@
 //! Lists whose contracts speak of the items alone.
 
-ghost use Rattle.std.specs.Prelude.{◌≡◌, ◌↔◌, [], ◌∷◌, ◌++◌, take, length, IsTrue, OnOk, OnErr, IfSome, None};
+ghost use Rattle.std.specs.Prelude.{◌≡◌, ◌↔◌, [], ◌∷◌, ◌++◌, take, length, IsTrue, OnOk, OnErr};
+ghost use Rattle.std.specs.Prelude.{IfSome, None};
 
 use crate::error::NoMemory;
 use std::alloc::Global;

@@ -1,6 +1,7 @@
 //! A source and a sink over memory, whose calls fail where their maker says: the outside of tests.
 
-ghost use Rattle.std.specs.Prelude.{◌≡◌, ◌↔◌, ◌⊎◌, ◌-◌, ◌≤◌, max, min, Contains, IsErr, IfOk, OnOk, OnErr, take, drop, length, ◌++◌, [], Some};
+ghost use Rattle.std.specs.Prelude.{◌≡◌, ◌↔◌, ◌⊎◌, ◌-◌, ◌≤◌, max, min, Contains, IsErr, IfOk, OnOk};
+ghost use Rattle.std.specs.Prelude.{OnErr, take, drop, length, ◌++◌, [], Some};
 ghost use Rattle.std.specs.Io.{ReadsAtMost};
 ghost use Rattle.std.specs.Io.KnownBytes.{ReadConsumes, WriteAppends};
 ghost use Rattle.cw_base.specs.Causes.{HasCause};
@@ -41,11 +42,18 @@ impl Model for MemorySource {
 }
 
 impl MemorySource {
-    /// A source that gives at most `piece` bytes a call, at least one. The calls whose numbers, counted
-    /// from 1, stand in `failing` fail, and no others.
+    /// A source that gives at most `piece` bytes a call, at least one. The calls whose numbers,
+    /// counted from 1, stand in `failing` fail, and no others.
     pub fn new(bytes: Vec<u8>, piece: usize, failing: Vec<u64>) -> MemorySource
         requires { 1 ≤ piece }
-        ensures { result ≡ record { left = bytes.items; piece = piece; failing = failing.items; calls = 0; faults = 0 } }
+        ensures { result
+            ≡ record {
+              left = bytes.items;
+              piece = piece;
+              failing = failing.items;
+              calls = 0;
+              faults = 0;
+            } }
     {
         MemorySource {
             bytes,
@@ -65,10 +73,18 @@ impl Source for MemorySource {
 
     fn take(&mut self, room: &mut [u8]) -> Result<usize, Failed>
         ensures fails { IsErr result ↔ Contains self.old.failing (counted self.old.calls) }
-        ensures count { IfOk result (λ n. n ≡ min (min self.old.piece (length room.old)) (length self.old.left)) }
+        ensures count { IfOk result
+            (λ n. n ≡ min (min self.old.piece (length room.old)) (length self.old.left)) }
         ensures given { IfOk result (λ n. take n room.new ≡ take n self.old.left) }
-        ensures ok { IfOk result (λ n. self.new ≡ record self.old { left = drop n self.old.left; calls = counted self.old.calls }) }
-        ensures err { OnErr result (self.new ≡ record self.old { calls = counted self.old.calls; faults = counted self.old.faults }) }
+        ensures ok { IfOk result
+            (λ n. self.new
+            ≡ record self.old { left = drop n self.old.left; calls = counted self.old.calls }) }
+        ensures err { OnErr result
+            (self.new
+            ≡ record self.old {
+              calls = counted self.old.calls;
+              faults = counted self.old.faults;
+            }) }
 
         // what every source promises
         ensures bound { ReadsAtMost result room.new }
@@ -119,11 +135,20 @@ impl Model for MemorySink {
 }
 
 impl MemorySink {
-    /// An empty sink with room for 1,024 bytes, that takes at most `piece` bytes a call, at least one.
-    /// The calls whose numbers, counted from 1, stand in `failing` fail.
+    /// An empty sink with room for 1,024 bytes, that takes at most `piece` bytes a call, at least
+    /// one. The calls whose numbers, counted from 1, stand in `failing` fail.
     pub fn new(alloc: Global, piece: usize, failing: Vec<u64>) -> Result<MemorySink, NoMemory>
         requires { 1 ≤ piece }
-        ensures { IfOk result (λ s. s ≡ record { held = []; room = 1024; piece = piece; failing = failing.items; calls = 0; faults = 0 }) }
+        ensures { IfOk result
+            (λ s. s
+            ≡ record {
+              held = [];
+              room = 1024;
+              piece = piece;
+              failing = failing.items;
+              calls = 0;
+              faults = 0;
+            }) }
     {
         Ok(MemorySink {
             bytes: Vec::with_capacity(alloc, 1024)?,
@@ -142,7 +167,8 @@ impl MemorySink {
         &self.bytes
     }
 
-    /// Makes room for at least `more` bytes beyond those taken. Where memory is short nothing changes.
+    /// Makes room for at least `more` bytes beyond those taken. Where memory is short nothing
+    /// changes.
     pub fn reserve(&mut self, more: usize) -> Result<(), NoMemory>
         ensures ok { OnOk result (self.new ≡ record self.old { room = max self.old.room more }) }
         ensures err { OnErr result (self.new ≡ self.old) }
@@ -159,10 +185,23 @@ impl Sink for MemorySink {
     ghost faults = { λ s. s.faults };
 
     fn put(&mut self, bytes: &[u8]) -> Result<usize, Failed>
-        ensures fails { IsErr result ↔ (Contains self.old.failing (counted self.old.calls) ⊎ IsFull self.old bytes.now) }
-        ensures count { IfOk result (λ n. n ≡ min (min self.old.piece (length bytes.now)) self.old.room) }
-        ensures ok { IfOk result (λ n. self.new ≡ record self.old { held = self.old.held ++ take n bytes.now; room = self.old.room - n; calls = counted self.old.calls }) }
-        ensures err { OnErr result (self.new ≡ record self.old { calls = counted self.old.calls; faults = counted self.old.faults }) }
+        ensures fails { IsErr result ↔ (Contains self.old.failing (counted self.old.calls)
+            ⊎ IsFull self.old bytes.now) }
+        ensures count { IfOk result
+            (λ n. n ≡ min (min self.old.piece (length bytes.now)) self.old.room) }
+        ensures ok { IfOk result
+            (λ n. self.new
+            ≡ record self.old {
+              held = self.old.held ++ take n bytes.now;
+              room = self.old.room - n;
+              calls = counted self.old.calls;
+            }) }
+        ensures err { OnErr result
+            (self.new
+            ≡ record self.old {
+              calls = counted self.old.calls;
+              faults = counted self.old.faults;
+            }) }
 
         // what every sink promises
         ensures bound { TakesSome result bytes.now }

@@ -1,8 +1,10 @@
 //! Reading at the front of a byte slice.
 
-ghost use Rattle.std.specs.Prelude.{◌≡◌, ◌↔◌, ℕ, ◌+◌, ◌*◌, ◌^◌, ◌<◌, ◌≤◌, Bool, List, MatchResult, IfOk, Ok, Err};
+ghost use Rattle.std.specs.Prelude.{◌≡◌, ◌↔◌, ℕ, ◌+◌, ◌*◌, ◌^◌, ◌<◌, ◌≤◌, Bool, List, MatchResult};
+ghost use Rattle.std.specs.Prelude.{IfOk, Ok, Err};
 ghost use Rattle.cw_base.specs.Ends.{IsEnd};
-ghost use Rattle.cw_base.specs.Reading.{IsRead, byte_at, bytes_at, be16_at, be32_at, be64_at, varint_at, varint_from, end_at, config_at, nonzero_at};
+ghost use Rattle.cw_base.specs.Reading.{IsRead, byte_at, bytes_at, be16_at, be32_at, be64_at};
+ghost use Rattle.cw_base.specs.Reading.{varint_at, varint_from, end_at, config_at, nonzero_at};
 ghost use Rattle.cw_base.specs.declared.reader.CodecError.TheVariants as codec;
 
 use crate::config::Config;

@@ -2,7 +2,8 @@
 
 ghost use Rattle.std.specs.Prelude.{ℕ, ◌≡◌, ◌<◌, ◌^◌, [], ◌∷◌, List, length};
 ghost use Rattle.cw_base.specs.Bytes.{be16, be32, be64, varint};
-ghost use Rattle.cw_base.specs.Reading.{byte_at, bytes_at, be16_at, be32_at, be64_at, varint_at, config_at};
+ghost use Rattle.cw_base.specs.Reading.{byte_at, bytes_at, be16_at, be32_at, be64_at, varint_at};
+ghost use Rattle.cw_base.specs.Reading.{config_at};
 ghost use Rattle.cw_base.specs.Config.{config_bytes};
 ghost use Rattle.cw_base.specs.ReadingLaws.{ReadsBack, IsConfig};
 

@@ -1,6 +1,7 @@
 //! Hashing rows of one width that stand end to end.
 
-ghost use Rattle.std.specs.Prelude.{◌≡◌, ℕ, ◌+◌, ◌*◌, ◌/◌, ◌%◌, ◌<◌, ◌≤◌, length, take, drop, map, IfOk};
+ghost use Rattle.std.specs.Prelude.{◌≡◌, ℕ, ◌+◌, ◌*◌, ◌/◌, ◌%◌, ◌<◌, ◌≤◌, length, take, drop, map};
+ghost use Rattle.std.specs.Prelude.{IfOk};
 ghost use Rattle.cw_base.specs.Rows.{listed, row_hashes};
 
 use crate::error::NoMemory;
@@ -12,7 +13,9 @@ use std::thread::Threads;
 // The rows, as slices.
 fn rows_of(alloc: Global, rows: &[u8], width: usize) -> Result<Vec<&[u8]>, NoMemory>
     requires { 0 < width }
-    ensures { IfOk result (λ v. map (λ row. row.now) v.items ≡ listed (length rows.now / width) (λ i. take width (drop (i * width) rows.now))) }
+    ensures { IfOk result
+        (λ v. map (λ row. row.now) v.items ≡ listed (length rows.now / width)
+        (λ i. take width (drop (i * width) rows.now))) }
 {
     let mut slices = Vec::new(alloc);
     for i in 0..rows.len() / width {

@@ -24,9 +24,9 @@ pub trait Strategy: Sync {
 
     /// What `f` answers for each item, in the order of the items.
     ///
-    /// The items are cut into as many runs as the smaller of `pieces` and their number, as [`run_of`]
-    /// says, and run i is piece i. Each run but the last goes to a thread of its own, or to the
-    /// caller's where none can be started.
+    /// The items are cut into as many runs as the smaller of `pieces` and their number, as
+    /// [`run_of`] says, and run i is piece i. Each run but the last goes to a thread of its own, or
+    /// to the caller's where none can be started.
     final fn map<R: thread::Threads + Sync, T: Sync, X: Send + Drop, F: Fn(&T) -> X + Sync>(
         &self,
         rt: &R,
@@ -60,8 +60,8 @@ impl Strategy for Sequential {
     fn arrive(&self, _piece: usize) {}
 }
 
-/// The first item of a run, and the item after its last, where so many items are cut in order into so
-/// many pieces as even as can be, earlier runs longer by one. Items and runs are counted from 0.
+/// The first item of a run, and the item after its last, where so many items are cut in order into
+/// so many pieces as even as can be, earlier runs longer by one. Items and runs are counted from 0.
 #[tactic(auto, using(crate::proofs::Runs::runs), unfolding(crate::specs::Runs::run_start))]
 pub fn run_of(items: usize, pieces: usize, piece: usize) -> (usize, usize)
     requires { piece < pieces }
@@ -116,8 +116,8 @@ fn map_piece<S: Strategy, T, X: Drop, F: Fn(&T) -> X>(
     map_run(alloc, items, f)
 }
 
-// A piece on a thread of its own, beside those behind it: `rest` are the items from its first on, of
-// so many in all.
+// A piece on a thread of its own, beside those behind it: `rest` are the items from its first on,
+// of so many in all.
 fn map_pieces<
     R: thread::Threads + Sync,
     S: Strategy,
@@ -148,12 +148,15 @@ fn map_pieces<
         rt,
         || -> Result<Vec<X>, NoMemory>
             requires { AcceptsItems F.Fn f.now head.now }
-            ensures { IfOk result (λ answers. GivesItems F.Fn f.entry.now head.entry.now answers.items) }
+            ensures { IfOk result
+                (λ answers. GivesItems F.Fn f.entry.now head.entry.now answers.items) }
         { map_piece(strategy, alloc, head, piece, f) },
         || -> Result<Vec<X>, NoMemory>
             requires { IsSync R.row × (piece + 1 < pieces)
-                × (length tail.now ≡ total - run_start total pieces (piece + 1)) × AcceptsItems F.Fn f.now tail.now }
-            ensures { IfOk result (λ answers. GivesItems F.Fn f.entry.now tail.entry.now answers.items) }
+                × (length tail.now ≡ total - run_start total pieces (piece + 1))
+                × AcceptsItems F.Fn f.now tail.now }
+            ensures { IfOk result
+                (λ answers. GivesItems F.Fn f.entry.now tail.entry.now answers.items) }
         { map_pieces(rt, strategy, alloc, tail, total, pieces, piece + 1, f) },
     );
     let mut answers = own?;

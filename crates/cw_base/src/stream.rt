@@ -10,8 +10,8 @@ use crate::error::Failed;
 
 /// Gives bytes until its end.
 ///
-/// A source counts its faults. The count never falls, and a call fails only where it rose (or stands
-/// at the end of a `u64`).
+/// A source counts its faults. The count never falls, and a call fails only where it rose (or
+/// stands at the end of a `u64`).
 pub trait Source {
     /// The bytes that are left, where it tells them.
     ghost left: { Self → Option (List ℕ) };
@@ -19,8 +19,8 @@ pub trait Source {
     /// How often it has failed.
     ghost faults: { Self → ℕ };
 
-    /// Fills a front of `room` and answers its length. Zero for a room that is not empty is the end of
-    /// the input.
+    /// Fills a front of `room` and answers its length. Zero for a room that is not empty is the end
+    /// of the input.
     fn take(&mut self, room: &mut [u8]) -> Result<usize, Failed>
         ensures bound { ReadsAtMost result room.new }
         ensures bytes { ReadConsumes (left self.old) (left self.new) result room.new }
@@ -37,7 +37,8 @@ pub trait Sink {
     /// How often it has failed.
     ghost faults: { Self → ℕ };
 
-    /// Takes a prefix of `bytes` and answers its length, at least one for a piece that is not empty.
+    /// Takes a prefix of `bytes` and answers its length, at least one for a piece that is not
+    /// empty.
     fn put(&mut self, bytes: &[u8]) -> Result<usize, Failed>
         ensures bound { TakesSome result bytes.now }
         ensures bytes { WriteAppends (held self.old) (held self.new) result bytes.now }

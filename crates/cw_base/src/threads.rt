@@ -7,8 +7,9 @@ use std::marker::Model;
 
 /// What a worker goes through before its piece.
 ///
-/// Where threads can be started the workers of one map are beside each other, so a gate may hold one
-/// until another arrives. It has to end where they come one behind the other, as without threads.
+/// Where threads can be started the workers of one map are beside each other, so a gate may hold
+/// one until another arrives. It has to end where they come one behind the other, as without
+/// threads.
 pub trait Gate: Sync {
     /// Called by the worker of a piece, before the piece. Pieces are counted from 0.
     fn arrive(&self, piece: usize);
@@ -29,8 +30,8 @@ impl<G: Gate> Gate for &G {
     }
 }
 
-/// Each piece on a thread of its own, behind a gate; the last on the caller's thread, and each on the
-/// caller's where no thread can be started. A contract sees the number of pieces.
+/// Each piece on a thread of its own, behind a gate; the last on the caller's thread, and each on
+/// the caller's where no thread can be started. A contract sees the number of pieces.
 ///
 /// ```text
 /// let strategy = Threads::new(4, NoGate);

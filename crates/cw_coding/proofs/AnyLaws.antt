@@ -3,7 +3,7 @@ use Rattle.std.proofs.Common.{◌≡◌, ℕ, ◌-◌, ◌*◌, ◌%◌, ◌^◌
 use Rattle.std.proofs.lemmas.List.{get_or-take, length-take-le, length-map, take-map, get_or_default}
 use Rattle.std.proofs.lemmas.List.Elements.{All-take}
 use Rattle.std.proofs.lemmas.Option.{slice_get_within, get_or_from_slice_get}
-use Rattle.cw_base.specs.Shards.{Shards}
+use Rattle.cw_base.specs.Counts.{Counts}
 use Rattle.rs_code.specs.Codeword.{ArePoints}
 use Rattle.rs_code.specs.Indices.{AreSound}
 use Rattle.rs_code.specs.Rows.{joined, code_row, OriginalsComeFirst, RowsFixCodeword}
@@ -51,7 +51,7 @@ same_by_rows law fix k first second P some small a b fb sb points agree =
     law k width (layout k second) (omega arith) (record { even = even; long = length-layout k second some; bytes = bytes_layout k second sb }) in
     same_text k first second (layout k second) a b (sym one ∙ joined_same k _ _ (λ s l. all s) ∙ two) refl
 
-module _ {D : Type 0} (hash : List ℕ → D) (content : D → List ℕ) (c : Shards) (text : List ℕ) (root : D) where
+module _ {D : Type 0} (hash : List ℕ → D) (content : D → List ℕ) (c : Counts) (text : List ℕ) (root : D) where
   -- the place of a chunk that is refused, beside what is known of it
   misfits : (chunks : List (Checked D)) (w : ℕ) (e : ReedSolomonError) → All (IsChunkOf c text root) chunks → All (λ x. length x.shard ≡ w) chunks →
       AreSound (total_of c) (indices_of chunks) → IsFirstMisfit (total_of c) root w chunks e → ⊥

@@ -3,7 +3,7 @@ use Rattle.std.proofs.Common.{◌≡◌, ◌≢◌, ℕ, suc, zero, ◌+◌, ◌
 use Rattle.std.proofs.lemmas.List.{take_more, take_all}
 use denote.Param.Members.{Shared}
 use Rattle.std.specs.Fn.{FnReturnsAt}
-use Rattle.cw_base.specs.Shards.{Shards}
+use Rattle.cw_base.specs.Counts.{Counts}
 use Rattle.cw_base.specs.Mapping.{GivesItems}
 use Rattle.cw_tree.specs.Chunks.{Piece}
 use Rattle.cw_coding.specs.declared.error.ReedSolomonError.{ReedSolomonError}
@@ -11,7 +11,7 @@ use Rattle.cw_coding.specs.declared.error.ReedSolomonError.TheVariants.{NoMemory
 use Rattle.cw_coding.specs.Checked.{Checked}
 use Rattle.cw_coding.specs.Checking.{Stands, AllStand, Checks, AllCheck}
 
-module _ {D : Type 0} (hash : List ℕ → D) (content : D → List ℕ) (c : Shards) (root : D) where
+module _ {D : Type 0} (hash : List ℕ → D) (content : D → List ℕ) (c : Counts) (root : D) where
   -- what a map answers to chunks at their indices
   pub stood : {F : Type 0} (g : Shared F (Bor (ℕ × Bor (Piece D)) × Unit {0}) (Result D ReedSolomonError)) (f : F) →
       ((x : ℕ × Bor (Piece D)) (r : Result D ReedSolomonError) → FnReturnsAt g f x r → Stands hash content c root x.0 x.1.now r) →

@@ -1,7 +1,7 @@
 -- The chunks of an encoding check, are no larger than they may be, and are in their format.
 use Rattle.std.proofs.Common.{◌≡◌, ℕ, suc, zero, ◌+◌, ◌-◌, ◌*◌, ◌%◌, ◌^◌, ◌<◌, ◌≤◌, List, [], ◌∷◌, length, map, min, get_or, slice_get, inl, inr, Some, refl, sym, ap, subst, ◌∙◌, arith}
 use Rattle.std.proofs.lemmas.Option.{slice_get_within, get_or_from_slice_get}
-use Rattle.cw_base.specs.Shards.{Shards}
+use Rattle.cw_base.specs.Counts.{Counts}
 use Rattle.std.proofs.lemmas.Bool.{cases_lt}
 use Rattle.std.proofs.lemmas.List.{get_or_append_left, get_or_push, length-map}
 use Rattle.std.proofs.Math.Nat.{le-min}
@@ -9,7 +9,8 @@ use Rattle.cw_base.specs.Rows.{listed, length-listed}
 use Rattle.cw_tree.specs.Chunks.{Piece}
 use Rattle.cw_tree.specs.Formats.{chunk_bytes, widest, piece_of_bytes}
 use Rattle.cw_tree.specs.FormatLaws.{AreDigests, FitsChunk}
-use Rattle.cw_tree.specs.Sizes.{AreSized, chunk_bytes-le, sized_path}
+use Rattle.cw_tree.specs.Sizes.{AreSized}
+use Rattle.cw_tree.proofs.Bounds.{chunk_bytes-le, sized_path}
 use Rattle.cw_tree.specs.Tree.{root_of, root_by, path_of}
 use Rattle.cw_tree.specs.TreeRoots.{IsHeight, root_by-path_of, path_of-le}
 use Rattle.cw_tree.specs.Widths.{shard_len}
@@ -43,7 +44,7 @@ digests_of : {D : Type 0} (content : D → List ℕ) (size : ℕ) (ds : List D) 
 digests_of content size [] sized = tt
 digests_of content size (d ∷ ds) sized = (sized.0, digests_of content size ds sized.1)
 
-module _ {D : Type 0} (hash : List ℕ → D) (content : D → List ℕ) (c : Shards) (text : List ℕ) (root : D) (pieces : List (Piece D))
+module _ {D : Type 0} (hash : List ℕ → D) (content : D → List ℕ) (c : Counts) (text : List ℕ) (root : D) (pieces : List (Piece D))
     (some : 1 ≤ c.minimum) (e : IsEncoding hash content c text root pieces) (i : ℕ) (p : Piece D) (at : slice_get pieces i ≡ Some p) where
   place : (i < total_of c) × (p ≡ piece_of hash content c text i)
   place = listed_get (total_of c) (piece_of hash content c text) i p (rw e.each at at)

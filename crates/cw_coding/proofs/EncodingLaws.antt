@@ -1,6 +1,6 @@
 -- What a text is encoded to.
 use Rattle.std.proofs.Common.{◌≡◌, ℕ, ◌+◌, ◌<◌, ◌≤◌, List, length, sym, ap, ◌∙◌, arith, refl, Some}
-use Rattle.cw_base.specs.Shards.{Shards}
+use Rattle.cw_base.specs.Counts.{Counts}
 use Rattle.cw_base.specs.Rows.{listed, listed_same, length-listed, row_hashes}
 use Rattle.rs_code.specs.Rows.{joined, row_of}
 use Rattle.cw_tree.specs.Chunks.{Piece}
@@ -11,7 +11,7 @@ use Rattle.cw_coding.specs.Totals.{total_of}
 use Rattle.cw_coding.specs.Encoding.{IsCodable, IsEncoding, piece_of}
 use Rattle.cw_coding.proofs.LayoutLaws.{text_hashes, row_of-text}
 
-pub encoding_is : {D : Type 0} (hash : List ℕ → D) (content : D → List ℕ) (c : Shards) (text : List ℕ) (root : D) (total width : ℕ)
+pub encoding_is : {D : Type 0} (hash : List ℕ → D) (content : D → List ℕ) (c : Counts) (text : List ℕ) (root : D) (total width : ℕ)
     (rows rows' shared : List ℕ) (tree : List D) (chunks : List (Piece D)) →
     1 ≤ c.minimum → total ≡ total_of c → total ≤ 65535 → IsCodable c (length text) → width ≡ shard_len (length text) c.minimum →
     rows ≡ joined (c.minimum + c.extra) (row_at c.minimum text) → rows' ≡ rows → shared ≡ rows →

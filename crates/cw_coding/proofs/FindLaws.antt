@@ -1,7 +1,7 @@
 -- Two encodings under one root: where their shards differ first, and what that gives.
 use Rattle.std.proofs.Common.{◌≡◌, ◌≢◌, ℕ, ◌<◌, ◌≤◌, List, length, get_or, slice_get, Some, refl, sym, ap, subst, ◌∙◌, arith}
 use Rattle.std.proofs.lemmas.Option.{slice_get_read}
-use Rattle.cw_base.specs.Shards.{Shards}
+use Rattle.cw_base.specs.Counts.{Counts}
 use Rattle.cw_base.specs.Rows.{listed, length-listed}
 use Rattle.rs_code.specs.Codeword.{ArePoints}
 use Rattle.rs_code.specs.Rows.{OriginalsComeFirst, RowsFixCodeword}
@@ -13,7 +13,7 @@ use Rattle.cw_coding.specs.Totals.{total_of}
 use Rattle.cw_coding.proofs.AnyLaws.{same_by_rows}
 use Rattle.cw_coding.proofs.CheckingLaws.{checks, listed_at, listed_get}
 
-module _ {D : Type 0} (hash : List ℕ → D) (content : D → List ℕ) (c : Shards) where
+module _ {D : Type 0} (hash : List ℕ → D) (content : D → List ℕ) (c : Counts) where
   pub length-encoding : (text : List ℕ) (root : D) (pieces : List (Piece D)) → IsEncoding hash content c text root pieces → length pieces ≡ total_of c
   length-encoding text root pieces e = ap length e.each ∙ length-listed (total_of c) (piece_of hash content c text)
 

@@ -6,7 +6,7 @@ use Rattle.std.proofs.lemmas.List.Elements.{All-append}
 use Rattle.rs_code.specs.Rows.{row_of}
 use Rattle.rs_code.specs.Indices.{AreSound}
 use Rattle.cw_coding.specs.Checked.{Checked}
-use Rattle.cw_base.specs.Shards.{Shards}
+use Rattle.cw_base.specs.Counts.{Counts}
 use Rattle.cw_coding.specs.Layout.{row_at}
 use Rattle.cw_coding.proofs.IndexLaws.{sound_split}
 use Rattle.cw_coding.specs.Decoding.{indices_of, in_order, compared, width_of, AreDecodable, IsDecoding, Fits}
@@ -111,7 +111,7 @@ pub length-indices : {D : Type 0} (k : ℕ) (cs : List (Checked D)) → length (
 length-indices {D = D} k cs = length-map (in_order k cs) (λ (c : Checked D). c.index) ∙ length-in_order k cs
 
 -- what rows come of, and what chunks are decoded to
-pub decoding_from : {D : Type 0} (hash : List ℕ → D) (content : D → List ℕ) (c : Shards) (root : D) (chunks : List (Checked D))
+pub decoding_from : {D : Type 0} (hash : List ℕ → D) (content : D → List ℕ) (c : Counts) (root : D) (chunks : List (Checked D))
     (k m width n : ℕ) (indices rows text : List ℕ) → AreDecodable c root chunks →
     k ≡ c.minimum → m ≡ c.extra → width ≡ width_of chunks → indices ≡ indices_of (in_order k chunks) →
     rows ≡ flat_map (λ c. c.shard) (in_order k chunks) → n ≡ compared k chunks →
@@ -129,7 +129,7 @@ decoding_from {D = D} hash content c root chunks k m width n indices rows text d
       rooted = g.rooted;
     }
 
-pub fits_from : {D : Type 0} (hash : List ℕ → D) (content : D → List ℕ) (c : Shards) (root : D) (chunks : List (Checked D))
+pub fits_from : {D : Type 0} (hash : List ℕ → D) (content : D → List ℕ) (c : Counts) (root : D) (chunks : List (Checked D))
     (k m width n : ℕ) (indices rows text : List ℕ) → AreDecodable c root chunks →
     k ≡ c.minimum → m ≡ c.extra → width ≡ width_of chunks → indices ≡ indices_of (in_order k chunks) →
     rows ≡ flat_map (λ c. c.shard) (in_order k chunks) → n ≡ compared k chunks →
@@ -147,7 +147,7 @@ fits_from {D = D} hash content c root chunks k m width n indices rows text d ek 
     } in
     rw (ei, er, en, ek, em, ew) g
 
-pub rows_long_of : {D : Type 0} (c : Shards) (root : D) (chunks : List (Checked D)) (k width : ℕ) (indices rows : List ℕ) → AreDecodable c root chunks →
+pub rows_long_of : {D : Type 0} (c : Counts) (root : D) (chunks : List (Checked D)) (k width : ℕ) (indices rows : List ℕ) → AreDecodable c root chunks →
     width ≡ width_of chunks → indices ≡ indices_of (in_order k chunks) → rows ≡ flat_map (λ c. c.shard) (in_order k chunks) →
     length rows ≡ length indices * width
 rows_long_of c root chunks k width indices rows d ew ei er =

@@ -1,7 +1,7 @@
 -- Where the hashing of two texts of one root meets.
 use Rattle.std.specs.Prelude.{◌≡◌, ◌≢◌, ℕ, zero, suc, ◌+◌, ◌/◌, ◌%◌, ◌<◌, ◌≤◌, ◌==◌, ◌&&◌, nat_le, Bool, if◌then◌else◌, List, [], ◌∷◌, ◌++◌, length, drop, slice_index_or, slice_get, Some}
 use Rattle.cw_base.specs.Bytes.{be32}
-use Rattle.cw_base.specs.Shards.{Shards}
+use Rattle.cw_base.specs.Counts.{Counts}
 use Rattle.cw_tree.specs.Chunks.{Piece}
 use Rattle.cw_tree.specs.Tree.{root_by}
 use Rattle.cw_coding.specs.Encoding.{piece_of, root_of_text}
@@ -59,13 +59,13 @@ abbrev pub AreAlike : {D : Type 0} → (n : ℕ) (ours theirs : List (Piece D)) 
 AreAlike {D} n ours theirs = (i : ℕ) (p q : Piece D) → i < n → slice_get ours i ≡ Some p → slice_get theirs i ≡ Some q → p.shard ≡ q.shard
 
 -- the lowest index at which two texts have different shards
-pub record IsFirstDifference (c : Shards) (first second : List ℕ) (index : ℕ) : Type 0 where
+pub record IsFirstDifference (c : Counts) (first second : List ℕ) (index : ℕ) : Type 0 where
   pub within : index < total_of c
   pub differ : row_at c.minimum first index ≢ row_at c.minimum second index
   pub before : (i : ℕ) → i < index → row_at c.minimum first i ≡ row_at c.minimum second i
 
 -- where two texts of one root clash: first on the ways up from the lowest index of different shards
-pub record AreClash {D : Type 0} (hash : List ℕ → D) (content : D → List ℕ) (c : Shards) (first second one other : List ℕ) : Type 0 where
+pub record AreClash {D : Type 0} (hash : List ℕ → D) (content : D → List ℕ) (c : Counts) (first second one other : List ℕ) : Type 0 where
   pub texts : first ≢ second
   pub one_root : root_of_text hash content c first ≡ root_of_text hash content c second
   pub index : ℕ

@@ -1,6 +1,6 @@
 -- What chunks are decoded, and to what.
 use Rattle.std.specs.Prelude.{◌≡◌, ◌≢◌, ℕ, ◌-◌, ◌^◌, ◌<◌, ◌≤◌, ◌==◌, nat_lt, not, if◌then◌else◌, ◌⊎◌, List, [], ◌∷◌, ◌++◌, length, take, map, filter, All, Contains, Some, slice_get, slice_index}
-use Rattle.cw_base.specs.Shards.{Shards}
+use Rattle.cw_base.specs.Counts.{Counts}
 use Rattle.rs_code.specs.Rows.{row_of}
 use Rattle.rs_code.specs.Indices.{AreSound}
 use Rattle.cw_coding.specs.Checked.{Checked}
@@ -44,7 +44,7 @@ width_of [] = 0
 width_of (c ∷ _) = length c.shard
 
 -- chunks that are decoded, if they come of a text
-pub record AreDecodable {D : Type 0} (c : Shards) (root : D) (chunks : List (Checked D)) : Type 0 where
+pub record AreDecodable {D : Type 0} (c : Counts) (root : D) (chunks : List (Checked D)) : Type 0 where
   pub total : total_of c ≤ 65535
   pub some : 0 < length chunks
   pub width : IsWidth (total_of c) (width_of chunks)
@@ -52,13 +52,13 @@ pub record AreDecodable {D : Type 0} (c : Shards) (root : D) (chunks : List (Che
   pub enough : c.minimum ≤ length chunks
 
 -- too few chunks, all of which fit together
-pub record AreTooFew {D : Type 0} (c : Shards) (root : D) (chunks : List (Checked D)) : Type 0 where
+pub record AreTooFew {D : Type 0} (c : Counts) (root : D) (chunks : List (Checked D)) : Type 0 where
   pub width : IsWidth (total_of c) (width_of chunks)
   pub fit : FitTogether (total_of c) root (width_of chunks) chunks
   pub few : length chunks < c.minimum
 
 -- why chunks are refused before anything is decoded: the first cause
-abbrev pub IsChunkRefusal : {D : Type 0} → (c : Shards) (root : D) (chunks : List (Checked D)) → ReedSolomonError → Type 0
+abbrev pub IsChunkRefusal : {D : Type 0} → (c : Counts) (root : D) (chunks : List (Checked D)) → ReedSolomonError → Type 0
 IsChunkRefusal c root chunks (TooManyTotalShards n) = (n ≡ total_of c) × (65535 < total_of c)
 IsChunkRefusal c root chunks NotEnoughChunks = (total_of c ≤ 65535) × ((length chunks ≡ 0) ⊎ AreTooFew c root chunks)
 IsChunkRefusal c root chunks (ReedSolomon (InvalidShardSize n)) =
@@ -75,7 +75,7 @@ abbrev pub compared : {D : Type 0} → (k : ℕ) → List (Checked D) → ℕ
 compared k chunks = if length (filter (λ c. nat_lt c.index k) chunks) == k then length chunks else k
 
 -- the text that these chunks are decoded to
-pub record IsDecoding {D : Type 0} (hash : List ℕ → D) (content : D → List ℕ) (c : Shards) (root : D) (chunks : List (Checked D)) (text : List ℕ) : Type 0 where
+pub record IsDecoding {D : Type 0} (hash : List ℕ → D) (content : D → List ℕ) (c : Counts) (root : D) (chunks : List (Checked D)) (text : List ℕ) : Type 0 where
   pub short : length text ≤ 2 ^ 32 - 1
   pub bytes : (i : ℕ) → slice_index text i < 256
   pub rows : All (λ x. x.shard ≡ row_at c.minimum text x.index) (take (compared c.minimum chunks) (in_order c.minimum chunks))
@@ -89,7 +89,7 @@ pub record Fits {D : Type 0} (hash : List ℕ → D) (content : D → List ℕ) 
   pub rooted : root_of hash content (row_digests hash k m text) ≡ Some root
 
 -- why chunks are refused: the first cause
-abbrev pub IsRefusal : {D : Type 0} → (hash : List ℕ → D) (content : D → List ℕ) (c : Shards) (root : D) (chunks : List (Checked D)) → ReedSolomonError → Type 0
+abbrev pub IsRefusal : {D : Type 0} → (hash : List ℕ → D) (content : D → List ℕ) (c : Counts) (root : D) (chunks : List (Checked D)) → ReedSolomonError → Type 0
 IsRefusal hash content c root chunks NoMemory = Unit {0}
 IsRefusal hash content c root chunks Inconsistent =
     IsChunkRefusal c root chunks Inconsistent

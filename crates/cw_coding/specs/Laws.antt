@@ -1,6 +1,6 @@
 -- What holds of every encoding.
 use Rattle.std.specs.Prelude.{◌≡◌, ℕ, ◌+◌, ◌*◌, ◌<◌, ◌≤◌, List, ◌++◌, length, slice_index, slice_get, Some, Ok, All}
-use Rattle.cw_base.specs.Shards.{Shards}
+use Rattle.cw_base.specs.Counts.{Counts}
 use Rattle.rs_code.specs.Indices.{AreSound}
 use Rattle.cw_tree.specs.Chunks.{Piece}
 use Rattle.cw_tree.specs.Formats.{chunk_bytes, chunk_at, widest, piece_of_bytes}
@@ -19,13 +19,13 @@ use Rattle.cw_coding.specs.Totals.{total_of}
 -- each chunk of an encoding checks at its index under the root
 abbrev pub EncodingsCheck : {D : Type 0} → (hash : List ℕ → D) (content : D → List ℕ) → Type 0
 EncodingsCheck {D} hash content =
-    (c : Shards) (text : List ℕ) (root : D) (pieces : List (Piece D)) → 1 ≤ c.minimum → IsEncoding hash content c text root pieces →
+    (c : Counts) (text : List ℕ) (root : D) (pieces : List (Piece D)) → 1 ≤ c.minimum → IsEncoding hash content c text root pieces →
     (i : ℕ) (p : Piece D) → slice_get pieces i ≡ Some p → IsUnder hash content c root i p
 
 -- each chunk of an encoding of at most `most` bytes has no more bytes than the greatest shard size
 abbrev pub EncodingsFit : {D : Type 0} → (hash : List ℕ → D) (content : D → List ℕ) (size : ℕ) → Type 0
 EncodingsFit {D} hash content size =
-    (c : Shards) (text : List ℕ) (root : D) (pieces : List (Piece D)) (most levels : ℕ) → 1 ≤ c.minimum → IsEncoding hash content c text root pieces →
+    (c : Counts) (text : List ℕ) (root : D) (pieces : List (Piece D)) (most levels : ℕ) → 1 ≤ c.minimum → IsEncoding hash content c text root pieces →
     length text ≤ most → IsHeight (total_of c) levels →
     (i : ℕ) (p : Piece D) → slice_get pieces i ≡ Some p → length (chunk_bytes content p) ≤ 12 + shard_len most c.minimum + size * levels
 
@@ -37,17 +37,17 @@ pub record IsReadBack {D : Type 0} (content : D → List ℕ) (size bound : ℕ)
 -- each chunk of an encoding of at most `most` bytes reads back, read with the maximum `most`
 abbrev pub EncodingsReadBack : {D : Type 0} → (hash : List ℕ → D) (content : D → List ℕ) (size : ℕ) → Type 0
 EncodingsReadBack {D} hash content size =
-    (c : Shards) (text : List ℕ) (root : D) (pieces : List (Piece D)) (most : ℕ) → 1 ≤ c.minimum → IsEncoding hash content c text root pieces →
+    (c : Counts) (text : List ℕ) (root : D) (pieces : List (Piece D)) (most : ℕ) → 1 ≤ c.minimum → IsEncoding hash content c text root pieces →
     length text ≤ most → (i : ℕ) (p : Piece D) → slice_get pieces i ≡ Some p → IsReadBack content size (widest c.minimum most) p
 
 -- a checked chunk that carries a row of a text
-pub record IsChunkOf {D : Type 0} (c : Shards) (text : List ℕ) (root : D) (x : Checked D) : Type 0 where
+pub record IsChunkOf {D : Type 0} (c : Counts) (text : List ℕ) (root : D) (x : Checked D) : Type 0 where
   pub rooted : x.root ≡ root
   pub within : x.index < total_of c
   pub row : x.shard ≡ row_at c.minimum text x.index
 
 -- these chunks are decoded to this text, and to no other, and aren't refused but for want of memory
-pub record AreDecodedTo {D : Type 0} (hash : List ℕ → D) (content : D → List ℕ) (c : Shards) (root : D) (chunks : List (Checked D)) (text : List ℕ) : Type 0 where
+pub record AreDecodedTo {D : Type 0} (hash : List ℕ → D) (content : D → List ℕ) (c : Counts) (root : D) (chunks : List (Checked D)) (text : List ℕ) : Type 0 where
   pub decodes : IsDecoding hash content c root chunks text
   pub alone : (other : List ℕ) → IsDecoding hash content c root chunks other → other ≡ text
   pub taken : (e : ReedSolomonError) → IsRefusal hash content c root chunks e → e ≡ NoMemory
@@ -55,7 +55,7 @@ pub record AreDecodedTo {D : Type 0} (hash : List ℕ → D) (content : D → Li
 -- any chunks of different indices of one encoding, at least the minimum, are decoded to its text
 abbrev pub AnyEnoughDecode : {D : Type 0} → (hash : List ℕ → D) (content : D → List ℕ) → Type 0
 AnyEnoughDecode {D} hash content =
-    (c : Shards) (text : List ℕ) (root : D) (pieces : List (Piece D)) (chunks : List (Checked D)) → 1 ≤ c.minimum →
+    (c : Counts) (text : List ℕ) (root : D) (pieces : List (Piece D)) (chunks : List (Checked D)) → 1 ≤ c.minimum →
     ((i : ℕ) → slice_index text i < 256) → IsEncoding hash content c text root pieces →
     All (IsChunkOf c text root) chunks → AreSound (total_of c) (indices_of chunks) → c.minimum ≤ length chunks →
     AreDecodedTo hash content c root chunks text

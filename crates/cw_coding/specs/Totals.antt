@@ -1,9 +1,9 @@
 -- How many shards a config has, and how wide they may be.
 use Rattle.std.specs.Prelude.{ℕ, ◌+◌, ◌-◌, ◌*◌, ◌^◌, ◌≤◌}
-use Rattle.cw_base.specs.Shards.{Shards}
+use Rattle.cw_base.specs.Counts.{Counts}
 
 -- how many shards an encoding has
-abbrev pub total_of : Shards → ℕ
+abbrev pub total_of : Counts → ℕ
 total_of c = c.minimum + c.extra
 
 -- a width that so many shards can have

@@ -1,7 +1,8 @@
 //! Chunks that are checked under a commitment.
 
 ghost use Rattle.std.specs.Prelude.{◌≡◌, ◌≢◌, ℕ, ◌%◌, ◌⊎◌, ◌↔◌, length, IsTrue, IfOk, IfErr, Err};
-ghost use Rattle.cw_coding.specs.Checking.{IsUnder, IsCheckRefusal, IsBadWidth, Checks, Stands, AllStand, AllCheck};
+ghost use Rattle.cw_coding.specs.Checking.{IsUnder, IsCheckRefusal, IsBadWidth, Checks, Stands};
+ghost use Rattle.cw_coding.specs.Checking.{AllStand, AllCheck};
 
 use crate::error::{ReedSolomonError, RsError};
 use bytes::Bytes;
@@ -30,9 +31,20 @@ impl<H: Hasher> Model for CheckedChunk<H> {
 
     ghost Value = { Checked H.Digest };
 
-    ghost view = { λ c. record { root = c.root; shard = c.shard; index = c.index; digest = c.digest } };
+    ghost view = { λ c. record {
+      root = c.root;
+      shard = c.shard;
+      index = c.index;
+      digest = c.digest;
+    } };
 
-    ghost inverse = { λ c. record { root = c.root; shard = c.shard; index = c.index; digest = c.digest; hasher = record {} } };
+    ghost inverse = { λ c. record {
+      root = c.root;
+      shard = c.shard;
+      index = c.index;
+      digest = c.digest;
+      hasher = record {};
+    } };
 }
 
 impl<H: Hasher> CheckedChunk<H> {
@@ -120,7 +132,14 @@ fn checked<H: Hasher>(
     shard: &Chunk<H::Digest>,
     digest: H::Digest,
 ) -> Result<CheckedChunk<H>, NoMemory>
-    ensures { IfOk result (λ c. c ≡ record { root = commitment.now; shard = shard.now.shard; index = index; digest = digest }) }
+    ensures { IfOk result
+        (λ c. c
+        ≡ record {
+          root = commitment.now;
+          shard = shard.now.shard;
+          index = index;
+          digest = digest;
+        }) }
 {
     Ok(CheckedChunk {
         root: *commitment,
@@ -158,7 +177,8 @@ fn answer<H: Hasher>(
     stood: Result<H::Digest, ReedSolomonError>,
 ) -> Result<Result<CheckedChunk<H>, ReedSolomonError>, NoMemory>
     requires { Stands H.digest_of H.Digest.content config.now commitment.now index shard.now stood }
-    ensures checks { IfOk result (λ r. Checks H.digest_of H.Digest.content config.now commitment.now index shard.now r) }
+    ensures checks { IfOk result
+        (λ r. Checks H.digest_of H.Digest.content config.now commitment.now index shard.now r) }
     ensures memory { IfOk result (λ r. r ≢ Err ReedSolomonError.NoMemory) }
 {
     match stood {
@@ -178,14 +198,17 @@ fn stand_all<H: Hasher, R: Threads + Sync, S: Strategy>(
     strategy: &S,
 ) -> Result<Vec<Result<H::Digest, ReedSolomonError>>, NoMemory>
     requires lengths { length indices.now ≡ length shards.now }
-    ensures { IfOk result (λ stood. AllStand H.digest_of H.Digest.content config.now commitment.now indices.now shards.now stood.items) }
+    ensures { IfOk result
+        (λ stood. AllStand H.digest_of H.Digest.content config.now commitment.now indices.now
+        shards.now stood.items) }
 {
     let mut items = Vec::new(alloc);
     for i in 0..shards.len() {
         items.push((indices[i], &shards[i]))?;
     }
     let stand = |item: &(u16, &Chunk<H::Digest>)| -> Result<H::Digest, ReedSolomonError>
-        ensures { Stands H.digest_of H.Digest.content config.entry.now commitment.entry.now item.now.0 item.now.1.now result }
+        ensures { Stands H.digest_of H.Digest.content config.entry.now commitment.entry.now
+            item.now.0 item.now.1.now result }
     { stands::<H>(config, commitment, item.0, item.1) };
     let stood = strategy.map(rt, alloc, &items, &stand)?;
     Ok(stood)
@@ -202,7 +225,9 @@ pub(crate) fn check_all<H: Hasher, R: Threads + Sync, S: Strategy>(
     strategy: &S,
 ) -> Result<Vec<Result<CheckedChunk<H>, ReedSolomonError>>, ReedSolomonError>
     requires lengths { length indices.now ≡ length shards.now }
-    ensures each { IfOk result (λ answers. AllCheck H.digest_of H.Digest.content config.now commitment.now indices.now shards.now answers.items) }
+    ensures each { IfOk result
+        (λ answers. AllCheck H.digest_of H.Digest.content config.now commitment.now indices.now
+        shards.now answers.items) }
     ensures memory { IfErr result (λ e. e ≡ ReedSolomonError.NoMemory) }
 {
     let stood = stand_all::<H, R, S>(rt, alloc, config, commitment, indices, shards, strategy)?;

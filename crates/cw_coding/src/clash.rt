@@ -1,9 +1,11 @@
 //! Two texts of one root, and two texts of one digest that come of them.
 
-ghost use Rattle.std.specs.Prelude.{◌≡◌, ◌≢◌, ◌⊎◌, ℕ, ◌<◌, ◌↔◌, length, slice_get, IsTrue, IfOk, IfErr, IfSome, IfNone, MatchBool, MatchOption, Some};
+ghost use Rattle.std.specs.Prelude.{◌≡◌, ◌≢◌, ◌⊎◌, ℕ, ◌<◌, ◌↔◌, length, slice_get, IsTrue, IfOk};
+ghost use Rattle.std.specs.Prelude.{IfErr, IfSome, IfNone, MatchBool, MatchOption, Some};
 ghost use Rattle.cw_tree.specs.Chunks.{Piece};
 ghost use Rattle.cw_coding.specs.Encoding.{IsEncodable, IsEncodeRefusal, root_of_text};
-ghost use Rattle.cw_coding.specs.Clash.{AreTold, AreAlike, AreRivals, AreClash, IsFirstClash, way_of};
+ghost use Rattle.cw_coding.specs.Clash.{AreTold, AreAlike, AreRivals, AreClash, IsFirstClash};
+ghost use Rattle.cw_coding.specs.Clash.{way_of};
 
 use crate::encoding::encode_text;
 use crate::error::ReedSolomonError;
@@ -20,7 +22,8 @@ fn first_difference<D>(ours: &[Chunk<D>], theirs: &[Chunk<D>]) -> Option<usize>
     requires lengths { length ours.now ≡ length theirs.now }
     ensures none { IfNone result (AreAlike (length ours.now) ours.now theirs.now) }
     ensures within { IfSome result (λ i. i < length ours.now) }
-    ensures differ { IfSome result (λ i. (p q : Piece D) → slice_get ours.now i ≡ Some p → slice_get theirs.now i ≡ Some q → p.shard ≢ q.shard) }
+    ensures differ { IfSome result (λ i. (p q : Piece D) → slice_get ours.now i ≡ Some p
+        → slice_get theirs.now i ≡ Some q → p.shard ≢ q.shard) }
     ensures before { IfSome result (λ i. AreAlike i ours.now theirs.now) }
 {
     for i in 0..ours.len() {
@@ -48,7 +51,8 @@ fn first_collision<H: Hasher>(ours: &[Items<u8>], theirs: &[Items<u8>]) -> Optio
     requires lengths { length ours.now ≡ length theirs.now }
     ensures none { IfNone result (AreTold H.digest_of (length ours.now) ours.now theirs.now) }
     ensures within { IfSome result (λ p. p < length ours.now) }
-    ensures collide { IfSome result (λ p. (a b : _) → slice_get ours.now p ≡ Some a → slice_get theirs.now p ≡ Some b →
+    ensures collide { IfSome result (λ p. (a b : _) → slice_get ours.now p ≡ Some a
+        → slice_get theirs.now p ≡ Some b →
         (a ≢ b) × (H.digest_of a ≡ H.digest_of b)) }
     ensures before { IfSome result (λ p. AreTold H.digest_of p ours.now theirs.now) }
 {
@@ -68,7 +72,8 @@ fn clash_of<H: Hasher>(
 ) -> Result<(Vec<u8>, Vec<u8>), NoMemory>
     requires { AreRivals H.digest_of H.Digest.content ours.now theirs.now }
     ensures { IfOk result (λ found. IsFirstClash H.digest_of
-        (way_of H.digest_of H.Digest.content ours.now) (way_of H.digest_of H.Digest.content theirs.now)
+        (way_of H.digest_of H.Digest.content ours.now)
+        (way_of H.digest_of H.Digest.content theirs.now)
         found.0.items found.1.items) }
 {
     let ours = way_from_chunk::<H>(alloc, ours)?;
@@ -81,12 +86,13 @@ fn clash_of<H: Hasher>(
     Ok((one, other))
 }
 
-/// Two different texts of one digest, where two different inputs have one commitment under a config.
+/// Two different texts of one digest, where two different inputs have one commitment under a
+/// config.
 ///
 /// `None` exactly where the inputs are equal or the commitments differ. Else the lowest index whose
-/// shards differ is taken; on the way from the shard up to the commitment, what is given are the first
-/// two texts that were hashed for the two inputs, differ and have one digest. So whoever shows two
-/// inputs of one commitment has broken the hash function.
+/// shards differ is taken; on the way from the shard up to the commitment, what is given are the
+/// first two texts that were hashed for the two inputs, differ and have one digest. So whoever
+/// shows two inputs of one commitment has broken the hash function.
 ///
 /// Refused as `encode` refuses `first`, and else as it refuses `second`. `NoMemory` may come at any
 /// point.
@@ -98,15 +104,20 @@ pub fn find_clash<H: Hasher, R: Threads + Sync, S: Strategy>(
     second: &[u8],
     strategy: &S,
 ) -> Result<Option<(Vec<u8>, Vec<u8>)>, ReedSolomonError>
-    ensures taken { IfOk result (λ _. IsEncodable config.now (length first.now) × IsEncodable config.now (length second.now)) }
+    ensures taken { IfOk result (λ _. IsEncodable config.now (length first.now)
+        × IsEncodable config.now (length second.now)) }
     ensures collision { IfOk result (λ found. IfSome found (λ clash.
-        (clash.0.items ≢ clash.1.items) × (H.digest_of clash.0.items ≡ H.digest_of clash.1.items))) }
+        (clash.0.items ≢ clash.1.items)
+        × (H.digest_of clash.0.items ≡ H.digest_of clash.1.items))) }
     ensures found { IfOk result (λ found. MatchOption found
         ((first.now ≡ second.now)
-        ⊎ (root_of_text H.digest_of H.Digest.content config.now first.now ≢ root_of_text H.digest_of H.Digest.content config.now second.now))
-        (λ clash. AreClash H.digest_of H.Digest.content config.now first.now second.now clash.0.items clash.1.items)) }
+        ⊎ (root_of_text H.digest_of H.Digest.content config.now first.now ≢ root_of_text H.digest_of
+        H.Digest.content config.now second.now))
+        (λ clash. AreClash H.digest_of H.Digest.content config.now first.now second.now
+        clash.0.items clash.1.items)) }
     ensures refused { IfErr result (λ e. IsEncodeRefusal config.now (length first.now) e
-        ⊎ (IsEncodable config.now (length first.now) × IsEncodeRefusal config.now (length second.now) e)) }
+        ⊎ (IsEncodable config.now (length first.now)
+        × IsEncodeRefusal config.now (length second.now) e)) }
 {
     let (root, ours) = match encode_text::<H, R, S>(rt, alloc, config, first, strategy) {
         Ok(encoded) => encoded,

@@ -24,7 +24,8 @@ fn decode_chunks<H: Hasher, R: Threads + Sync, S: Strategy>(
 ) -> Result<Vec<u8>, ReedSolomonError>
     ensures decoded { IfOk result (λ text. AreDecodable config.now commitment.now shards.now
         × IsDecoding H.digest_of H.Digest.content config.now commitment.now shards.now text.items) }
-    ensures refused { IfErr result (λ e. IsRefusal H.digest_of H.Digest.content config.now commitment.now shards.now e) }
+    ensures refused { IfErr result
+        (λ e. IsRefusal H.digest_of H.Digest.content config.now commitment.now shards.now e) }
 {
     let width = match decodable::<H>(config, commitment, shards) {
         Ok(width) => width,
@@ -58,9 +59,12 @@ pub(crate) fn decode_text<
     requires ends { IsFinite (I.remaining shards) }
     ensures decoded { IfOk result (λ text. (given : _) × Drains I.next_gives shards given
         × AreDecodable config.now commitment.now (map (λ chunk. chunk.now) given)
-        × IsDecoding H.digest_of H.Digest.content config.now commitment.now (map (λ chunk. chunk.now) given) text.items) }
-    ensures refused { IfErr result (λ e. (e ≡ ReedSolomonError.NoMemory) ⊎ ((given : _) × Drains I.next_gives shards given
-        × IsRefusal H.digest_of H.Digest.content config.now commitment.now (map (λ chunk. chunk.now) given) e)) }
+        × IsDecoding H.digest_of H.Digest.content config.now commitment.now
+        (map (λ chunk. chunk.now) given) text.items) }
+    ensures refused { IfErr result (λ e. (e ≡ ReedSolomonError.NoMemory)
+        ⊎ ((given : _) × Drains I.next_gives shards given
+        × IsRefusal H.digest_of H.Digest.content config.now commitment.now
+        (map (λ chunk. chunk.now) given) e)) }
 {
     let chunks = gathered::<H, I>(alloc, shards)?;
     decode_chunks::<H, R, S>(rt, alloc, config, commitment, &chunks, strategy)

@@ -1,6 +1,7 @@
 //! From data to chunks.
 
-ghost use Rattle.std.specs.Prelude.{◌≡◌, ℕ, ◌+◌, ◌-◌, ◌*◌, ◌^◌, ◌<◌, ◌≤◌, ◌↔◌, List, length, IfOk, IfErr, IsTrue, MatchResult};
+ghost use Rattle.std.specs.Prelude.{◌≡◌, ℕ, ◌+◌, ◌-◌, ◌*◌, ◌^◌, ◌<◌, ◌≤◌, ◌↔◌, List, length, IfOk};
+ghost use Rattle.std.specs.Prelude.{IfErr, IsTrue, MatchResult};
 ghost use Rattle.rs_code.specs.Rows.{row_of};
 ghost use Rattle.cw_base.specs.Rows.{listed, row_hashes};
 ghost use Rattle.cw_tree.specs.Tree.{path_of};
@@ -120,7 +121,8 @@ pub(crate) fn encode_text<H: Hasher, R: Threads + Sync, S: Strategy>(
     input: &[u8],
     strategy: &S,
 ) -> Result<(H::Digest, Vec<Chunk<H::Digest>>), ReedSolomonError>
-    ensures encoded { IfOk result (λ r. IsEncoding H.digest_of H.Digest.content config.now input.now r.0 r.1.items) }
+    ensures encoded { IfOk result
+        (λ r. IsEncoding H.digest_of H.Digest.content config.now input.now r.0 r.1.items) }
     ensures refused { IfErr result (λ e. IsEncodeRefusal config.now (length input.now) e) }
     ensures some { IfOk result (λ _. 1 ≤ config.now.minimum) }
 {

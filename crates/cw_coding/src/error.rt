@@ -51,6 +51,8 @@ pub enum ReedSolomonError {
 }
 
 impl From<RsError> for ReedSolomonError {
+    ghost from_gives = { λ refused e. e ≡ error.ReedSolomon refused };
+
     fn from(error: RsError) -> ReedSolomonError {
         ReedSolomonError::ReedSolomon(error)
     }

@@ -1,10 +1,13 @@
 //! The chunks that are decoded: which fit together, and in which order they are used.
 
-ghost use Rattle.std.specs.Prelude.{◌≡◌, ℕ, ◌+◌, ◌-◌, ◌*◌, ◌^◌, ◌<◌, ◌≤◌, ◌==◌, [], ◌∷◌, ◌++◌, ◌↔◌, List, length, take, map, filter, nat_lt, not, if◌then◌else◌, IfOk, OnOk, IsTrue, MatchResult, Contains};
+ghost use Rattle.std.specs.Prelude.{◌≡◌, ℕ, ◌+◌, ◌-◌, ◌*◌, ◌^◌, ◌<◌, ◌≤◌, ◌==◌, [], ◌∷◌, ◌++◌, ◌↔◌};
+ghost use Rattle.std.specs.Prelude.{List, length, take, map, filter, nat_lt, not, if◌then◌else◌};
+ghost use Rattle.std.specs.Prelude.{IfOk, OnOk, IsTrue, MatchResult, Contains};
 ghost use Rattle.std.specs.List.{flat_map};
 ghost use Rattle.std.specs.Iterator.{IsFinite, Drains};
 ghost use Rattle.cw_coding.specs.Totals.{IsWidth};
-ghost use Rattle.cw_coding.specs.Decoding.{IsMisfit, IsFirstMisfit, FitTogether, IsChunkRefusal, AreDecodable, indices_of, in_order, compared, width_of};
+ghost use Rattle.cw_coding.specs.Decoding.{IsMisfit, IsFirstMisfit, FitTogether, IsChunkRefusal};
+ghost use Rattle.cw_coding.specs.Decoding.{AreDecodable, indices_of, in_order, compared, width_of};
 
 use crate::checking::CheckedChunk;
 use crate::error::{ReedSolomonError, RsError};
@@ -18,7 +21,8 @@ pub(crate) fn gathered<'a, H: Hasher + 'a, I: Iterator<Item = &'a CheckedChunk<H
 ) -> Result<Vec<CheckedChunk<H>>, NoMemory>
     requires can { I.can_next shards }
     requires ends { IsFinite (I.remaining shards) }
-    ensures { IfOk result (λ v. (given : _) × Drains I.next_gives shards given × (v.items ≡ map (λ chunk. chunk.now) given)) }
+    ensures { IfOk result (λ v. (given : _) × Drains I.next_gives shards given
+        × (v.items ≡ map (λ chunk. chunk.now) given)) }
 {
     let mut chunks = Vec::new(alloc);
     for chunk in shards {
@@ -48,7 +52,8 @@ fn misfit<H: Hasher>(
     chunk: &CheckedChunk<H>,
 ) -> Result<(), ReedSolomonError>
     ensures { MatchResult result
-        (λ _. (chunk.now.root ≡ root.now) × (length chunk.now.shard ≡ width) × (chunk.now.index < total) × (Contains (indices_of before.now) chunk.now.index → ⊥))
+        (λ _. (chunk.now.root ≡ root.now) × (length chunk.now.shard ≡ width)
+        × (chunk.now.index < total) × (Contains (indices_of before.now) chunk.now.index → ⊥))
         (λ e. IsMisfit total root.now width before.now chunk.now e) }
 {
     if !chunk.root().is_same(root) {
@@ -131,8 +136,11 @@ fn put_if<H: Hasher>(
     rows: &mut Vec<u8>,
     chunk: &CheckedChunk<H>,
 ) -> Result<(), NoMemory>
-    ensures indices { OnOk result (indices.new.items ≡ (if taken then indices.old.items ++ chunk.now.index ∷ [] else indices.old.items)) }
-    ensures rows { OnOk result (rows.new.items ≡ (if taken then rows.old.items ++ chunk.now.shard else rows.old.items)) }
+    ensures indices { OnOk result
+        (indices.new.items
+        ≡ (if taken then indices.old.items ++ chunk.now.index ∷ [] else indices.old.items)) }
+    ensures rows { OnOk result
+        (rows.new.items ≡ (if taken then rows.old.items ++ chunk.now.shard else rows.old.items)) }
 {
     if taken {
         indices.push(chunk.index())?;
@@ -148,8 +156,12 @@ fn put_originals<H: Hasher>(
     rows: &mut Vec<u8>,
     shards: &[CheckedChunk<H>],
 ) -> Result<(), NoMemory>
-    ensures indices { OnOk result (indices.new.items ≡ indices.old.items ++ indices_of (filter (λ c. nat_lt c.index k) shards.now)) }
-    ensures rows { OnOk result (rows.new.items ≡ rows.old.items ++ flat_map (λ c. c.shard) (filter (λ c. nat_lt c.index k) shards.now)) }
+    ensures indices { OnOk result
+        (indices.new.items ≡ indices.old.items ++ indices_of
+        (filter (λ c. nat_lt c.index k) shards.now)) }
+    ensures rows { OnOk result
+        (rows.new.items ≡ rows.old.items ++ flat_map (λ c. c.shard)
+        (filter (λ c. nat_lt c.index k) shards.now)) }
 {
     for chunk in shards {
         put_if::<H>(chunk.index() < k, indices, rows, chunk)?;
@@ -164,8 +176,12 @@ fn put_recoveries<H: Hasher>(
     rows: &mut Vec<u8>,
     shards: &[CheckedChunk<H>],
 ) -> Result<(), NoMemory>
-    ensures indices { OnOk result (indices.new.items ≡ indices.old.items ++ indices_of (filter (λ c. not (nat_lt c.index k)) shards.now)) }
-    ensures rows { OnOk result (rows.new.items ≡ rows.old.items ++ flat_map (λ c. c.shard) (filter (λ c. not (nat_lt c.index k)) shards.now)) }
+    ensures indices { OnOk result
+        (indices.new.items ≡ indices.old.items ++ indices_of
+        (filter (λ c. not (nat_lt c.index k)) shards.now)) }
+    ensures rows { OnOk result
+        (rows.new.items ≡ rows.old.items ++ flat_map (λ c. c.shard)
+        (filter (λ c. not (nat_lt c.index k)) shards.now)) }
 {
     for chunk in shards {
         put_if::<H>(!(chunk.index() < k), indices, rows, chunk)?;
@@ -186,8 +202,10 @@ pub(crate) fn ordered<H: Hasher>(
     k: u16,
     shards: &[CheckedChunk<H>],
 ) -> Result<Given, NoMemory>
-    ensures indices { IfOk result (λ given. given.indices.items ≡ indices_of (in_order k shards.now)) }
-    ensures rows { IfOk result (λ given. given.rows.items ≡ flat_map (λ c. c.shard) (in_order k shards.now)) }
+    ensures indices { IfOk result
+        (λ given. given.indices.items ≡ indices_of (in_order k shards.now)) }
+    ensures rows { IfOk result
+        (λ given. given.rows.items ≡ flat_map (λ c. c.shard) (in_order k shards.now)) }
     ensures compared { IfOk result (λ given. given.compared ≡ compared k shards.now) }
 {
     let mut indices = Vec::new(alloc);

@@ -1,6 +1,7 @@
 //! Laws of encodings, which take no work: their contracts are what is proved.
 
-ghost use Rattle.cw_coding.specs.Laws.{EncodingsCheck, EncodingsFit, EncodingsReadBack, AnyEnoughDecode};
+ghost use Rattle.cw_coding.specs.Laws.{EncodingsCheck, EncodingsFit, EncodingsReadBack};
+ghost use Rattle.cw_coding.specs.Laws.{AnyEnoughDecode};
 
 use cw_base::{Digest, Hasher};
 use cw_tree::chunks_with_digests_read_back;

@@ -1,6 +1,7 @@
 //! From rows to the text that they come of.
 
-ghost use Rattle.std.specs.Prelude.{◌≡◌, ℕ, ◌+◌, ◌-◌, ◌*◌, ◌%◌, ◌^◌, ◌<◌, ◌≤◌, ◌↔◌, List, length, slice_index, take, IfOk, IsTrue, Some, MatchOption};
+ghost use Rattle.std.specs.Prelude.{◌≡◌, ℕ, ◌+◌, ◌-◌, ◌*◌, ◌%◌, ◌^◌, ◌<◌, ◌≤◌, ◌↔◌, List, length};
+ghost use Rattle.std.specs.Prelude.{slice_index, take, IfOk, IsTrue, Some, MatchOption};
 ghost use Rattle.rs_code.specs.Rows.{joined, row_of, code_row};
 ghost use Rattle.rs_code.specs.Indices.{AreSound};
 ghost use Rattle.cw_tree.specs.Tree.{root_of};
@@ -35,7 +36,8 @@ fn text_of(
     requires long { length originals.now ≡ k * width }
     ensures { IfOk result (λ found. MatchOption found
         ((text : List ℕ) → length text ≤ 2 ^ 32 - 1 → layout k text ≡ originals.now → ⊥)
-        (λ text. (length text.items ≤ 2 ^ 32 - 1) × (layout k text.items ≡ originals.now) × (shard_len (length text.items) k ≡ width))) }
+        (λ text. (length text.items ≤ 2 ^ 32 - 1) × (layout k text.items ≡ originals.now)
+        × (shard_len (length text.items) k ≡ width))) }
 {
     let [a, b, c, d, rest @ ..] = originals else {
         return Ok(None);
@@ -82,7 +84,8 @@ fn same_rows(
     requires given { length given.now ≡ length indices.now * width }
     requires rows { length rows.now ≡ total * width }
     requires range { (s : ℕ) → s < length indices.now → slice_index indices.now s < total }
-    ensures { IsTrue result ↔ ((s : ℕ) → s < compared → row_of given.now width s ≡ row_of rows.now width (slice_index indices.now s)) }
+    ensures { IsTrue result ↔ ((s : ℕ) → s < compared
+        → row_of given.now width s ≡ row_of rows.now width (slice_index indices.now s)) }
 {
     for s in 0..compared {
         if !same_row(width, given, s, rows, usize::from(indices[s])) {
@@ -128,7 +131,8 @@ fn rebuilt<R: Threads + Sync, S: Strategy>(
     requires sound { AreSound (k + m) indices.now }
     ensures long { IfOk result (λ v. length v.items ≡ k * width) }
     ensures value { (originals : List ℕ) →
-        ((s : ℕ) → s < k → row_of rows.now width s ≡ code_row k originals width (slice_index indices.now s)) →
+        ((s : ℕ) → s < k
+        → row_of rows.now width s ≡ code_row k originals width (slice_index indices.now s)) →
         IfOk result (λ v. v.items ≡ joined k (λ i. code_row k originals width i)) }
 {
     let plan = plan_of(alloc, k, m, indices)?;
@@ -172,11 +176,15 @@ fn confirmed<H: Hasher, R: Threads + Sync, S: Strategy>(
     requires width { width ≡ shard_len (length text.now) k }
     requires compared { given.now.compared ≤ length given.now.indices.items }
     requires rows { length given.now.rows.items ≡ length given.now.indices.items * width }
-    requires range { (s : ℕ) → s < length given.now.indices.items → slice_index given.now.indices.items s < k + m }
+    requires range { (s : ℕ) → s < length given.now.indices.items
+        → slice_index given.now.indices.items s < k + m }
     ensures bytes { IfOk result (λ _. (i : ℕ) → slice_index text.now i < 256) }
     ensures value { IfOk result (λ yes. IsTrue yes ↔ (
-        ((s : ℕ) → s < given.now.compared → row_of given.now.rows.items width s ≡ row_at k text.now (slice_index given.now.indices.items s))
-        × (root_of H.digest_of H.Digest.content (row_digests H.digest_of k m text.now) ≡ Some root.now))) }
+        ((s : ℕ) → s < given.now.compared
+        → row_of given.now.rows.items width s ≡ row_at k text.now
+        (slice_index given.now.indices.items s))
+        × (root_of H.digest_of H.Digest.content (row_digests H.digest_of k m text.now)
+        ≡ Some root.now))) }
 {
     let rows = rows_of_text(rt, alloc, k, m, text, strategy)?;
     let total = k + m;
@@ -220,8 +228,11 @@ pub(crate) fn recovered<H: Hasher, R: Threads + Sync, S: Strategy>(
     requires rows { length given.now.rows.items ≡ length given.now.indices.items * width }
     requires sound { AreSound (k + m) given.now.indices.items }
     ensures { IfOk result (λ found. MatchOption found
-        ((text : List ℕ) → Fits H.digest_of H.Digest.content k m root.now width given.now.indices.items given.now.rows.items given.now.compared text → ⊥)
-        (λ text. Fits H.digest_of H.Digest.content k m root.now width given.now.indices.items given.now.rows.items given.now.compared text.items)) }
+        ((text : List ℕ)
+        → Fits H.digest_of H.Digest.content k m root.now width given.now.indices.items
+        given.now.rows.items given.now.compared text → ⊥)
+        (λ text. Fits H.digest_of H.Digest.content k m root.now width given.now.indices.items
+        given.now.rows.items given.now.compared text.items)) }
 {
     if width == 0 || width % 2 != 0 {
         return Ok(None);

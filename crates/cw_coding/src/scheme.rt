@@ -1,6 +1,7 @@
 //! The coding scheme as its users call it.
 
-ghost use Rattle.std.specs.Prelude.{◌≡◌, ◌⊎◌, ℕ, ◌+◌, ◌*◌, ◌^◌, ◌<◌, List, length, map, IfOk, IfErr};
+ghost use Rattle.std.specs.Prelude.{◌≡◌, ◌⊎◌, ℕ, ◌+◌, ◌*◌, ◌^◌, ◌<◌, List, length, map, IfOk};
+ghost use Rattle.std.specs.Prelude.{IfErr};
 ghost use Rattle.std.specs.Iterator.{IsFinite, Drains};
 ghost use Rattle.cw_tree.specs.TreeRoots.{IsHeight};
 ghost use Rattle.cw_tree.specs.Widths.{shard_len};
@@ -34,7 +35,8 @@ pub trait Scheme {
         requires fits { IsEncodable config.now length }
         requires digests { Self.Hasher.Digest.SIZE < 2 ^ 32 }
         ensures { (levels : ℕ) × IsHeight (total_of config.now) levels
-            × (result ≡ 12 + shard_len length config.now.minimum + Self.Hasher.Digest.SIZE * levels) }
+            × (result
+            ≡ 12 + shard_len length config.now.minimum + Self.Hasher.Digest.SIZE * levels) }
     {
         let width = canonical_shard_len(length, minimum(config));
         let levels = height_of(config.total_shards());
@@ -60,7 +62,9 @@ pub trait Scheme {
         ),
         ReedSolomonError,
     >
-        ensures encoded { IfOk result (λ r. IsEncoding Self.Hasher.digest_of Self.Hasher.Digest.content config.now input.now r.0 r.1.items) }
+        ensures encoded { IfOk result
+            (λ r. IsEncoding Self.Hasher.digest_of Self.Hasher.Digest.content config.now input.now
+            r.0 r.1.items) }
         ensures refused { IfErr result (λ e. IsEncodeRefusal config.now (length input.now) e) }
     {
         encode_text::<Self::Hasher, R, S>(rt, alloc, config, input, strategy)
@@ -68,8 +72,8 @@ pub trait Scheme {
 
     /// The chunk, if it stands under the commitment at `index`.
     ///
-    /// Refused, in this order: `TooManyTotalShards`; `InvalidIndex(index)` where it isn't one of the
-    /// config; `ReedSolomon(InvalidShardSize)` where the shard is empty or of odd length;
+    /// Refused, in this order: `TooManyTotalShards`; `InvalidIndex(index)` where it isn't one of
+    /// the config; `ReedSolomon(InvalidShardSize)` where the shard is empty or of odd length;
     /// `InvalidProof` where the proof is of another number of leaves; `InvalidIndex` of the chunk's
     /// own index where that is another; `InvalidProof` where the proof doesn't lead to the
     /// commitment. Nothing is hashed before the last test. `NoMemory` may come at any point.
@@ -81,7 +85,8 @@ pub trait Scheme {
         shard: &Chunk<<Self::Hasher as Hasher>::Digest>,
         _strategy: &S,
     ) -> Result<CheckedChunk<Self::Hasher>, ReedSolomonError>
-        ensures { Checks Self.Hasher.digest_of Self.Hasher.Digest.content config.now commitment.now index shard.now result }
+        ensures { Checks Self.Hasher.digest_of Self.Hasher.Digest.content config.now commitment.now
+            index shard.now result }
     {
         check_chunk::<Self::Hasher>(config, commitment, index, shard)
     }
@@ -99,7 +104,9 @@ pub trait Scheme {
         strategy: &S,
     ) -> Result<Vec<Result<CheckedChunk<Self::Hasher>, ReedSolomonError>>, ReedSolomonError>
         requires lengths { length indices.now ≡ length shards.now }
-        ensures each { IfOk result (λ answers. AllCheck Self.Hasher.digest_of Self.Hasher.Digest.content config.now commitment.now indices.now shards.now answers.items) }
+        ensures each { IfOk result
+            (λ answers. AllCheck Self.Hasher.digest_of Self.Hasher.Digest.content config.now
+            commitment.now indices.now shards.now answers.items) }
         ensures memory { IfErr result (λ e. e ≡ ReedSolomonError.NoMemory) }
     {
         check_all::<Self::Hasher, R, S>(rt, alloc, config, commitment, indices, shards, strategy)
@@ -111,9 +118,9 @@ pub trait Scheme {
     /// `ReedSolomon(InvalidShardSize)` where the first chunk is wider than shards are; at the first
     /// chunk where one of these holds, the first of them: `CommitmentMismatch` where it was checked
     /// under another commitment, `Inconsistent` where it has another width than the first,
-    /// `InvalidIndex` where its index isn't one of the config, `DuplicateIndex` where that index was
-    /// given before; `NotEnoughChunks` below `minimum_shards`; `Inconsistent` where no data has these
-    /// chunks and this commitment. `NoMemory` may come at any point.
+    /// `InvalidIndex` where its index isn't one of the config, `DuplicateIndex` where that index
+    /// was given before; `NotEnoughChunks` below `minimum_shards`; `Inconsistent` where no data has
+    /// these chunks and this commitment. `NoMemory` may come at any point.
     ///
     /// Where an original is missing, the originals given and the first recoveries in the order in
     /// which they were given are used, and the others count by the commitment alone.
@@ -137,9 +144,12 @@ pub trait Scheme {
         requires ends { IsFinite (I.remaining shards) }
         ensures decoded { IfOk result (λ text. (given : _) × Drains I.next_gives shards given
             × AreDecodable config.now commitment.now (map (λ chunk. chunk.now) given)
-            × IsDecoding Self.Hasher.digest_of Self.Hasher.Digest.content config.now commitment.now (map (λ chunk. chunk.now) given) text.items) }
-        ensures refused { IfErr result (λ e. (e ≡ ReedSolomonError.NoMemory) ⊎ ((given : _) × Drains I.next_gives shards given
-            × IsRefusal Self.Hasher.digest_of Self.Hasher.Digest.content config.now commitment.now (map (λ chunk. chunk.now) given) e)) }
+            × IsDecoding Self.Hasher.digest_of Self.Hasher.Digest.content config.now commitment.now
+            (map (λ chunk. chunk.now) given) text.items) }
+        ensures refused { IfErr result (λ e. (e ≡ ReedSolomonError.NoMemory)
+            ⊎ ((given : _) × Drains I.next_gives shards given
+            × IsRefusal Self.Hasher.digest_of Self.Hasher.Digest.content config.now commitment.now
+            (map (λ chunk. chunk.now) given) e)) }
     {
         decode_text::<Self::Hasher, I, R, S>(rt, alloc, config, commitment, shards, strategy)
     }

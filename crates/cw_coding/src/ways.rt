@@ -1,8 +1,10 @@
 //! What is hashed on the way up from a chunk to the root.
 
-ghost use Rattle.std.specs.Prelude.{◌≡◌, ℕ, ◌+◌, ◌%◌, ◌≤◌, ◌==◌, ◌&&◌, ◌++◌, ◌↔◌, drop, length, IfOk, OnOk, IsTrue, if◌then◌else◌, slice_index_or};
+ghost use Rattle.std.specs.Prelude.{◌≡◌, ℕ, ◌+◌, ◌%◌, ◌≤◌, ◌==◌, ◌&&◌, ◌++◌, ◌↔◌, drop, length};
+ghost use Rattle.std.specs.Prelude.{IfOk, OnOk, IsTrue, if◌then◌else◌, slice_index_or};
 ghost use Rattle.cw_base.specs.Bytes.{be32};
-ghost use Rattle.cw_coding.specs.Clash.{is_odd_last, partner_of, siblings_above, pair_bytes, way_from, way_of};
+ghost use Rattle.cw_coding.specs.Clash.{is_odd_last, partner_of, siblings_above, pair_bytes};
+ghost use Rattle.cw_coding.specs.Clash.{way_from, way_of};
 
 use cw_base::{Digest, Hasher, Items, NoMemory, put_be32, put_bytes};
 use cw_tree::Chunk;

@@ -20,8 +20,8 @@ pub struct Holding {
     pub amount: u64,
 }
 
-/// The balances, by account. Contracts see the entries of the map, in order of the accounts. An account
-/// without an entry has nothing.
+/// The balances, by account. Contracts see the entries of the map, in order of the accounts. An
+/// account without an entry has nothing.
 #[derive(Drop)]
 pub(crate) struct Balances {
     map: BTreeMap<u32, u64>,
@@ -41,7 +41,8 @@ impl Model for Balances {
 impl Balances {
     /// The balances of the beginning: account 0 has all that there is.
     pub(crate) fn new(alloc: Global) -> Result<Balances, NoMemory>
-        ensures { IfOk result (λ balances. (account : ℕ) → amount_in balances account ≡ first_balance account) }
+        ensures { IfOk result (λ balances. (account : ℕ)
+            → amount_in balances account ≡ first_balance account) }
     {
         let mut map = BTreeMap::new(alloc);
         map.insert(0, 1_000_000_000)?;
@@ -55,8 +56,8 @@ impl Balances {
         amount_of(&self.map, account)
     }
 
-    /// Makes room for what these transfers give, so that they pass without memory. What each account
-    /// has stays, also where memory is short.
+    /// Makes room for what these transfers give, so that they pass without memory. What each
+    /// account has stays, also where memory is short.
     pub(crate) fn make_room(&mut self, transfers: &[Transfer]) -> Result<(), NoMemory>
         ensures room { OnOk result (HasRoom self.new transfers.now) }
         ensures same { (account : ℕ) → amount_in self.new account ≡ amount_in self.old account }
@@ -71,7 +72,8 @@ impl Balances {
     fn make_entry(&mut self, account: u32) -> Result<(), NoMemory>
         ensures there { OnOk result (has_entry self.new account ≡ true) }
         ensures same { (other : ℕ) → amount_in self.new other ≡ amount_in self.old other }
-        ensures stays { (other : ℕ) → has_entry self.old other ≡ true → has_entry self.new other ≡ true }
+        ensures stays { (other : ℕ) → has_entry self.old other ≡ true
+            → has_entry self.new other ≡ true }
     {
         if self.map.contains_key(&account) {
             return Ok(());
@@ -82,7 +84,8 @@ impl Balances {
     /// Passes these transfers, one behind the other.
     pub(crate) fn pass_all(&mut self, transfers: &[Transfer])
         requires { HasRoom self.old transfers.now }
-        ensures { (account : ℕ) → amount_in self.new account ≡ moved_all (amount_in self.old) transfers.now account }
+        ensures { (account : ℕ)
+            → amount_in self.new account ≡ moved_all (amount_in self.old) transfers.now account }
     {
         for transfer in transfers {
             self.pass(transfer);
@@ -92,8 +95,10 @@ impl Balances {
     // Passes a transfer, where the balance is there and goes to another account.
     fn pass(&mut self, transfer: &Transfer)
         requires { has_entry self.old transfer.now.to ≡ true }
-        ensures moved { (account : ℕ) → amount_in self.new account ≡ moved (amount_in self.old) transfer.now account }
-        ensures stays { (other : ℕ) → has_entry self.old other ≡ true → has_entry self.new other ≡ true }
+        ensures moved { (account : ℕ)
+            → amount_in self.new account ≡ moved (amount_in self.old) transfer.now account }
+        ensures stays { (other : ℕ) → has_entry self.old other ≡ true
+            → has_entry self.new other ≡ true }
     {
         let from = amount_of(&self.map, transfer.from);
         if from < transfer.amount {

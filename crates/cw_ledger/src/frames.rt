@@ -1,6 +1,7 @@
 //! Payloads as the frames of a log, and read back from them.
 
-ghost use Rattle.std.specs.Prelude.{◌≡◌, ◌+◌, ◌<◌, ◌^◌, ◌++◌, ℕ, length, IfOk, OnOk, Err, IsErrOf, option_map};
+ghost use Rattle.std.specs.Prelude.{◌≡◌, ◌+◌, ◌<◌, ◌^◌, ◌++◌, ℕ, length, IfOk, OnOk, Err, IsErrOf};
+ghost use Rattle.std.specs.Prelude.{option_map};
 ghost use Rattle.cw_base.specs.ReadingLaws.{IsBytes};
 ghost use Rattle.cw_ledger.specs.Frames.{payload_in, payloads_from};
 ghost use Rattle.cw_ledger.specs.Kept.{AreKept, amount_in};
@@ -58,7 +59,8 @@ fn place_behind(place: u64, frame: &[u8]) -> Result<u64, NoMemory>
 /// The balances that the frames of a log leave.
 pub(crate) fn loaded<D: Disk>(alloc: Global, log: &Log<D>) -> Result<Balances, StoreError>
     ensures kept { IfOk result (λ balances. AreKept (log_frames log.now) balances) }
-    ensures foreign { (place : ℕ) → IsErrOf result (StoreError.Foreign place) → payloads_from 0 0 (log_frames log.now) ≡ Err place }
+    ensures foreign { (place : ℕ) → IsErrOf result (StoreError.Foreign place)
+        → payloads_from 0 0 (log_frames log.now) ≡ Err place }
     ensures disk { IsErrOf result StoreError.Disk → ⊥ }
     ensures failed { IsErrOf result StoreError.Failed → ⊥ }
 {
@@ -78,7 +80,9 @@ pub(crate) fn loaded<D: Disk>(alloc: Global, log: &Log<D>) -> Result<Balances, S
 
 // Passes the transfers of a payload.
 fn take_payload(alloc: Global, balances: &mut Balances, payload: &[u8]) -> Result<(), NoMemory>
-    ensures { OnOk result ((account : ℕ) → amount_in balances.new account ≡ moved_all (amount_in balances.old) (transfers payload.now) account) }
+    ensures { OnOk result ((account : ℕ)
+        → amount_in balances.new account ≡ moved_all (amount_in balances.old)
+        (transfers payload.now) account) }
 {
     let transfers = transfers_of(alloc, payload)?;
     balances.make_room(&transfers)?;

@@ -1,12 +1,16 @@
 //! A replica of the ledger: how it starts, and how it applies blocks.
 
-ghost use Rattle.std.specs.Prelude.{◌≡◌, ◌⊎◌, ◌<◌, ◌≤◌, ◌∷◌, ◌++◌, [], ℕ, List, length, true, false, None, Err, IfErr, IfOk, IsErrOf, OnErr, OnOk};
+ghost use Rattle.std.specs.Prelude.{◌≡◌, ◌⊎◌, ◌<◌, ◌≤◌, ◌∷◌, ◌++◌, [], ℕ, List, length, true};
+ghost use Rattle.std.specs.Prelude.{false, None, Err, IfErr, IfOk, IsErrOf, OnErr, OnOk};
 ghost use Rattle.cw_base.specs.Causes.{Rose};
 ghost use Rattle.node_disk.specs.Disk.{HasTold, IsCutShort, IsFront, LeavesOnly, Synced};
 ghost use Rattle.node_disk.specs.Images.{IsImage};
-ghost use Rattle.node_disk.specs.Log.{HasAppended, IsSettled, WasCutShort, calls_of_append, start_calls};
-ghost use Rattle.cw_ledger.specs.Frames.{FindsEither, FindsPayloads, IsBeforeOrFound, read_payloads};
-ghost use Rattle.cw_ledger.specs.Ledger.{answer_to, applied, frame_of, last_height, log_of, over, started, written_for};
+ghost use Rattle.node_disk.specs.Log.{HasAppended, IsSettled, WasCutShort, calls_of_append};
+ghost use Rattle.node_disk.specs.Log.{start_calls};
+ghost use Rattle.cw_ledger.specs.Frames.{FindsEither, FindsPayloads, IsBeforeOrFound};
+ghost use Rattle.cw_ledger.specs.Frames.{read_payloads};
+ghost use Rattle.cw_ledger.specs.Ledger.{answer_to, applied, frame_of, last_height, log_of, over};
+ghost use Rattle.cw_ledger.specs.Ledger.{started, written_for};
 ghost use Rattle.cw_ledger.specs.Transfers.{balances, holdings};
 
 use crate::balances::{Balances, Holding};
@@ -29,8 +33,8 @@ pub enum Applied {
     Gap(u64),
 }
 
-/// A replica of the ledger, on the log of its disk. It applies blocks in the order of their heights,
-/// each once, and keeps the balances that their transfers leave.
+/// A replica of the ledger, on the log of its disk. It applies blocks in the order of their
+/// heights, each once, and keeps the balances that their transfers leave.
 ///
 /// ```text
 /// let mut replica = match Replica::start(alloc, disk) {
@@ -69,13 +73,15 @@ impl<D: Disk> Model for Replica<D> {
 }
 
 impl<D: Disk> Replica<D> {
-    /// Opens the replica of a disk: it syncs, reads, and where the file is shorter than two bytes writes a
-    /// closed gate and syncs. An `Err` hands the disk back.
+    /// Opens the replica of a disk: it syncs, reads, and where the file is shorter than two bytes
+    /// writes a closed gate and syncs. An `Err` hands the disk back.
     pub fn start(alloc: Global, disk: D) -> Result<Replica<D>, (D, StoreError)>
-        // The payloads are those of the bytes that it found, or a frame there is cut, too short or of another height.
+        // The payloads are those of the bytes that it found, or a frame there is cut, too short or
+        // of another height.
         ensures ok { IfOk result (λ r. r ≡ started r.payloads r.gate r.disk) }
         ensures found { IfOk result (λ r. FindsPayloads r.payloads (D.state disk).now.seen) }
-        ensures settled { IfOk result (λ r. IsSettled (log_of r).frames r.gate (D.state r.disk).now) }
+        ensures settled { IfOk result
+            (λ r. IsSettled (log_of r).frames r.gate (D.state r.disk).now) }
         ensures on_disk { IfOk result (λ r. (image : List ℕ)
             → IsImage (D.state r.disk).now image → FindsPayloads r.payloads image) }
         ensures foreign { (place : ℕ) → IfErr result (λ e. e.1 ≡ StoreError.Foreign place
@@ -83,13 +89,15 @@ impl<D: Disk> Replica<D> {
         ensures foreign_again { (place : ℕ) → IfErr result (λ e. e.1 ≡ StoreError.Foreign place
             → read_payloads (D.state e.0).now.seen ≡ Err place) }
 
-        // They stay in each image from the first sync on, and before it no other image than before can be left.
+        // They stay in each image from the first sync on, and before it no other image than before
+        // can be left.
         ensures any_moment { IfOk result (λ r.
             LeavesOnly (D.state disk) (D.state r.disk) (IsBeforeOrFound (D.state disk).now)) }
         ensures any_moment_err { IfErr result (λ e.
             LeavesOnly (D.state disk) (D.state e.0) (IsBeforeOrFound (D.state disk).now)) }
 
-        // The device calls: all of them, or up to the first that fails. A read that fails comes after the sync.
+        // The device calls: all of them, or up to the first that fails. A read that fails comes
+        // after the sync.
         ensures calls { IfOk result (λ r.
             HasTold (start_calls (D.state disk).now.seen) (D.state disk) (D.state r.disk)) }
         ensures calls_foreign { (place : ℕ) → IfErr result (λ e. e.1 ≡ StoreError.Foreign place
@@ -100,7 +108,8 @@ impl<D: Disk> Replica<D> {
         ensures calls_no_memory { IfErr result (λ e. e.1 ≡ StoreError.NoMemory
             → IsFront (start_calls (D.state disk).now.seen) (D.state disk) (D.state e.0)) }
 
-        ensures cause { IfErr result (λ e. e.1 ≡ StoreError.Disk → Rose (D.state disk).faults (D.state e.0).faults) }
+        ensures cause { IfErr result (λ e. e.1 ≡ StoreError.Disk
+            → Rose (D.state disk).faults (D.state e.0).faults) }
         ensures faults { IfOk result (λ r. (D.state disk).faults ≤ (D.state r.disk).faults) }
         ensures faults_err { IfErr result (λ e. (D.state disk).faults ≤ (D.state e.0).faults) }
         ensures never_fails { D.calm disk ≡ true → IfErr result (λ e. e.1 ≡ StoreError.Disk → ⊥) }
@@ -120,13 +129,17 @@ impl<D: Disk> Replica<D> {
     }
 
     /// Applies a block, by its height: a block of the next height is written on the disk and its
-    /// transfers pass; one below it is known; one above it leaves a gap. Refused for memory before a
-    /// device call, it changes nothing.
+    /// transfers pass; one below it is known; one above it leaves a gap. Refused for memory before
+    /// a device call, it changes nothing.
     pub fn apply(&mut self, alloc: Global, block: &ChainBlock) -> Result<Applied, StoreError>
-        ensures answer { IfOk result (λ answer. answer ≡ answer_to (length self.old.payloads) block.now.height) }
-        ensures ok { OnOk result (self.new ≡ record (over self.old self.new) { payloads = applied self.old.payloads block.now }) }
+        ensures answer { IfOk result
+            (λ answer. answer ≡ answer_to (length self.old.payloads) block.now.height) }
+        ensures ok { OnOk result
+            (self.new
+            ≡ record (over self.old self.new) { payloads = applied self.old.payloads block.now }) }
         ensures err { OnErr result (self.new ≡ over self.old self.new) }
-        ensures settled { self.new.failed ≡ false → IsSettled (log_of self.new).frames self.new.gate (D.state self.new.disk).now }
+        ensures settled { self.new.failed ≡ false
+            → IsSettled (log_of self.new).frames self.new.gate (D.state self.new.disk).now }
 
         // After it each image has all payloads, the new one too.
         ensures on_disk { OnOk result ((image : List ℕ)
@@ -139,11 +152,14 @@ impl<D: Disk> Replica<D> {
 
         // The device calls: those of one append, or up to the first that fails.
         ensures appended { OnOk result
-            (HasAppended D.state D.continues (written_for self.old.payloads block.now) (log_of self.old) (log_of self.new)) }
+            (HasAppended D.state D.continues (written_for self.old.payloads block.now)
+            (log_of self.old) (log_of self.new)) }
         ensures cut_short { IsErrOf result StoreError.Disk
-            → WasCutShort D.state D.continues (written_for self.old.payloads block.now) (log_of self.old) (log_of self.new) }
+            → WasCutShort D.state D.continues (written_for self.old.payloads block.now)
+            (log_of self.old) (log_of self.new) }
         ensures calls_no_memory { IsErrOf result StoreError.NoMemory
-            → IsFront (calls_of_append self.old.gate (written_for self.old.payloads block.now)) (D.state self.old.disk) (D.state self.new.disk) }
+            → IsFront (calls_of_append self.old.gate (written_for self.old.payloads block.now))
+            (D.state self.old.disk) (D.state self.new.disk) }
 
         // Each answer and its cause, and whether later calls answer `Failed`.
         ensures works { OnOk result ((self.old.failed ≡ false) × (self.new.failed ≡ false)) }
@@ -156,7 +172,8 @@ impl<D: Disk> Replica<D> {
         ensures failed_same { self.old.failed ≡ true → self.new ≡ self.old }
         ensures failed_only { IsErrOf result StoreError.Failed → self.old.failed ≡ true }
         ensures no_memory { IsErrOf result StoreError.NoMemory → (self.new ≡ self.old)
-            ⊎ ((self.new.failed ≡ true) × Rose (D.state self.old.disk).tries (D.state self.new.disk).tries) }
+            ⊎ ((self.new.failed ≡ true)
+            × Rose (D.state self.old.disk).tries (D.state self.new.disk).tries) }
         ensures not_foreign { (place : ℕ) → IsErrOf result (StoreError.Foreign place) → ⊥ }
         ensures continues { D.continues self.old.disk self.new.disk }
     {
@@ -181,19 +198,29 @@ impl<D: Disk> Replica<D> {
     // Writes the payload of the next height on the disk, and then passes its transfers.
     fn add(&mut self, alloc: Global, payload: &[u8]) -> Result<(), StoreError>
         requires { self.old.failed ≡ false }
-        ensures ok { OnOk result (self.new ≡ record (over self.old self.new) { payloads = self.old.payloads ++ payload.now ∷ [] }) }
+        ensures ok { OnOk result
+            (self.new
+            ≡ record (over self.old self.new) {
+              payloads = self.old.payloads ++ payload.now
+                  ∷ [];
+            }) }
         ensures err { OnErr result (self.new ≡ over self.old self.new) }
-        ensures settled { self.new.failed ≡ false → IsSettled (log_of self.new).frames self.new.gate (D.state self.new.disk).now }
+        ensures settled { self.new.failed ≡ false
+            → IsSettled (log_of self.new).frames self.new.gate (D.state self.new.disk).now }
         ensures on_disk { OnOk result ((image : List ℕ)
             → IsImage (D.state self.new.disk).now image → FindsPayloads self.new.payloads image) }
         ensures any_moment { LeavesOnly (D.state self.old.disk) (D.state self.new.disk)
             (FindsEither self.old.payloads (self.old.payloads ++ payload.now ∷ [])) }
         ensures appended { OnOk result
-            (HasAppended D.state D.continues (frame_of (length self.old.payloads, payload.now)) (log_of self.old) (log_of self.new)) }
+            (HasAppended D.state D.continues (frame_of (length self.old.payloads, payload.now))
+            (log_of self.old) (log_of self.new)) }
         ensures cut_short { IsErrOf result StoreError.Disk
-            → WasCutShort D.state D.continues (frame_of (length self.old.payloads, payload.now)) (log_of self.old) (log_of self.new) }
+            → WasCutShort D.state D.continues (frame_of (length self.old.payloads, payload.now))
+            (log_of self.old) (log_of self.new) }
         ensures calls_no_memory { IsErrOf result StoreError.NoMemory
-            → IsFront (calls_of_append self.old.gate (frame_of (length self.old.payloads, payload.now))) (D.state self.old.disk) (D.state self.new.disk) }
+            → IsFront
+            (calls_of_append self.old.gate (frame_of (length self.old.payloads, payload.now)))
+            (D.state self.old.disk) (D.state self.new.disk) }
         ensures works { OnOk result (self.new.failed ≡ false) }
         ensures disk { IsErrOf result StoreError.Disk → self.new.failed ≡ true }
         ensures disk_cause { IsErrOf result StoreError.Disk
@@ -202,7 +229,8 @@ impl<D: Disk> Replica<D> {
         ensures faults { (D.state self.old.disk).faults ≤ (D.state self.new.disk).faults }
         ensures not_failed { IsErrOf result StoreError.Failed → ⊥ }
         ensures no_memory { IsErrOf result StoreError.NoMemory → (self.new ≡ self.old)
-            ⊎ ((self.new.failed ≡ true) × Rose (D.state self.old.disk).tries (D.state self.new.disk).tries) }
+            ⊎ ((self.new.failed ≡ true)
+            × Rose (D.state self.old.disk).tries (D.state self.new.disk).tries) }
         ensures not_foreign { (place : ℕ) → IsErrOf result (StoreError.Foreign place) → ⊥ }
         ensures continues { D.continues self.old.disk self.new.disk }
     {
@@ -227,14 +255,16 @@ impl<D: Disk> Replica<D> {
         }
     }
 
-    /// A law, of every replica that isn't failed: its log is at rest, a start finds its payloads in each
-    /// image, and where no device is called that stays so.
+    /// A law, of every replica that isn't failed: its log is at rest, a start finds its payloads in
+    /// each image, and where no device is called that stays so.
     pub fn rests(&self)
-        ensures settled { self.now.failed ≡ false → IsSettled (log_of self.now).frames self.now.gate (D.state self.now.disk).now }
+        ensures settled { self.now.failed ≡ false
+            → IsSettled (log_of self.now).frames self.now.gate (D.state self.now.disk).now }
         ensures found { self.now.failed ≡ false → (image : List ℕ)
             → IsImage (D.state self.now.disk).now image → FindsPayloads self.now.payloads image }
         ensures stays { self.now.failed ≡ false → (others : List (List ℕ))
-            → LeavesOnly (D.state self.now.disk) (D.state self.now.disk) (FindsEither self.now.payloads others) }
+            → LeavesOnly (D.state self.now.disk) (D.state self.now.disk)
+            (FindsEither self.now.payloads others) }
         ensures nothing { self.now.failed ≡ false
             → HasAppended D.state D.continues [] (log_of self.now) (log_of self.now) }
     {
@@ -282,7 +312,13 @@ impl Replica<MemoryDisk> {
     /// Arms a stop of the disk, as [`MemoryDisk::stop_at`] does.
     pub fn stop_at(&mut self, call: u64, cut: u64, fill: u8)
         ensures armed { is_stopped self.old.disk ≡ false
-            → self.new ≡ record self.old { disk = record self.old.disk { stop = stop_from_now self.old.disk call cut fill } } }
+            → self.new
+            ≡ record self.old {
+              disk = record self.old.disk {
+                stop = stop_from_now self.old.disk
+                    call cut fill;
+              };
+            } }
         ensures stopped { is_stopped self.old.disk ≡ true → self.new ≡ self.old }
         ensures state { memory_state self.new.disk ≡ memory_state self.old.disk }
     {

@@ -34,8 +34,8 @@ impl Transfer {
     }
 }
 
-/// The transfers of a payload, in order: one for each sixteen bytes, and none where its length isn't a
-/// multiple of sixteen.
+/// The transfers of a payload, in order: one for each sixteen bytes, and none where its length
+/// isn't a multiple of sixteen.
 #[tactic(auto, unfolding(crate::specs::Transfers::transfers))]
 pub fn transfers_of(alloc: Global, payload: &[u8]) -> Result<Vec<Transfer>, NoMemory>
     ensures { IfOk result (λ found. found.items ≡ transfers payload.now) }

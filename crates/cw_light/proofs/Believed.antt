@@ -1,5 +1,5 @@
--- What a yes shows: the last block of the path is a link of the one chain, or two blocks have one digest.
-use Rattle.std.proofs.Common.{◌≡◌, ℕ, zero, suc, ◌+◌, ◌<◌, Bool, true, false, ◌&&◌, ◌==◌, nat_le, nat_lt, cond, List, [], ◌∷◌, ◌++◌, Option, Some, None, IsTrue, slice_get, refl, sym, ◌∙◌, ap, subst, inl, inr, ◌⊎◌, arith, eqb-true, ne_eqb, leb-true, option_and_then, option_map, length, map, is_none, append-nil}
+-- What a yes shows: the last block of the path is a link of the one chain, or two different blocks have one digest.
+use Rattle.std.proofs.Common.{◌≡◌, ◌≢◌, ℕ, zero, suc, ◌+◌, ◌<◌, Bool, true, false, ◌&&◌, ◌==◌, nat_le, nat_lt, cond, List, [], ◌∷◌, ◌++◌, Option, Some, None, IsTrue, slice_get, refl, sym, ◌∙◌, ap, subst, inl, inr, ◌⊎◌, arith, eqb-true, ne_eqb, leb-true, option_and_then, option_map, length, map, is_none, append-nil}
 use Rattle.std.specs.List.{AllByRecursion, last_or, list_all, list_any}
 use Rattle.std.specs.Option.{option_map_or, option_or}
 use Rattle.std.proofs.lemmas.Bool.{and_parts, cases_Bool, cond-false, cond-true, eqb-false, false≢true, or_cases}
@@ -36,7 +36,7 @@ use Rattle.cw_rules.proofs.Grows.{holds_stands, meaning_closed}
 use Rattle.cw_rules.proofs.Runs.{Gave, IsClearRun, clear_reached, handed_parts, now_fronts}
 use Rattle.cw_rules.proofs.SameLemmas.{same_block-true, same_block_self, same_commitment-true}
 use Rattle.cw_rules.proofs.Worlds.{IsWorldKept, get-map, kept_keep, kept_lawful}
-use Rattle.cw_light.specs.Believing.{IsBelieved, IsCollision}
+use Rattle.cw_light.specs.Believing.{IsLinkAt}
 use Rattle.cw_light.specs.Checking.{answer, broken_at, broken_below, is_named_by, is_parent_of, path_answer}
 use Rattle.cw_light.specs.declared.check.Answer.{Answer}
 use Rattle.cw_light.specs.declared.check.Answer.TheVariants.{BadSigners, Broken, EmptyPath, NotFinal, Yes}
@@ -239,6 +239,16 @@ highest_there (y ∷ ys) x h = go (highest ys) refl (highest_there ys)
 
 -- ---- the way down
 
+-- a block of the path, and another of its digest that an honest member noted
+pub record AreTwo (r : Rules) (w : World) (path : List Block) : Type 0 where
+  pub shown : Block
+  pub in_path : In shown path
+  pub noted : Block
+  pub under : Commitment
+  pub is_noted : In (Note.Block under noted) (all_notes w)
+  pub different : shown ≢ noted
+  pub one_digest : digest r shown ≡ digest r noted
+
 module _ (r : Rules) (script : List Line) (w : World) (c : IsCluster r script) (ends : outcome r (opening r script) script ≡ Ends w) where
   k : IsClearRun r script w (handed_in r script)
   k = subst (IsClearRun r script w) (sym (handed_parts r script)) (clear_reached r script script [] w c (sym (append-nil script)) ends)
@@ -302,33 +312,34 @@ module _ (r : Rules) (script : List Line) (w : World) (c : IsCluster r script) (
         chain : IsChain r w (chain_to r w top)
         chain = subst (λ b. IsChain r w (chain_to r w b)) (same_Some one.block top (sym one.under ∙ at_top.under)) one.chain
 
-    -- a block of the path is the known block of its digest, or collides with it
-    same_or : (path : List Block) (a x : Block) → In a path → IsKnown r w x → digest r a ≡ digest r x → (a ≡ x) ⊎ IsCollision r w path
-    same_or path a x i known e = go (cases_Bool (same_block a x))
+    -- a block of the path is the noted block of its digest, or another
+    same_or : (path : List Block) (a x : Block) (under : Commitment) → In a path → In (Note.Block under x) (all_notes w) → digest r a ≡ digest r x → (a ≡ x) ⊎ AreTwo r w path
+    same_or path a x under i noted e = go (cases_Bool (same_block a x))
       where
-        go : (same_block a x ≡ true) ⊎ (same_block a x ≡ false) → (a ≡ x) ⊎ IsCollision r w path
+        go : (same_block a x ≡ true) ⊎ (same_block a x ≡ false) → (a ≡ x) ⊎ AreTwo r w path
         go (inl t) = inl (same_block-true a x t)
-        go (inr f) = inr (record { shown = a; in_path = i; noted = x; known = known; one_digest = e; different = λ s. false≢true (sym f ∙ (ap (same_block a) (sym s) ∙ same_block_self a)) })
+        go (inr f) = inr (record { shown = a; in_path = i; noted = x; under = under; is_noted = noted; different = λ s. false≢true (sym f ∙ (ap (same_block a) (sym s) ∙ same_block_self a)); one_digest = e })
 
     -- the block that the payload names is the finalized one
-    first_down : (path : List Block) (b : Block) → In b path → is_named_by r p.payload b ≡ true → OnWay b ⊎ IsCollision r w path
+    first_down : (path : List Block) (b : Block) → In b path → is_named_by r p.payload b ≡ true → OnWay b ⊎ AreTwo r w path
     first_down path b i h = go (cases_Bool (same_commitment p.payload (genesis_commitment r)))
       where
-        by_same : (b ≡ top) ⊎ IsCollision r w path → OnWay b ⊎ IsCollision r w path
+        by_same : (b ≡ top) ⊎ AreTwo r w path → OnWay b ⊎ AreTwo r w path
         by_same (inl e) = inl (subst OnWay (sym e) top_on)
         by_same (inr x) = inr x
 
-        go : (same_commitment p.payload (genesis_commitment r) ≡ true) ⊎ (same_commitment p.payload (genesis_commitment r) ≡ false) → OnWay b ⊎ IsCollision r w path
+        go : (same_commitment p.payload (genesis_commitment r) ≡ true) ⊎ (same_commitment p.payload (genesis_commitment r) ≡ false) → OnWay b ⊎ AreTwo r w path
         go (inl t) =
             let e : genesis r ≡ top = same_Some (genesis r) top (sym (cond-true (same_commitment p.payload (genesis_commitment r)) (Some (genesis r)) (first_some (noted_block_of p.payload) (all_notes w)) t) ∙ at_top.under) in
             absurd (omega (arith, ap (λ (y : Block). y.height) e, at_top.positive))
         go (inr f) =
             let e : commit r b ≡ p.payload = same_commitment-true (commit r b) p.payload (sym (cond-false (same_commitment p.payload (genesis_commitment r)) (same_block b (genesis r)) (same_commitment (commit r b) p.payload) f) ∙ h) in
+            let noted : In (Note.Block p.payload top) (all_notes w) = first_in p.payload (all_notes w) top (sym (cond-false (same_commitment p.payload (genesis_commitment r)) (Some (genesis r)) (first_some (noted_block_of p.payload) (all_notes w)) f) ∙ at_top.under) in
             let g = under_commit r w c.enough keep k.clear p.payload top at_top.under at_top.positive in
-            by_same (same_or path b top i (known_under r w p.payload top at_top.under) (ap (λ (y : Commitment). y.block) (e ∙ sym g)))
+            by_same (same_or path b top p.payload i noted (ap (λ (y : Commitment). y.block) (e ∙ sym g)))
 
     -- so is each parent that a block names
-    step_down : (path : List Block) (b a : Block) → In a path → is_parent_of r b a ≡ true → OnWay b → OnWay a ⊎ IsCollision r w path
+    step_down : (path : List Block) (b a : Block) → In a path → is_parent_of r b a ≡ true → OnWay b → OnWay a ⊎ AreTwo r w path
     step_down path b a i t s =
         let q = and_parts (is_named_by r b.context.parent a) (a.height + 1 == b.height) t in
         let up : b.height ≡ suc a.height = omega (arith, eqb-true (a.height + 1) b.height q.1) in
@@ -337,11 +348,11 @@ module _ (r : Rules) (script : List Line) (w : World) (c : IsCluster r script) (
         parent_on : (x : Block) → IsOver r w b x → IsRooted r w a.height x → OnWay x
         parent_on x o root = record { named = b.context.parent; under = o.under; rooted = subst (λ n. IsRooted r w n x) (sym (rooted_height r w a.height x root)) root; steps = s.steps + 1; down = down_join r w s.steps 1 top b x s.down (x, o.under, o.height, refl) }
 
-        by_same : (x : Block) → OnWay x → (a ≡ x) ⊎ IsCollision r w path → OnWay a ⊎ IsCollision r w path
+        by_same : (x : Block) → OnWay x → (a ≡ x) ⊎ AreTwo r w path → OnWay a ⊎ AreTwo r w path
         by_same x on (inl e) = inl (subst OnWay (sym e) on)
         by_same x on (inr y) = inr y
 
-        by_parent : is_named_by r b.context.parent a ≡ true → IsRooted r w (suc a.height) b → (same_commitment b.context.parent (genesis_commitment r) ≡ true) ⊎ (same_commitment b.context.parent (genesis_commitment r) ≡ false) → OnWay a ⊎ IsCollision r w path
+        by_parent : is_named_by r b.context.parent a ≡ true → IsRooted r w (suc a.height) b → (same_commitment b.context.parent (genesis_commitment r) ≡ true) ⊎ (same_commitment b.context.parent (genesis_commitment r) ≡ false) → OnWay a ⊎ AreTwo r w path
         by_parent h (x, o, root) (inl t) =
             let e : genesis r ≡ x = same_Some (genesis r) x (sym (cond-true (same_commitment b.context.parent (genesis_commitment r)) (Some (genesis r)) (first_some (noted_block_of b.context.parent) (all_notes w)) t) ∙ o.under) in
             let g : a ≡ genesis r = same_block-true a (genesis r) (sym (cond-true (same_commitment b.context.parent (genesis_commitment r)) (same_block a (genesis r)) (same_commitment (commit r a) b.context.parent) t) ∙ h) in
@@ -350,32 +361,32 @@ module _ (r : Rules) (script : List Line) (w : World) (c : IsCluster r script) (
             let e : commit r a ≡ b.context.parent = same_commitment-true (commit r a) b.context.parent (sym (cond-false (same_commitment b.context.parent (genesis_commitment r)) (same_block a (genesis r)) (same_commitment (commit r a) b.context.parent) f) ∙ h) in
             let noted : In (Note.Block b.context.parent x) (all_notes w) = first_in b.context.parent (all_notes w) x (sym (cond-false (same_commitment b.context.parent (genesis_commitment r)) (Some (genesis r)) (first_some (noted_block_of b.context.parent) (all_notes w)) f) ∙ o.under) in
             let g : commit r x ≡ b.context.parent = noted_commit r w c.enough keep k.clear b.context.parent x noted in
-            by_same x (parent_on x o root) (same_or path a x i (inr (b.context.parent, noted)) (ap (λ (y : Commitment). y.block) (e ∙ sym g)))
+            by_same x (parent_on x o root) (same_or path a x b.context.parent i noted (ap (λ (y : Commitment). y.block) (e ∙ sym g)))
 
-    walk : (path : List Block) (place : ℕ) (b : Block) (below : List Block) → ((a : Block) → In a below → In a path) → broken_below r place b below ≡ None → OnWay b → (last : Block) → last_or (Some b) below ≡ Some last → OnWay last ⊎ IsCollision r w path
+    walk : (path : List Block) (place : ℕ) (b : Block) (below : List Block) → ((a : Block) → In a below → In a path) → broken_below r place b below ≡ None → OnWay b → (last : Block) → last_or (Some b) below ≡ Some last → OnWay last ⊎ AreTwo r w path
     walk path place b [] sub h s last e = inl (subst OnWay (same_Some b last e) s)
     walk path place b (a ∷ below) sub h s last e = go (cases_Bool (is_parent_of r b a)) (walk path (place + 1) a below (λ x i. sub x (inr i)))
       where
         more : Option ℕ
         more = broken_below r (place + 1) a below
 
-        by_step : (is_parent_of r b a ≡ true) → OnWay a ⊎ IsCollision r w path → (more ≡ None → OnWay a → (last : Block) → last_or (Some a) below ≡ Some last → OnWay last ⊎ IsCollision r w path) → OnWay last ⊎ IsCollision r w path
+        by_step : (is_parent_of r b a ≡ true) → OnWay a ⊎ AreTwo r w path → (more ≡ None → OnWay a → (last : Block) → last_or (Some a) below ≡ Some last → OnWay last ⊎ AreTwo r w path) → OnWay last ⊎ AreTwo r w path
         by_step t (inl on) later = later (sym (cond-true (is_parent_of r b a) more (Some place) t) ∙ h) on last e
         by_step t (inr x) later = inr x
 
-        go : (is_parent_of r b a ≡ true) ⊎ (is_parent_of r b a ≡ false) → (more ≡ None → OnWay a → (last : Block) → last_or (Some a) below ≡ Some last → OnWay last ⊎ IsCollision r w path) → OnWay last ⊎ IsCollision r w path
+        go : (is_parent_of r b a ≡ true) ⊎ (is_parent_of r b a ≡ false) → (more ≡ None → OnWay a → (last : Block) → last_or (Some a) below ≡ Some last → OnWay last ⊎ AreTwo r w path) → OnWay last ⊎ AreTwo r w path
         go (inl t) later = by_step t (step_down path b a (sub a (inl refl)) t s) later
         go (inr f) later = cc (cond-false (is_parent_of r b a) more (Some place) f)
 
-    way : (path : List Block) (last : Block) → broken_at r p.payload path ≡ None → last_or None path ≡ Some last → OnWay last ⊎ IsCollision r w path
+    way : (path : List Block) (last : Block) → broken_at r p.payload path ≡ None → last_or None path ≡ Some last → OnWay last ⊎ AreTwo r w path
     way [] last h e = cc
     way (b ∷ below) last h e = go (cases_Bool (is_named_by r p.payload b))
       where
-        by_first : is_named_by r p.payload b ≡ true → OnWay b ⊎ IsCollision r w (b ∷ below) → OnWay last ⊎ IsCollision r w (b ∷ below)
+        by_first : is_named_by r p.payload b ≡ true → OnWay b ⊎ AreTwo r w (b ∷ below) → OnWay last ⊎ AreTwo r w (b ∷ below)
         by_first t (inl on) = walk (b ∷ below) 1 b below (λ a i. inr i) (sym (cond-true (is_named_by r p.payload b) (broken_below r 1 b below) (Some 0) t) ∙ h) on last e
         by_first t (inr x) = inr x
 
-        go : (is_named_by r p.payload b ≡ true) ⊎ (is_named_by r p.payload b ≡ false) → OnWay last ⊎ IsCollision r w (b ∷ below)
+        go : (is_named_by r p.payload b ≡ true) ⊎ (is_named_by r p.payload b ≡ false) → OnWay last ⊎ AreTwo r w (b ∷ below)
         go (inl t) = by_first t (first_down (b ∷ below) b (inl refl) t)
         go (inr f) = cc (cond-false (is_named_by r p.payload b) (broken_below r 1 b below) (Some 0) f)
 
@@ -423,13 +434,14 @@ module _ (r : Rules) (script : List Line) (w : World) (c : IsCluster r script) (
         by_highest (Some x) e = by_height x e (cases_Bool (b.height == 0))
 
 -- what a yes means
-pub believed : (r : Rules) (script : List Line) (w : World) → IsCluster r script → outcome r (opening r script) script ≡ Ends w → (s : Cert) (path : List Block) (height : ℕ) (d : Digest32) → answer r (signed w) s path ≡ Yes height d → IsBelieved r w (report_of r script w).chain path height d
+pub believed : (r : Rules) (script : List Line) (w : World) → IsCluster r script → outcome r (opening r script) script ≡ Ends w → (s : Cert) (path : List Block) (height : ℕ) (d : Digest32) → answer r (signed w) s path ≡ Yes height d
+    → IsLinkAt r (report_of r script w).chain path height d ⊎ AreTwo r w path
 believed r script w c ends s path height d h =
     let t = told r (signed w) s path height d h in
     let stands = subst (Stands r.epochs (members_of w)) t.is_final (valid_stands r script w c (clear_reached r script script [] w c (sym (append-nil script)) ends).kept s t.valid) in
     by_way t stands (way r script w c ends t.proposal stands path t.block t.whole t.last)
   where
-    by_way : (t : Told r (signed w) s path height d) (stands : Stands r.epochs (members_of w) (Finalize t.proposal)) → OnWay r script w c ends t.proposal stands t.block ⊎ IsCollision r w path → IsBelieved r w (report_of r script w).chain path height d
+    by_way : (t : Told r (signed w) s path height d) (stands : Stands r.epochs (members_of w) (Finalize t.proposal)) → OnWay r script w c ends t.proposal stands t.block ⊎ AreTwo r w path → IsLinkAt r (report_of r script w).chain path height d ⊎ AreTwo r w path
     by_way t stands (inr x) = inr x
     by_way t stands (inl on) = inl (record {
       block = t.block;

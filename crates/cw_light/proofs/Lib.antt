@@ -1,2 +1,3 @@
 pub mod Believed
+pub mod Moments
 mod Walks

@@ -3,7 +3,12 @@ use Rattle.std.specs.Prelude.{ℕ, ◌<◌, ◌≡◌, ◌≢◌, ◌⊎◌, Lis
 use Rattle.std.specs.List.{last_or}
 use Rattle.cw_base.specs.declared.hash.Digest32.{Digest32}
 use Rattle.cw_types.specs.Block.{Block}
-use Rattle.cw_rules.specs.Reached.{In, IsKnown}
+use Rattle.cw_types.specs.Encoding.{block_bytes}
+use Rattle.cw_types.specs.FormatLaws.{IsBlock}
+use Rattle.cw_types.specs.declared.commitment.Commitment.{Commitment}
+use Rattle.cw_types.specs.declared.note.Note.{Note}
+use Rattle.cw_rules.specs.Chains.{all_notes}
+use Rattle.cw_rules.specs.Reached.{In}
 use Rattle.cw_rules.specs.Rules.{Rules, digest}
 use Rattle.cw_rules.specs.World.{World}
 
@@ -15,15 +20,22 @@ pub record IsLinkAt (r : Rules) (links path : List Block) (height : ℕ) (d : Di
   pub digest_is : digest r block ≡ d
   pub link : height < length links → slice_get links height ≡ Some block
 
--- a block of the path and another of its digest, which is genesis or noted by an honest member
+-- two different strings of one digest: the bytes of a block of the path, and those of a block that an honest member noted
 pub record IsCollision (r : Rules) (w : World) (path : List Block) : Type 0 where
   pub shown : Block
   pub in_path : In shown path
   pub noted : Block
-  pub known : IsKnown r w noted
-  pub one_digest : digest r shown ≡ digest r noted
-  pub different : shown ≢ noted
+  pub under : Commitment
+  pub is_noted : In (Note.Block under noted) (all_notes w)
+  pub different : r.block_bytes shown ≢ r.block_bytes noted
+  pub one_digest : r.hash (r.block_bytes shown) ≡ r.hash (r.block_bytes noted)
 
--- what a yes of this height and digest means in a world: the path ends in the link of that height, or two different blocks of one digest are at hand
+-- what a yes of this height and digest means in a world: the path ends in the link of that height, or two different strings of one digest are at hand
 abbrev pub IsBelieved : Rules → World → List Block → List Block → ℕ → Digest32 → Type 0
 IsBelieved r w links path height d = IsLinkAt r links path height d ⊎ IsCollision r w path
+
+-- blocks are hashed in their encoding, and each block of the path and each that an honest member noted can be written, as every block can that a program holds
+pub record AreWritten (r : Rules) (w : World) (path : List Block) : Type 0 where
+  pub encoded : r.block_bytes ≡ block_bytes
+  pub shown : (b : Block) → In b path → IsBlock b
+  pub noted : (under : Commitment) (b : Block) → In (Note.Block under b) (all_notes w) → IsBlock b

@@ -18,8 +18,8 @@ use std::thread::Threads;
 pub enum Answer {
     /// The certificate's vote isn't a well-formed vote to finalize.
     NotFinal,
-    /// The certificate isn't valid: its signers don't rise, or are fewer than a quorum of the epoch,
-    /// or one of them isn't a member of the epoch or didn't sign the vote.
+    /// The certificate isn't valid: its signers don't rise, or are fewer than a quorum of the
+    /// epoch, or one of them isn't a member of the epoch or didn't sign the vote.
     BadSigners,
     /// There is no block.
     EmptyPath,
@@ -29,8 +29,8 @@ pub enum Answer {
     Yes { height: u64, digest: Digest32 },
 }
 
-/// Checks a finalization, and a path of blocks that goes from the finalized one down to the one that
-/// is asked for.
+/// Checks a finalization, and a path of blocks that goes from the finalized one down to the one
+/// that is asked for.
 ///
 /// At place 0 the block is wanted that the vote's payload names, and at each later place the parent
 /// that the block before names, one height lower. Genesis has a commitment of its own; every other

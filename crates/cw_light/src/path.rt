@@ -23,7 +23,8 @@ pub(crate) fn broken_at<H: Hasher<Digest = Digest32>, R: Threads + Sync, S: Stra
     strategy: &S,
 ) -> Result<Option<u64>, NoMemory>
     ensures { (backlog : ℕ) (accepts : Block → Block → Bool)
-        → IfOk result (λ place. place ≡ spec.broken_at (coded H.digest_of committees.now backlog accepts)
+        → IfOk result (λ place. place
+        ≡ spec.broken_at (coded H.digest_of committees.now backlog accepts)
         commitment.now path.now) }
 {
     let Some(first) = path.first() else {
@@ -35,7 +36,8 @@ pub(crate) fn broken_at<H: Hasher<Digest = Digest32>, R: Threads + Sync, S: Stra
     broken_below::<H, R, S>(rt, alloc, committees, path, strategy)
 }
 
-// The first place of a path, behind the first one, where the block isn't the parent of the one before.
+// The first place of a path, behind the first one, where the block isn't the parent of the one
+// before it.
 fn broken_below<H: Hasher<Digest = Digest32>, R: Threads + Sync, S: Strategy>(
     rt: &R,
     alloc: Global,
@@ -67,7 +69,8 @@ fn is_parent<H: Hasher<Digest = Digest32>, R: Threads + Sync, S: Strategy>(
     strategy: &S,
 ) -> Result<bool, NoMemory>
     ensures { (backlog : ℕ) (accepts : Block → Block → Bool)
-        → IfOk result (λ is. is ≡ spec.is_parent_of (coded H.digest_of committees.now backlog accepts)
+        → IfOk result (λ is. is
+        ≡ spec.is_parent_of (coded H.digest_of committees.now backlog accepts)
         above.now block.now) }
 {
     let parent = &above.context().parent;
@@ -85,7 +88,8 @@ fn is_named<H: Hasher<Digest = Digest32>, R: Threads + Sync, S: Strategy>(
     strategy: &S,
 ) -> Result<bool, NoMemory>
     ensures { (backlog : ℕ) (accepts : Block → Block → Bool)
-        → IfOk result (λ is. is ≡ spec.is_named_by (coded H.digest_of committees.now backlog accepts)
+        → IfOk result (λ is. is
+        ≡ spec.is_named_by (coded H.digest_of committees.now backlog accepts)
         commitment.now block.now) }
 {
     if commitment.is_same(&genesis_commitment::<H>()) {

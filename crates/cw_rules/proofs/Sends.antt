@@ -22,7 +22,7 @@ use Rattle.cw_rules.specs.Rules.{Chunk, Rules, chunks, commit, config, genesis_c
 use Rattle.cw_rules.specs.Sends.{answer, chunk_out, finalization_at, finalization_outs, missing, note_sends, own_chunk, sends, to_all}
 use Rattle.cw_rules.specs.Step.{nothing_came, start}
 use Rattle.cw_rules.specs.World.{is_sent_vote, is_vote_of, sent_from}
-use Rattle.cw_base.specs.Config.{same_shards}
+use Rattle.cw_base.specs.Config.{same_counts}
 
 -- one of two lists has it
 pub any_cases : {X : Type 0} (t : X → Bool) (xs ys : List X) → list_any t (xs ++ ys) ≡ true → (list_any t xs ≡ true) ⊎ (list_any t ys ≡ true)
@@ -100,7 +100,7 @@ module _ (i : ℕ) (v : Vote) where
   own_chunk_none r id epoch came (Event.Deliver m) h = by_message m h
     where
       by_message : (m : Message) → list_any votes (own_chunk r id epoch came (Event.Deliver m)) ≡ true → ⊥
-      by_message (Message.Shard c x) h = none_when (option_map_or (λ at. x.index == at) (place r.epochs epoch id) false && same_shards c.config (config r epoch) && is_chunk_of r c x && not (list_any (same_part (Row c x)) came.parts)) (to_all (Message.Shard c x) ∷ []) false≢true h
+      by_message (Message.Shard c x) h = none_when (option_map_or (λ at. x.index == at) (place r.epochs epoch id) false && same_counts c.config (config r epoch) && is_chunk_of r c x && not (list_any (same_part (Row c x)) came.parts)) (to_all (Message.Shard c x) ∷ []) false≢true h
       by_message _ h = false≢true h
   own_chunk_none r id epoch came _ h = false≢true h
 

@@ -4,7 +4,7 @@ use Rattle.std.specs.List.{AllByRecursion, list_any, last_or, cons_option, range
 use Rattle.std.specs.Option.{option_map_or, option_or}
 use Rattle.std.proofs.lemmas.Bool.{and_parts, cases_Bool, cond-true, cond-false, leb-false}
 use Rattle.std.proofs.lemmas.Option.{same_Some}
-use Rattle.cw_base.specs.Config.{same_shards}
+use Rattle.cw_base.specs.Config.{same_counts}
 use Rattle.cw_base.specs.ReadingLaws.{IsBytes, IsConfig}
 use Rattle.cw_types.specs.FormatLaws.{IsBlock, IsCommitment, IsDigest, IsPayload}
 use Rattle.cw_types.specs.MessageLaws.{IsMessage, message_found}
@@ -522,7 +522,7 @@ module _ (r : Rules) (script : List Line) (tells : TellsBlocks r) (cluster : IsC
   out_own id epoch came (Event.Deliver m) = by_message m
     where
       by_message : (m : Message) → AllByRecursion CanOut (own_chunk r id epoch came (Event.Deliver m))
-      by_message (Message.Shard c x) = out_if (option_map_or (λ at. x.index == at) (place r.epochs epoch id) false && same_shards c.config (config r epoch) && is_chunk_of r c x && not (list_any (same_part (Row c x)) came.parts)) (to_all (Message.Shard c x) ∷ []) (tt, tt)
+      by_message (Message.Shard c x) = out_if (option_map_or (λ at. x.index == at) (place r.epochs epoch id) false && same_counts c.config (config r epoch) && is_chunk_of r c x && not (list_any (same_part (Row c x)) came.parts)) (to_all (Message.Shard c x) ∷ []) (tt, tt)
       by_message _ = tt
   out_own id epoch came _ = tt
 

@@ -2,7 +2,7 @@
 use Rattle.std.specs.Prelude.{[], ℕ, ◌&&◌, ◌++◌, ◌==◌, ◌∷◌, Bool, List, None, Option, false, if◌then◌else◌, length, nat_le, not, true}
 use Rattle.std.specs.List.{list_all, list_any}
 use Rattle.std.specs.Option.{option_map_or, option_or}
-use Rattle.cw_base.specs.Config.{same_shards}
+use Rattle.cw_base.specs.Config.{same_counts}
 use Rattle.cw_types.specs.Block.{Block}
 use Rattle.cw_types.specs.Epochs.{is_member, rises_from, size}
 use Rattle.cw_types.specs.Numbers.{quorum}
@@ -14,7 +14,8 @@ use Rattle.cw_types.specs.declared.note.Note.{Note}
 use Rattle.cw_types.specs.declared.vote.Cert.{Cert}
 use Rattle.cw_types.specs.declared.vote.Proposal.{Proposal}
 use Rattle.cw_types.specs.declared.vote.Vote.{Vote}
-use Rattle.cw_rules.specs.Rules.{Chunk, Rules, config_for, is_under}
+use Rattle.cw_rules.specs.Rules.{Chunk, Rules, is_under}
+use Rattle.cw_types.specs.Numbers.{config_for}
 
 -- what f answers at the first element at which it answers something
 abbrev pub first_some : {X Y : Type 0} → (X → Option Y) → List X → Option Y
@@ -70,7 +71,7 @@ take_part came fits x = if fits && not (list_any (same_part x) came.parts) then 
 
 -- a chunk of a commitment with the config of some epoch, which stands under its root
 abbrev pub is_chunk_of : Rules → Commitment → Chunk → Bool
-is_chunk_of r c x = list_any (λ list. same_shards c.config (config_for (length list))) r.epochs.lists && is_under r c x
+is_chunk_of r c x = list_any (λ list. same_counts c.config (config_for (length list))) r.epochs.lists && is_under r c x
 
 -- what a delivered message leaves
 abbrev pub accepted : Rules → (ℕ → Vote → Bool) → Came → Message → Came

@@ -2,7 +2,7 @@
 use Rattle.std.specs.Prelude.{ℕ, ◌&&◌, ◌*◌, ◌++◌, ◌+◌, ◌-◌, ◌/◌, ◌==◌, ◌||◌, Bool, List, None, Option, Some, false, filter, filter_map, if◌then◌else◌, length, map, max, nat_le, nat_lt, not, option_and_then, option_map, suc, true, zero}
 use Rattle.std.specs.List.{list_all, list_any, range_with_len}
 use Rattle.std.specs.Option.{option_map_or, option_or}
-use Rattle.cw_base.specs.Config.{same_shards}
+use Rattle.cw_base.specs.Config.{same_counts}
 use Rattle.cw_types.specs.Epochs.{is_last, is_member, leader, members_in, place, size}
 use Rattle.cw_types.specs.Numbers.{quorum}
 use Rattle.cw_types.specs.Same.{same_commitment, same_digest, same_vote}
@@ -165,7 +165,7 @@ has_own_row r id s p = option_map_or (λ at. list_any (is_row_at at p.payload) s
 
 -- the payload is one for the proposal over the payload settled for its parent view
 abbrev pub is_payload_for : Rules → Proposal → Commitment → Bool
-is_payload_for r p c = same_shards p.payload.config (config r p.epoch) && same_digest p.payload.context (r.hash (r.context_bytes (context_for r p c)))
+is_payload_for r p c = same_counts p.payload.config (config r p.epoch) && same_digest p.payload.context (r.hash (r.context_bytes (context_for r p c)))
 
 -- the proposal is of the settled payload again, which is held as the last block of the epoch
 abbrev pub is_again : Rules → List Note → Proposal → Commitment → Bool

@@ -1,12 +1,12 @@
 -- What the rules of a cluster stand on, and what a block is committed to by.
 use Rattle.std.specs.Prelude.{ℕ, ◌%◌, ◌&&◌, ◌+◌, ◌==◌, Bool, List, Option, length, map, nat_lt, option_and_then}
 use Rattle.std.specs.List.{enumerate_from}
-use Rattle.cw_base.specs.Shards.{Shards}
+use Rattle.cw_base.specs.Counts.{Counts}
 use Rattle.cw_base.specs.declared.hash.Digest32.{Digest32}
 use Rattle.cw_tree.specs.Chunks.{Piece}
 use Rattle.cw_types.specs.Block.{Block}
 use Rattle.cw_types.specs.Epochs.{Epochs, size}
-use Rattle.cw_types.specs.Numbers.{extra_chunks, least_chunks}
+use Rattle.cw_types.specs.Numbers.{config_for}
 use Rattle.cw_types.specs.declared.block.Context.{Context}
 use Rattle.cw_types.specs.declared.commitment.Commitment.{Commitment}
 use Rattle.cw_types.specs.Commit as first
@@ -31,7 +31,7 @@ pub record Rules : Type 0 where
   -- the chunk's siblings lead from its row at its place to that root
   pub leads_to : Digest32 → Chunk → Bool
   -- the text of whose codeword these chunks are rows, and the block that a text is
-  pub text_of : Shards → List Chunk → Option (List ℕ)
+  pub text_of : Counts → List Chunk → Option (List ℕ)
   pub read_block : List ℕ → Option Block
   -- the application accepts the first block over the second
   pub accepts : Block → Block → Bool
@@ -53,20 +53,16 @@ among r epochs backlog accepts = record {
   accepts = accepts;
 }
 
--- the config of n members
-abbrev pub config_for : ℕ → Shards
-config_for n = record { minimum = least_chunks n; extra = extra_chunks n }
-
 -- the config of an epoch
-abbrev pub config : Rules → ℕ → Shards
+abbrev pub config : Rules → ℕ → Counts
 config r epoch = config_for (size r.epochs epoch)
 
 -- k + m of a config
-abbrev pub total_of : Shards → ℕ
+abbrev pub total_of : Counts → ℕ
 total_of x = x.minimum + x.extra
 
 -- the rows of the codeword of a text under a config
-abbrev pub rows_under : Rules → Shards → List ℕ → List (List ℕ)
+abbrev pub rows_under : Rules → Counts → List ℕ → List (List ℕ)
 rows_under r x text = r.code text x.minimum x.extra
 
 -- the rows of a block's bytes under the config of its epoch
@@ -87,7 +83,7 @@ is_under r c x =
     nat_lt x.index (total_of c.config) && nat_lt 0 (length x.shard) && (length x.shard % 2 == 0) && (x.leaf_count == total_of c.config) && r.leads_to c.root x
 
 -- the block whose bytes are the text of whose codeword these chunks are rows
-abbrev pub block_of : Rules → Shards → List Chunk → Option Block
+abbrev pub block_of : Rules → Counts → List Chunk → Option Block
 block_of r x chunks = option_and_then r.read_block (r.text_of x chunks)
 
 -- the hash of a block's bytes

@@ -2,7 +2,7 @@
 use Rattle.std.specs.Prelude.{[], ℕ, ◌&&◌, ◌++◌, ◌==◌, ◌∷◌, List, None, Option, Some, false, filter, filter_map, flat_map, if◌then◌else◌, map, nat_lt, not, option_and_then, option_map, slice_get}
 use Rattle.std.specs.List.{list_any}
 use Rattle.std.specs.Option.{option_map_or}
-use Rattle.cw_base.specs.Config.{same_shards}
+use Rattle.cw_base.specs.Config.{same_counts}
 use Rattle.cw_types.specs.Epochs.{members_in, place}
 use Rattle.cw_types.specs.Same.{same_commitment}
 use Rattle.cw_types.specs.Votes.{proposal_of}
@@ -51,7 +51,7 @@ missing r s = filter (λ c. not (has_block s.notes c)) (once (genesis_commitment
 -- the chunk at the member's own place in that epoch, of the epoch's config, which this event brought, where it was accepted
 abbrev pub own_chunk : Rules → ℕ → ℕ → Came → Event → List Out
 own_chunk r id epoch came (Event.Deliver (Message.Shard c x)) =
-    if option_map_or (λ at. x.index == at) (place r.epochs epoch id) false && same_shards c.config (config r epoch) && is_chunk_of r c x && not (list_any (same_part (Row c x)) came.parts)
+    if option_map_or (λ at. x.index == at) (place r.epochs epoch id) false && same_counts c.config (config r epoch) && is_chunk_of r c x && not (list_any (same_part (Row c x)) came.parts)
     then to_all (Message.Shard c x) ∷ [] else []
 own_chunk r id epoch came _ = []
 

@@ -1,6 +1,6 @@
 -- When the bytes of a block tell it, and what a script may bring in.
 use Rattle.std.specs.Prelude.{ℕ, ⊤, ◌≡◌, ◌≤◌, List, Some, map}
-use Rattle.cw_base.specs.Shards.{Shards}
+use Rattle.cw_base.specs.Counts.{Counts}
 use Rattle.cw_types.specs.Block.{Block}
 use Rattle.cw_types.specs.FormatLaws.{IsBlock, IsDigest, IsPayload}
 use Rattle.cw_rules.specs.Coding.{AreBytes}
@@ -12,7 +12,7 @@ pub record TellsBlocks (r : Rules) : Type 0 where
   -- two such blocks of the same bytes are one
   pub blocks : (a b : Block) → IsBlock a → IsBlock b → r.block_bytes a ≡ r.block_bytes b → a ≡ b
   -- what chunks show is such a block
-  pub shown : (x : Shards) (chunks : List Chunk) (b : Block) → block_of r x chunks ≡ Some b → IsBlock b
+  pub shown : (x : Counts) (chunks : List Chunk) (b : Block) → block_of r x chunks ≡ Some b → IsBlock b
   -- digests and roots have thirty-two bytes
   pub digests : (bytes : List ℕ) → IsDigest (r.hash bytes)
   pub roots : (rows : List (List ℕ)) → IsDigest (r.root (map r.hash rows))

@@ -1,6 +1,8 @@
 //! Laws on the notes of members, and on every world that a script reaches.
 
-ghost use Rattle.std.specs.Prelude.{Bool, IsTrue, List, None, Some, [], false, filter_map, is_none, length, map, slice_get, true, ℕ, ◌%◌, ◌*◌, ◌++◌, ◌<◌, ◌↔◌, ◌≡◌, ◌≢◌, ◌≤◌, ◌⊎◌};
+ghost use Rattle.std.specs.Prelude.{Bool, IsTrue, List, None, Some, [], false, filter_map, is_none};
+ghost use Rattle.std.specs.Prelude.{length, map, slice_get, true, ℕ, ◌%◌, ◌*◌, ◌++◌, ◌<◌, ◌↔◌, ◌≡◌};
+ghost use Rattle.std.specs.Prelude.{◌≢◌, ◌≤◌, ◌⊎◌};
 ghost use Rattle.std.specs.List.{AllByRecursion, range_with_len};
 ghost use Rattle.cw_types.specs.declared.commitment.Commitment.{Commitment};
 ghost use Rattle.cw_types.specs.declared.event.Event.{Event};
@@ -8,20 +10,26 @@ ghost use Rattle.cw_types.specs.declared.event.Handed.{Handed};
 ghost use Rattle.cw_types.specs.declared.note.Note.{Note};
 ghost use Rattle.cw_types.specs.declared.vote.Proposal.{Proposal};
 ghost use Rattle.cw_types.specs.declared.vote.Vote.{Vote};
-ghost use Rattle.cw_types.specs.Epochs.{Epochs, is_last, is_within, leader, members_in, single, size};
+ghost use Rattle.cw_types.specs.Epochs.{Epochs, is_last, is_within, leader, members_in, single};
+ghost use Rattle.cw_types.specs.Epochs.{size};
 ghost use Rattle.cw_rules.specs.Accepted.{Came, State, first_some};
 ghost use Rattle.cw_rules.specs.Chains.{Clashes, Ends, outcome};
 ghost use Rattle.cw_rules.specs.Fits.{block_fits};
 ghost use Rattle.cw_rules.specs.Held.{at_height, held, next, pending, row_of, shown, whole_of};
-ghost use Rattle.cw_rules.specs.Keeps.{AreAlong, IsCertifiedIn, IsGreatest, IsRising, IsSound, Keeps, KeepsBy, Meaning};
+ghost use Rattle.cw_rules.specs.Keeps.{AreAlong, IsCertifiedIn, IsGreatest, IsRising, IsSound};
+ghost use Rattle.cw_rules.specs.Keeps.{Keeps, KeepsBy, Meaning};
 ghost use Rattle.cw_rules.specs.Notes.{epoch_of, has_vote};
 ghost use Rattle.cw_rules.specs.Owed.{epoch_owed, owed};
-ghost use Rattle.cw_rules.specs.Reached.{AllAnchored, AllNamed, GoesDown, In, IsClash, IsCluster, IsMemberKept, IsOneChain, IsReported, OnlyGrows, Reaches, ReachesClear, members_of};
+ghost use Rattle.cw_rules.specs.Reached.{AllAnchored, AllNamed, GoesDown, In, IsClash, IsCluster};
+ghost use Rattle.cw_rules.specs.Reached.{IsMemberKept, IsOneChain, IsReported, OnlyGrows, Reaches};
+ghost use Rattle.cw_rules.specs.Reached.{ReachesClear, members_of};
 ghost use Rattle.cw_rules.specs.Report.{handed_in, report_of};
 ghost use Rattle.cw_rules.specs.Rules.{Rules, among, chunks, commit, is_under, total_of};
 ghost use Rattle.cw_rules.specs.Stands.{AreKept, AreLawful, Descends, EachAfter, Members, Stands};
 ghost use Rattle.cw_rules.specs.Sends.{finalization_at};
-ghost use Rattle.cw_rules.specs.Step.{Member, Wanted, deliveries, delivery, found, left_to_hand, marks, settle, step_notes, taken_came, with_given, with_handed, with_notes};
+ghost use Rattle.cw_rules.specs.Step.{Member, Wanted, deliveries, delivery, found, left_to_hand};
+ghost use Rattle.cw_rules.specs.Step.{marks, settle, step_notes, taken_came, with_given};
+ghost use Rattle.cw_rules.specs.Step.{with_handed, with_notes};
 ghost use Rattle.cw_rules.specs.Telling.{FitsLine, TellsBlocks};
 ghost use Rattle.cw_rules.specs.World.{Line, World, happens, opening};
 ghost use Rattle.cw_rules.specs.Coding.{AreApart, AreByteChunks, IsCoder, IsCodeword, first_chunks};
@@ -29,9 +37,9 @@ ghost use Rattle.cw_types.specs.Block.{Block};
 
 use cw_types::{Commitment, Event, Handed, Note, Proposal, Vote};
 
-/// Among members of whom at most f of each epoch are faulty, and the others honest, what stands is one
-/// chain in each epoch. What it means that the block of a proposal fits is left open, so a payload may be
-/// any commitment.
+/// Among members of whom at most f of each epoch are faulty, and the others honest, what stands is
+/// one chain in each epoch. What it means that the block of a proposal fits is left open, so a
+/// payload may be any commitment.
 pub fn chain_laws()
     // no two different votes to notarize of one epoch and view stand
     ensures one_notarized { (x : Epochs) (fits : List Note → Proposal → Bool) (members : Members)
@@ -41,7 +49,8 @@ pub fn chain_laws()
     // a vote to finalize and one to nullify its view never both stand
     ensures not_both { (x : Epochs) (fits : List Note → Proposal → Bool) (members : Members)
         → AreLawful x fits members
-        → (p : Proposal) → Stands x members (Vote.Finalize p) → Stands x members (Vote.Nullify p.epoch p.view) → ⊥ }
+        → (p : Proposal) → Stands x members (Vote.Finalize p)
+        → Stands x members (Vote.Nullify p.epoch p.view) → ⊥ }
     // what stands notarized in a later view of the epoch than a finalized proposal descends from it
     ensures descent { (x : Epochs) (fits : List Note → Proposal → Bool) (members : Members)
         → AreLawful x fits members
@@ -59,7 +68,8 @@ pub fn member_laws()
     // notes that do are an honest member's
     ensures kept { (r : Rules) (m : Meaning) (x : Epochs) (members : Members)
         → ((v : Vote) → IsTrue (m.holds v) → Stands x members v)
-        → (notes : List Note) → EachAfter (Keeps r m) [] notes → AreKept x (block_fits r) members notes }
+        → (notes : List Note) → EachAfter (Keeps r m) [] notes
+        → AreKept x (block_fits r) members notes }
 {}
 
 /// What it means that an epoch is owed.
@@ -88,17 +98,19 @@ pub fn single_laws()
     ensures no_epoch { (r : Rules) (s : State) → r.epochs.span ≡ None → epoch_owed r s ≡ None }
 {}
 
-/// In every world that a script reaches, with at most f faulty members of each epoch, what stands is one
-/// chain in each epoch, whatever is delivered, lost, repeated, cut or forged.
+/// In every world that a script reaches, with at most f faulty members of each epoch, what stands
+/// is one chain in each epoch, whatever is delivered, lost, repeated, cut or forged.
 pub fn cluster_laws()
     // each such world is lawful: each honest member's notes rest on those before them
     ensures lawful { (r : Rules) (script : List Line) (w : World)
-        → IsCluster r script → Reaches r script w → AreLawful r.epochs (block_fits r) (members_of w) }
+        → IsCluster r script → Reaches r script w
+        → AreLawful r.epochs (block_fits r) (members_of w) }
     // no two different votes to notarize of one epoch and view stand
     ensures one_notarized { (r : Rules) (script : List Line) (w : World)
         → IsCluster r script → Reaches r script w
         → (p q : Proposal) → Stands r.epochs (members_of w) (Vote.Notarize p)
-        → Stands r.epochs (members_of w) (Vote.Notarize q) → p.epoch ≡ q.epoch → p.view ≡ q.view → p ≡ q }
+        → Stands r.epochs (members_of w) (Vote.Notarize q) → p.epoch ≡ q.epoch → p.view ≡ q.view
+        → p ≡ q }
     // a vote to finalize and one to nullify its view never both stand
     ensures not_both { (r : Rules) (script : List Line) (w : World)
         → IsCluster r script → Reaches r script w
@@ -110,12 +122,14 @@ pub fn cluster_laws()
         → (p q : Proposal) → Stands r.epochs (members_of w) (Vote.Finalize p)
         → Stands r.epochs (members_of w) (Vote.Notarize q) → p.epoch ≡ q.epoch → p.view < q.view
         → Descends r.epochs (members_of w) q p }
-    // a finalized proposal, and each from which it descends, was certified by an honest member that noted its block
+    // a finalized proposal, and each from which it descends, was certified by an honest member that
+    // noted its block
     ensures certified { (r : Rules) (script : List Line) (w : World)
         → IsCluster r script → Reaches r script w
         → (p q : Proposal) → Stands r.epochs (members_of w) (Vote.Finalize p)
         → Descends r.epochs (members_of w) p q → IsCertifiedIn (members_of w) q }
-    // each honest member keeps what it must: its notes rest on those before them, what came was signed, what it sent is noted
+    // each honest member keeps what it must: its notes rest on those before them, what came was
+    // signed, what it sent is noted
     ensures kept { (r : Rules) (script : List Line) (w : World)
         → IsCluster r script → Reaches r script w
         → (i : ℕ) (m : Member) → slice_get w.members i ≡ Some (Some m) → IsMemberKept r w i m }
@@ -134,36 +148,42 @@ pub fn line_laws()
         → map is_none (happens r w line).members ≡ map is_none w.members }
 {}
 
-/// In every world that a script reaches without a clash, the epochs follow one another. With two blocks
-/// of one digest these laws would fail, since then one commitment may be that of two blocks.
+/// In every world that a script reaches without a clash, the epochs follow one another. With two
+/// blocks of one digest these laws would fail, since then one commitment may be that of two blocks.
 pub fn epoch_laws()
-    // a note that enters an epoch names the payload of a proposal of the epoch before that stands finalized
+    // a note that enters an epoch names the payload of a proposal of the epoch before that stands
+    // finalized
     ensures anchored { (r : Rules) (script : List Line) (w : World)
         → IsCluster r script → ReachesClear r script w → AllAnchored r.epochs (members_of w) }
     // all notes of honest members that enter one epoch have one commitment
     ensures one_entry { (r : Rules) (script : List Line) (w : World)
         → IsCluster r script → ReachesClear r script w
         → (i j : ℕ) (notes others : List Note)
-        → slice_get (members_of w) i ≡ Some (Some notes) → slice_get (members_of w) j ≡ Some (Some others)
-        → (epoch : ℕ) (c d : Commitment) → In (Note.Epoch epoch c) notes → In (Note.Epoch epoch d) others → c ≡ d }
-    // a step of a descent from what an honest member certified goes to the height below, or keeps the payload at the epoch's last height
+        → slice_get (members_of w) i ≡ Some (Some notes)
+        → slice_get (members_of w) j ≡ Some (Some others)
+        → (epoch : ℕ) (c d : Commitment) → In (Note.Epoch epoch c) notes
+        → In (Note.Epoch epoch d) others → c ≡ d }
+    // a step of a descent from what an honest member certified goes to the height below, or keeps
+    // the payload at the epoch's last height
     ensures goes_down { (r : Rules) (script : List Line) (w : World)
         → IsCluster r script → ReachesClear r script w
-        → (q p : Proposal) → IsCertifiedIn (members_of w) q → Stands r.epochs (members_of w) (Vote.Notarize p)
+        → (q p : Proposal) → IsCertifiedIn (members_of w) q
+        → Stands r.epochs (members_of w) (Vote.Notarize p)
         → p.epoch ≡ q.epoch → p.view ≡ q.parent → GoesDown r w q p }
 {}
 
-/// Where a script ends without a clash, all that is handed out is one chain: the blocks below one that is
-/// handed out are a chain from genesis, and each handed block that isn't higher is one of them.
+/// Where a script ends without a clash, all that is handed out is one chain: the blocks below one
+/// that is handed out are a chain from genesis, and each handed block that isn't higher is one of
+/// them.
 pub fn one_chain()
     ensures { (r : Rules) (script : List Line) (w : World)
         → IsCluster r script → outcome r (opening r script) script ≡ Ends w
         → (x : Handed) → In x (handed_in r script) → IsOneChain r w (handed_in r script) x }
 {}
 
-/// The report of a script that ends without a clash: its chain is one from genesis, and each block that
-/// any entry hands out is the link of its height. Something is handed out, since each honest member
-/// starts with genesis.
+/// The report of a script that ends without a clash: its chain is one from genesis, and each block
+/// that any entry hands out is the link of its height. Something is handed out, since each honest
+/// member starts with genesis.
 pub fn report_laws()
     ensures { (r : Rules) (script : List Line) (w : World)
         → IsCluster r script → 0 < r.backlog → outcome r (opening r script) script ≡ Ends w
@@ -172,7 +192,8 @@ pub fn report_laws()
 
 /// What a clash shows.
 pub fn clash_laws()
-    // in a world that the script reaches, two different blocks of one digest, each genesis or noted by an honest member
+    // in a world that the script reaches, two different blocks of one digest, each genesis or noted
+    // by an honest member
     ensures blocks { (r : Rules) (script : List Line) (earlier later : List ℕ)
         → outcome r (opening r script) script ≡ Clashes earlier later
         → (w : World) × Reaches r script w × IsClash r w earlier later }
@@ -220,11 +241,13 @@ pub fn store_laws()
         ≡ first_some (finalization_at r notes height) notes }
     // what a ticket waits for
     ensures found { (r : Rules) (x : Epochs) (backlog : ℕ) (accepts : Block → Block → Bool)
-        → (notes : List Note) (w : Wanted) → found (among r x backlog accepts) notes w ≡ found r notes w }
+        → (notes : List Note) (w : Wanted)
+        → found (among r x backlog accepts) notes w ≡ found r notes w }
     // what is handed out, with one backlog
     ensures handed { (r : Rules) (x : Epochs) (accepts : Block → Block → Bool)
         → (notes : List Note) (came others : Came) (given : List ℕ)
-        → deliveries (among r x r.backlog accepts) (record { notes = notes; came = came; given = given })
+        → deliveries (among r x r.backlog accepts)
+        (record { notes = notes; came = came; given = given })
         ≡ deliveries r (record { notes = notes; came = others; given = given }) }
 {}
 
@@ -234,10 +257,13 @@ pub fn coding_laws()
     ensures apart { (r : Rules) (signed : ℕ → Vote → Bool) (came : Came) (e : Event)
         → ((c : Commitment) → AreApart (filter_map (row_of c) came.parts))
         → (c : Commitment) → AreApart (filter_map (row_of c) (taken_came r signed came e).parts) }
-    // where no whole block came, a commitment is shown as exactly the block of whose codeword its first k chunks are rows
+    // where no whole block came, a commitment is shown as exactly the block of whose codeword its
+    // first k chunks are rows
     ensures shown { (r : Rules) → IsCoder r
-        → (came : Came) (c : Commitment) (b : Block) → 0 < c.config.minimum → total_of c.config ≤ 65535
-        → ((d : Commitment) → AreApart (filter_map (row_of d) came.parts)) → AreByteChunks (first_chunks came c)
+        → (came : Came) (c : Commitment) (b : Block) → 0 < c.config.minimum
+        → total_of c.config ≤ 65535
+        → ((d : Commitment) → AreApart (filter_map (row_of d) came.parts))
+        → AreByteChunks (first_chunks came c)
         → first_some (whole_of r c) came.parts ≡ None
         → (shown r came c ≡ Some b) ↔ IsCodeword r c (first_chunks came c) b }
     // each chunk that a block is cut in stands under its commitment

@@ -3,7 +3,7 @@ use Rattle.std.proofs.Common.{◌≡◌, ℕ, zero, suc, ◌+◌, ◌<◌, Bool,
 use Rattle.std.specs.List.{enumerate_from}
 use Rattle.std.proofs.lemmas.List.{map-append}
 use Rattle.cw_base.specs.Rows.{length-listed, listed, listed_more, listed_none, listed_same, map-listed}
-use Rattle.cw_base.specs.Shards.{Shards}
+use Rattle.cw_base.specs.Counts.{Counts}
 use Rattle.cw_base.specs.declared.hash.Digest32.{Digest32}
 use Rattle.cw_coding.specs.Encoding.{piece_of}
 use Rattle.cw_coding.specs.Layout.{row_at, row_digests}
@@ -40,14 +40,14 @@ row_digests_are : (hash : List ℕ → Digest32) (k m : ℕ) (text : List ℕ) �
 row_digests_are hash k m text = sym (map-listed (k + m) (row_at k text) hash)
 
 -- the root of a text is that over the digests of its rows
-pub text_root_is : (hash : List ℕ → Digest32) (x : Shards) (text : List ℕ) → text_root hash x text ≡ root_over hash (map hash (code_rows text x.minimum x.extra))
+pub text_root_is : (hash : List ℕ → Digest32) (x : Counts) (text : List ℕ) → text_root hash x text ≡ root_over hash (map hash (code_rows text x.minimum x.extra))
 text_root_is hash x text = ap (λ ds. unwrap_or (root_of hash digest_bytes ds) empty_digest) (row_digests_are hash x.minimum x.extra text)
 
 module _ (hash : List ℕ → Digest32) (epochs : Epochs) (backlog : ℕ) (accepts : Block → Block → Bool) (b : Block) where
   abbrev r : Rules
   r = coded hash epochs backlog accepts
 
-  abbrev own : Shards
+  abbrev own : Counts
   own = config_for (size epochs b.context.epoch)
 
   pub commit_by_rules : types.commit hash (size epochs b.context.epoch) b ≡ commit r b

@@ -12,7 +12,7 @@ use Rattle.std.proofs.Math.Nat.{mul-le-mul_left}
 use Rattle.cw_base.specs.declared.hash.Digest32.{Digest32}
 use Rattle.cw_base.specs.Bytes.{be32}
 use Rattle.cw_base.specs.Rows.{length-listed, listed}
-use Rattle.cw_base.specs.Shards.{Shards}
+use Rattle.cw_base.specs.Counts.{Counts}
 use Rattle.rs_code.specs.Codeword.{ArePoints}
 use Rattle.rs_code.specs.Rows.{AreRows, OriginalsComeFirst, RowsFixCodeword, RowsHaveCodeword, code_row, joined, row_of, row_through, symbol_bytes}
 use Rattle.cw_tree.specs.Tree.{leaves_from, paired, path_of, root_by, root_of, rooted_some, top_within}
@@ -175,7 +175,7 @@ joined_same (suc n) f g h = ap (λ xs. xs ++ f n) (joined_same n f g h) ∙ ap (
 abbrev AreRowsAt : ℕ → ℕ → List ℕ → List Chunk → Type 0
 AreRowsAt k total text chunks = AllByRecursion (λ (c : Chunk). (c.index < total) × (c.shard ≡ row_at k text c.index)) chunks
 
-rows_at : (x : Shards) (text : List ℕ) (chunks : List Chunk) → AllByRecursion (λ (c : Chunk). slice_get (code_rows text x.minimum x.extra) c.index ≡ Some c.shard) chunks → AreRowsAt x.minimum (total_of x) text chunks
+rows_at : (x : Counts) (text : List ℕ) (chunks : List Chunk) → AllByRecursion (λ (c : Chunk). slice_get (code_rows text x.minimum x.extra) c.index ≡ Some c.shard) chunks → AreRowsAt x.minimum (total_of x) text chunks
 rows_at x text [] a = tt
 rows_at x text (c ∷ cs) a = let p = listed_from (x.minimum + x.extra) (row_at x.minimum text) c.index c.shard a.0 in ((p.0, sym p.1), rows_at x text cs a.1)
 
@@ -226,12 +226,12 @@ module _ (k total : ℕ) (text : List ℕ) where
   first_width (c ∷ cs) a h = shard_width c a.0.1
 
 -- each chunk passes the test
-rows_pass : (x : Shards) (text : List ℕ) (chunks : List Chunk) → AreRowsAt x.minimum (total_of x) text chunks → list_all (is_row_of x text) chunks ≡ true
+rows_pass : (x : Counts) (text : List ℕ) (chunks : List Chunk) → AreRowsAt x.minimum (total_of x) text chunks → list_all (is_row_of x text) chunks ≡ true
 rows_pass x text [] a = refl
 rows_pass x text (c ∷ cs) a =
     and_from (is_row_of x text c) (list_all (is_row_of x text) cs) (and_from (nat_lt c.index (total_of x)) (bytes_eq c.shard (row_at x.minimum text c.index)) (lt-ltb c.index (total_of x) a.0.0) ((bytes_eq-Decides c.shard (row_at x.minimum text c.index)).1 a.0.1)) (rows_pass x text cs a.1)
 
-pass_rows : (x : Shards) (text : List ℕ) (chunks : List Chunk) → list_all (is_row_of x text) chunks ≡ true → AllByRecursion (λ (c : Chunk). slice_get (code_rows text x.minimum x.extra) c.index ≡ Some c.shard) chunks
+pass_rows : (x : Counts) (text : List ℕ) (chunks : List Chunk) → list_all (is_row_of x text) chunks ≡ true → AllByRecursion (λ (c : Chunk). slice_get (code_rows text x.minimum x.extra) c.index ≡ Some c.shard) chunks
 pass_rows x text [] h = tt
 pass_rows x text (c ∷ cs) h =
     let p = and_parts (is_row_of x text c) (list_all (is_row_of x text) cs) h in
@@ -254,7 +254,7 @@ passes_text : (text : List ℕ) → is_text text ≡ true → IsText text
 passes_text text h = let p = and_parts (list_all (λ x. nat_lt x 256) text) (nat_lt (length text) (2 ^ 32)) h in (pass_bytes text p.0, ltb-true (length text) (2 ^ 32) p.1)
 
 -- what is decoded is a text of whose codeword the chunks are rows
-decoded_sound : (x : Shards) (chunks : List Chunk) (text : List ℕ) → decoded x chunks ≡ Some text → (length chunks ≡ x.minimum) × IsText text × AllByRecursion (λ (c : Chunk). slice_get (code_rows text x.minimum x.extra) c.index ≡ Some c.shard) chunks
+decoded_sound : (x : Counts) (chunks : List Chunk) (text : List ℕ) → decoded x chunks ≡ Some text → (length chunks ≡ x.minimum) × IsText text × AllByRecursion (λ (c : Chunk). slice_get (code_rows text x.minimum x.extra) c.index ≡ Some c.shard) chunks
 decoded_sound x chunks text h = go (text_in (originals x.minimum chunks)) h
   where
     go : (t : List ℕ) → if_codeword x chunks t ≡ Some text → (length chunks ≡ x.minimum) × IsText text × AllByRecursion (λ (c : Chunk). slice_get (code_rows text x.minimum x.extra) c.index ≡ Some c.shard) chunks
@@ -323,7 +323,7 @@ row_leads hash rows i row at =
 
 module _ (first : OriginalsComeFirst) (fix : RowsFixCodeword) (have : RowsHaveCodeword) where
   -- k rows of a text's codeword at different places are decoded to it
-  decoded_complete : (x : Shards) (chunks : List Chunk) (text : List ℕ) → 0 < x.minimum → total_of x ≤ 65535 → AreApart chunks → AreByteChunks chunks → length chunks ≡ x.minimum → IsText text
+  decoded_complete : (x : Counts) (chunks : List Chunk) (text : List ℕ) → 0 < x.minimum → total_of x ≤ 65535 → AreApart chunks → AreByteChunks chunks → length chunks ≡ x.minimum → IsText text
       → AllByRecursion (λ (c : Chunk). slice_get (code_rows text x.minimum x.extra) c.index ≡ Some c.shard) chunks → decoded x chunks ≡ Some text
   unfolding row_at
   decoded_complete x chunks text pos few apart bytes long t a = ap (if_codeword x chunks) back ∙ cond-true _ (Some text) None tested

@@ -5,7 +5,7 @@ use Rattle.std.specs.List.{list_all}
 use Rattle.std.specs.Option.{option_map_or}
 use Rattle.cw_base.specs.declared.hash.Digest32.{Digest32}
 use Rattle.cw_base.specs.Rows.{listed}
-use Rattle.cw_base.specs.Shards.{Shards}
+use Rattle.cw_base.specs.Counts.{Counts}
 use Rattle.rs_code.specs.Rows.{code_row, joined, row_through}
 use Rattle.cw_tree.specs.Tree.{path_of, root_by, root_of}
 use Rattle.cw_coding.specs.Layout.{row_at}
@@ -60,15 +60,15 @@ abbrev pub is_text : List ℕ → Bool
 is_text text = list_all (λ x. nat_lt x 256) text && nat_lt (length text) (2 ^ 32)
 
 -- the chunk is a row of the text's codeword, at its place
-abbrev pub is_row_of : Shards → List ℕ → Chunk → Bool
+abbrev pub is_row_of : Counts → List ℕ → Chunk → Bool
 is_row_of x text c = nat_lt c.index (total_of x) && bytes_eq c.shard (row_at x.minimum text c.index)
 
 -- the text, where these chunks are k rows of its codeword
-abbrev pub if_codeword : Shards → List Chunk → List ℕ → Option (List ℕ)
+abbrev pub if_codeword : Counts → List Chunk → List ℕ → Option (List ℕ)
 if_codeword x chunks text = if (length chunks == x.minimum) && is_text text && list_all (is_row_of x text) chunks then Some text else None
 
 -- the text of whose codeword these chunks are k rows
-abbrev pub decoded : Shards → List Chunk → Option (List ℕ)
+abbrev pub decoded : Counts → List Chunk → Option (List ℕ)
 decoded x chunks = if_codeword x chunks (text_in (originals x.minimum chunks))
 
 -- the rules over a hash, with these committees, this backlog and this application

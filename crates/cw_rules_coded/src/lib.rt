@@ -16,27 +16,34 @@ ghost use Rattle.cw_tree.specs.Widths.{shard_len};
 
 use rs_code::laws::prove_rows;
 
-/// The rules over the real codeword, tree and bytes have what the laws on chunks ask: chunks are decoded
-/// to exactly the text of whose codeword they are k rows, rows are of one even width, and each way up
-/// leads to the root; a text is read as no block but the one whose bytes it is, and the bytes of a block
-/// are read as that block.
+/// The rules over the real codeword, tree and bytes have what the laws on chunks ask: chunks are
+/// decoded to exactly the text of whose codeword they are k rows, rows are of one even width, and
+/// each way up leads to the root; a text is read as no block but the one whose bytes it is, and the
+/// bytes of a block are read as that block.
 pub fn coded_laws()
-    ensures coder { (hash : List ℕ → Digest32) (epochs : Epochs) (backlog : ℕ) (accepts : Block → Block → Bool)
+    ensures coder { (hash : List ℕ → Digest32) (epochs : Epochs) (backlog : ℕ) (accepts : Block
+        → Block → Bool)
         → IsCoder (coded hash epochs backlog accepts) }
-    ensures reads_back { (hash : List ℕ → Digest32) (epochs : Epochs) (backlog : ℕ) (accepts : Block → Block → Bool) (b : Block) → IsBlock b
+    ensures reads_back { (hash : List ℕ → Digest32) (epochs : Epochs) (backlog : ℕ) (accepts : Block
+        → Block → Bool) (b : Block) → IsBlock b
         → (coded hash epochs backlog accepts).read_block (block_bytes b) ≡ Some b }
 {
     prove_rows();
 }
 
-/// The commitment and the chunks of a block among the members of its epoch are those of these rules,
-/// whatever the backlog and the application: what `cw_types::commit` and `commit_with_chunks` give
-/// for the size of the committee of the block's epoch is what the rules ask for.
+/// The commitment and the chunks of a block among the members of its epoch are those of these
+/// rules, whatever the backlog and the application: what `cw_types::commit` and
+/// `commit_with_chunks` give for the size of the committee of the block's epoch is what the rules
+/// ask for.
 pub fn commits_by_rules()
-    ensures commit { (hash : List ℕ → Digest32) (epochs : Epochs) (backlog : ℕ) (accepts : Block → Block → Bool) (b : Block)
-        → types.commit hash (size epochs b.context.epoch) b ≡ commit (coded hash epochs backlog accepts) b }
-    ensures chunks { (hash : List ℕ → Digest32) (epochs : Epochs) (backlog : ℕ) (accepts : Block → Block → Bool) (b : Block)
-        → types.block_chunks hash (size epochs b.context.epoch) b ≡ chunks (coded hash epochs backlog accepts) b }
+    ensures commit { (hash : List ℕ → Digest32) (epochs : Epochs) (backlog : ℕ) (accepts : Block
+        → Block → Bool) (b : Block)
+        → types.commit hash (size epochs b.context.epoch) b ≡ commit
+        (coded hash epochs backlog accepts) b }
+    ensures chunks { (hash : List ℕ → Digest32) (epochs : Epochs) (backlog : ℕ) (accepts : Block
+        → Block → Bool) (b : Block)
+        → types.block_chunks hash (size epochs b.context.epoch) b ≡ chunks
+        (coded hash epochs backlog accepts) b }
 {}
 
 /// Under the hash that adds up: the digests of genesis and of the block of view 1 with the payload

@@ -3,7 +3,7 @@ use Rattle.std.specs.Prelude.{ℕ, ◌+◌, ◌/◌, ◌==◌, ◌&&◌, true, L
 use Rattle.std.specs.List.{last_or, list_all}
 use Rattle.std.specs.Option.{option_map_or}
 use Rattle.cw_base.specs.declared.hash.Digest32.{Digest32}
-use Rattle.cw_base.specs.Shards.{Shards}
+use Rattle.cw_base.specs.Counts.{Counts}
 use Rattle.cw_types.specs.declared.block.Context.{Context}
 use Rattle.cw_types.specs.declared.commitment.Commitment.{Commitment}
 use Rattle.cw_types.specs.declared.event.To.{To}
@@ -31,7 +31,7 @@ abbrev pub toy_hash : List ℕ → Digest32
 toy_hash xs = record { 0 = xs }
 
 -- the text of which these are k equal rows
-abbrev pub toy_text : Shards → List Chunk → Option (List ℕ)
+abbrev pub toy_text : Counts → List Chunk → Option (List ℕ)
 toy_text x [] = None
 toy_text x (c ∷ cs) = if (length (c ∷ cs) == x.minimum) && list_all (λ d. bytes_eq d.shard c.shard) cs then Some (take (length c.shard / 2) c.shard) else None
 

@@ -1,5 +1,5 @@
-//! Runs of whole clusters, computed from the definitions of the cluster rules by the checker, under a
-//! hash that computes: contracts of functions with empty bodies.
+//! Runs of whole clusters, computed from the definitions of the cluster rules by the checker, under
+//! a hash that computes: contracts of functions with empty bodies.
 #![tactic(auto)]
 
 mod random;

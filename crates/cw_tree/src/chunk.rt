@@ -21,15 +21,30 @@ impl<D> Model for Chunk<D> {
 
     ghost Value = { Piece D };
 
-    ghost view = { λ c. record { shard = c.shard; index = c.index; leaf_count = c.proof.leaf_count; siblings = c.proof.siblings } };
+    ghost view = { λ c. record {
+      shard = c.shard;
+      index = c.index;
+      leaf_count = c.proof.leaf_count;
+      siblings = c.proof.siblings;
+    } };
 
-    ghost inverse = { λ p. record { shard = p.shard; index = p.index; proof = record { leaf_count = p.leaf_count; siblings = p.siblings } } };
+    ghost inverse = { λ p. record {
+      shard = p.shard;
+      index = p.index;
+      proof = record { leaf_count = p.leaf_count; siblings = p.siblings };
+    } };
 }
 
 impl<D> Chunk<D> {
     /// The chunk of these parts. It may not stand in any tree.
     pub fn new(shard: Bytes, index: u16, proof: Proof<D>) -> Chunk<D>
-        ensures { result ≡ record { shard = shard; index = index; leaf_count = proof.leaf_count; siblings = proof.siblings } }
+        ensures { result
+            ≡ record {
+              shard = shard;
+              index = index;
+              leaf_count = proof.leaf_count;
+              siblings = proof.siblings;
+            } }
     {
         Chunk {
             shard,

@@ -1,10 +1,12 @@
 //! The bytes of proofs and chunks.
 
-ghost use Rattle.std.specs.Prelude.{◌≡◌, ℕ, ◌+◌, ◌*◌, ◌-◌, ◌^◌, ◌<◌, ◌≤◌, ◌%◌, min, [], ◌∷◌, ◌++◌, List, length, map, take, IfOk, OnOk, OnErr};
+ghost use Rattle.std.specs.Prelude.{◌≡◌, ℕ, ◌+◌, ◌*◌, ◌-◌, ◌^◌, ◌<◌, ◌≤◌, ◌%◌, min, [], ◌∷◌, ◌++◌};
+ghost use Rattle.std.specs.Prelude.{List, length, map, take, IfOk, OnOk, OnErr};
 ghost use Rattle.std.specs.List.{flat_map};
 ghost use Rattle.cw_base.specs.Ends.{IsEnd};
-ghost use Rattle.cw_base.specs.Reading.{IsRead, Gives, bytes_at};
-ghost use Rattle.cw_tree.specs.Formats.{proof_bytes, chunk_bytes, digests_at, siblings_at, proof_at, shard_at, chunk_at, widest, piece_of_bytes};
+ghost use Rattle.cw_base.specs.Reading.{IsRead, IsRefused, Gives, bytes_at};
+ghost use Rattle.cw_tree.specs.Formats.{proof_bytes, chunk_bytes, digests_at, siblings_at};
+ghost use Rattle.cw_tree.specs.Formats.{proof_at, shard_at, chunk_at, widest, piece_of_bytes};
 
 use crate::bmt::Proof;
 use crate::chunk::Chunk;
@@ -31,7 +33,9 @@ impl<D: Digest> Proof<D> {
     // The parts of a proof, of which some may stay where memory is short.
     #[tactic(auto, unfolding(crate::specs::Formats::proof_bytes))]
     fn write_parts(&self, out: &mut Vec<u8>) -> Result<(), NoMemory>
-        ensures ok { OnOk result (out.new.items ≡ out.old.items ++ proof_bytes D.content self.now.leaf_count self.now.siblings) }
+        ensures ok { OnOk result
+            (out.new.items ≡ out.old.items
+            ++ proof_bytes D.content self.now.leaf_count self.now.siblings) }
         ensures err { OnErr result (take (length out.old.items) out.new.items ≡ out.old.items) }
     {
         put_be32(out, self.leaf_count)?;
@@ -45,7 +49,9 @@ impl<D: Digest> Proof<D> {
     /// Adds the bytes of the proof: four of the leaf count, one for the number of siblings, and the
     /// siblings. Where memory is short nothing changes.
     pub fn write(&self, out: &mut Vec<u8>) -> Result<(), NoMemory>
-        ensures ok { OnOk result (out.new.items ≡ out.old.items ++ proof_bytes D.content self.now.leaf_count self.now.siblings) }
+        ensures ok { OnOk result
+            (out.new.items ≡ out.old.items
+            ++ proof_bytes D.content self.now.leaf_count self.now.siblings) }
         ensures err { OnErr result (out.new.items ≡ out.old.items) }
     {
         let start = out.len();
@@ -106,23 +112,43 @@ fn read_digests<D: Digest>(
     reader: &mut Reader,
     count: u8,
 ) -> Result<Items<D>, CodecError>
-    ensures value { Gives (λ digests. map D.content digests) result reader.new (digests_at D.SIZE count reader.old) }
+    ensures value { Gives (λ digests. map D.content digests) result reader.new
+        (digests_at D.SIZE count reader.old) }
     ensures place { IsEnd reader.old reader.new }
 {
     let mut digests = Items::new(alloc);
     for i in 0..count {
         match read_digest::<D>(reader) {
-            Ok(digest) => digests.push(digest)?,
+            Ok(digest) => match digests.push(digest) {
+                Ok(()) => {}
+                Err(NoMemory) => return Err(skip_digests::<D>(reader, count - i - 1)),
+            },
             Err(error) => return Err(error),
         }
     }
     Ok(digests)
 }
 
+// Why so many digests are not read that there is no memory for: where they are cut, for that.
+#[tactic(auto, using(cw_base::specs::Ends::ends))]
+fn skip_digests<D: Digest>(reader: &mut Reader, count: u8) -> CodecError
+    ensures value { IsRefused result reader.new (digests_at D.SIZE count reader.old) }
+    ensures place { IsEnd reader.old reader.new }
+{
+    for i in 0..count {
+        match read_digest::<D>(reader) {
+            Ok(_) => {}
+            Err(error) => return error,
+        }
+    }
+    CodecError::NoMemory
+}
+
 // At most 32 digests, behind their number.
 #[tactic(auto, using(cw_base::specs::Ends::ends), unfolding(crate::specs::Formats::siblings_at))]
 fn read_siblings<D: Digest>(alloc: Global, reader: &mut Reader) -> Result<Items<D>, CodecError>
-    ensures value { Gives (λ digests. map D.content digests) result reader.new (siblings_at D.SIZE reader.old) }
+    ensures value { Gives (λ digests. map D.content digests) result reader.new
+        (siblings_at D.SIZE reader.old) }
     ensures place { IsEnd reader.old reader.new }
 {
     let count = reader.u8()?;
@@ -139,9 +165,13 @@ impl<D: Digest> Proof<D> {
     /// The proof at the front: `TooLong` above 32 siblings, `EndOfBuffer` where it is cut.
     ///
     /// Refused, the reader stands behind the parts that were taken, a refused number among them.
+    /// For want of memory it is refused only where a whole proof stands there, and all of it is
+    /// taken.
     #[tactic(auto, using(cw_base::specs::Ends::ends), unfolding(crate::specs::Formats::proof_at))]
     pub fn read(alloc: Global, reader: &mut Reader) -> Result<Proof<D>, CodecError>
-        ensures value { Gives (λ proof. (proof.leaf_count, map D.content proof.siblings)) result reader.new (proof_at D.SIZE reader.old) }
+        ensures value { Gives
+            (λ proof. (proof.leaf_count, map D.content proof.siblings)) result reader.new
+            (proof_at D.SIZE reader.old) }
         ensures place { IsEnd reader.old reader.new }
     {
         let leaf_count = reader.be32()?;
@@ -171,11 +201,13 @@ fn read_shard<'a>(reader: &mut Reader<'a>, bound: usize) -> Result<&'a [u8], Cod
 
 impl<D: Digest> Chunk<D> {
     /// The chunk at the front, of a config and of data of at most `maximum` bytes: `TooLong` where
-    /// its shard is wider than the shards of data of `maximum` bytes, or of `u32::MAX` bytes if that
-    /// is less, and above 32 siblings; `InvalidVarint` for a length in another form than its
+    /// its shard is wider than the shards of data of `maximum` bytes, or of `u32::MAX` bytes if
+    /// that is less, and above 32 siblings; `InvalidVarint` for a length in another form than its
     /// shortest; `EndOfBuffer` where it is cut.
     ///
     /// Refused, the reader stands behind the parts that were taken, a refused number among them.
+    /// For want of memory it is refused only where a whole chunk stands there, and all of it is
+    /// taken.
     #[tactic(auto, using(cw_base::specs::Ends::ends), unfolding(crate::specs::Formats::chunk_at))]
     pub fn read(
         alloc: Global,

@@ -9,5 +9,7 @@ mod sizes;
 mod width;
 
 pub use chunk::Chunk;
-pub use laws::{chunks_read_back, chunks_with_digests_read_back, paths_lead_to_the_root};
+pub use laws::{
+    chunks_are_bounded, chunks_read_back, chunks_with_digests_read_back, paths_lead_to_the_root,
+};
 pub use width::canonical_shard_len;

@@ -20,8 +20,8 @@ impl<D: Digest> Proof<D> {
 }
 
 impl<D: Digest> Chunk<D> {
-    /// As many bytes as a chunk is written in whose shard has at most `shard` bytes, and its proof at
-    /// most so many siblings, or more.
+    /// As many bytes as a chunk is written in whose shard has at most `shard` bytes, and its proof
+    /// at most so many siblings, or more.
     pub fn max_encode_size(shard: usize, siblings: usize) -> usize
         requires { 12 + shard + D.SIZE * siblings < 2 ^ 64 }
         ensures { result ≡ 12 + shard + D.SIZE * siblings }

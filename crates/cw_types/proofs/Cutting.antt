@@ -1,7 +1,7 @@
 -- The bytes of each block can be cut in two parts or more.
 use Rattle.std.proofs.Common.{◌≡◌, ℕ, zero, suc, ◌+◌, ◌-◌, ◌*◌, ◌/◌, ◌%◌, ◌^◌, ◌<◌, ◌≤◌, length, arith}
 use Rattle.std.proofs.Math.Nat.{mul-le-mul_right}
-use Rattle.cw_base.specs.Shards.{Shards}
+use Rattle.cw_base.specs.Counts.{Counts}
 use Rattle.cw_coding.specs.Encoding.{IsCodable, IsEncodable}
 use Rattle.cw_coding.specs.Totals.{total_of}
 use Rattle.cw_tree.specs.WidthLaws.{product_fits}
@@ -25,14 +25,14 @@ half_wide n k h =
         omega arith
 
 -- each text of fewer than 2^32 bytes is encoded in two parts or more
-pub codable : (x : Shards) (n : ℕ) → 2 ≤ x.minimum → total_of x ≤ 65535 → n < 2 ^ 32 → IsCodable x n
+pub codable : (x : Counts) (n : ℕ) → 2 ≤ x.minimum → total_of x ≤ 65535 → n < 2 ^ 32 → IsCodable x n
 codable x n some few short =
     let half = half_wide n x.minimum some in
     let fits = product_fits (total_of x) (shard_len n x.minimum) few (omega arith) in
     record { short = omega arith; narrow = omega arith; room = omega arith }
 
 -- the bytes of each block are encoded in two parts or more
-pub block_encodes : (x : Shards) (b : Block) → 2 ≤ x.minimum → total_of x ≤ 65535 → IsBlock b → IsEncodable x (length (block_bytes b))
+pub block_encodes : (x : Counts) (b : Block) → 2 ≤ x.minimum → total_of x ≤ 65535 → IsBlock b → IsEncodable x (length (block_bytes b))
 block_encodes x b some few is =
     let short = block_within b is in
     record { total = few; codable = codable x (length (block_bytes b)) some few (omega arith) }

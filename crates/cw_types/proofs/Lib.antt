@@ -2,6 +2,7 @@ pub mod FirstBlock
 pub mod EpochLemmas
 pub mod SignersRead
 pub mod Taken
+pub mod Refused
 pub mod ShardRead
 pub mod Joined
 pub mod Same

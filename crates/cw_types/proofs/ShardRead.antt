@@ -2,23 +2,15 @@
 use Rattle.std.proofs.Common.{ℕ, List, Result, Ok, Err, ap, ◌∙◌}
 use Rattle.cw_base.specs.declared.hash.Digest32.{Digest32}
 use Rattle.cw_base.specs.declared.reader.CodecError.{CodecError}
-use Rattle.cw_base.specs.declared.reader.CodecError.TheVariants as codec
-use Rattle.cw_base.specs.Reading.{Reading, Gives, IsRefused}
+use Rattle.cw_base.specs.Reading.{Reading, Gives}
 use Rattle.cw_tree.specs.Chunks.{Piece}
 use Rattle.cw_tree.specs.Formats.{piece_of_bytes}
+use Rattle.cw_types.proofs.Refused.{refused_as}
 use Rattle.cw_types.specs.MessageLaws.{digests_back}
 use Rattle.cw_types.specs.Reading.{as_read, with_digests}
 
 abbrev content : Digest32 → List ℕ
 content d = d.0
-
-refused_as : {A B : Type 0} (make : A → B) (e : CodecError) (left : List ℕ) (read : Reading A) → IsRefused e left read → IsRefused e left (as_read make read)
-refused_as make codec.NoMemory left read h = tt
-refused_as make codec.EndOfBuffer left read h = ap (as_read make) h
-refused_as make codec.InvalidVarint left read h = ap (as_read make) h
-refused_as make codec.TooLong left read h = ap (as_read make) h
-refused_as make codec.Invalid left read h = ap (as_read make) h
-refused_as make codec.Extra left read h = ap (as_read make) h
 
 pub gives_digests : (result : Result (Piece Digest32) CodecError) (left : List ℕ) (read : Reading (Piece (List ℕ))) →
     Gives (λ p. piece_of_bytes content p) result left read → Gives (λ p. p) result left (as_read with_digests read)

@@ -1,7 +1,7 @@
 -- The commitment of a block and its chunks, and the first block of the chain.
 use Rattle.std.specs.Prelude.{ℕ, List, [], ◌++◌, replicate, unwrap_or}
 use Rattle.cw_base.specs.declared.hash.Digest32.{Digest32}
-use Rattle.cw_base.specs.Shards.{Shards}
+use Rattle.cw_base.specs.Counts.{Counts}
 use Rattle.cw_types.specs.declared.commitment.Commitment.{Commitment}
 use Rattle.cw_types.specs.declared.block.Context.{Context}
 use Rattle.cw_types.specs.Block.{Block}
@@ -22,7 +22,7 @@ abbrev pub empty_digest : Digest32
 empty_digest = record { 0 = replicate 32 0 }
 
 -- the root of a text: that of the tree over the digests of the k + m rows of its codeword
-abbrev pub text_root : (List ℕ → Digest32) → Shards → List ℕ → Digest32
+abbrev pub text_root : (List ℕ → Digest32) → Counts → List ℕ → Digest32
 text_root hash config text = unwrap_or (root_of_text hash digest_bytes config text) empty_digest
 
 -- what names a block among n members: its digest, the root of its bytes, its context's digest, and their config
@@ -40,7 +40,7 @@ abbrev pub block_chunks : (List ℕ → Digest32) → (n : ℕ) → Block → Li
 block_chunks hash n b = listed (total_of (config_for n)) (piece_of hash digest_bytes (config_for n) (block_bytes b))
 
 -- one shard holds the text, and one is added
-abbrev pub uncut : Shards
+abbrev pub uncut : Counts
 uncut = record { minimum = 1; extra = 1 }
 
 -- the commitment that the first block names as its parent's

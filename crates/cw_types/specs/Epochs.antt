@@ -2,7 +2,7 @@
 use Rattle.std.specs.Prelude.{ℕ, ◌+◌, ◌-◌, ◌*◌, ◌%◌, ◌==◌, ◌&&◌, Bool, true, false, List, [], ◌∷◌, length, Option, Some, None, option_map, option_and_then, unwrap_or, slice_get, position, nat_le, nat_lt, ◌^◌, if◌then◌else◌}
 use Rattle.std.specs.List.{list_any, list_all, range_with_len}
 use Rattle.std.specs.Option.{option_or, option_map_or}
-use Rattle.cw_base.specs.Shards.{Shards}
+use Rattle.cw_base.specs.Counts.{Counts}
 use Rattle.cw_types.specs.Numbers.{config_for}
 
 -- how many members there are, how many heights an epoch covers (none: the first epoch has no end), and the members of each epoch, rising
@@ -41,7 +41,7 @@ abbrev pub size : Epochs → ℕ → ℕ
 size x epoch = length (members_in x epoch)
 
 -- in how many chunks the blocks of an epoch are cut
-abbrev pub config_in : Epochs → ℕ → Shards
+abbrev pub config_in : Epochs → ℕ → Counts
 config_in x epoch = config_for (size x epoch)
 
 -- the member stands in the list of an epoch

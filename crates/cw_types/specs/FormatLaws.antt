@@ -7,7 +7,7 @@ use Rattle.cw_base.specs.declared.reader.CodecError.{CodecError}
 use Rattle.cw_base.specs.declared.reader.CodecError.TheVariants.{TooLong}
 use Rattle.cw_base.specs.Bytes.{be16, be64, varint}
 use Rattle.cw_base.specs.Config.{config_bytes}
-use Rattle.cw_base.specs.Shards.{Shards}
+use Rattle.cw_base.specs.Counts.{Counts}
 use Rattle.cw_base.specs.Reading.{Reading, ◌>>=◌, bytes_at, be64_at, varint_at}
 use Rattle.cw_base.specs.ReadingLaws.{ReadsBack, IsBytes, IsBytes-rest, IsConfig, bind_ok, read_is, bytes_read_back, be16_reads_back, be64_reads_back, varint_reads_back, config_reads_back}
 use Rattle.cw_types.specs.Block.{Block}
@@ -96,7 +96,7 @@ pub record IsCommitment (c : Commitment) : Type 0 where
   pub context : IsDigest c.context
   pub config : IsConfig c.config
 
-abbrev commitment_of : Digest32 → Digest32 → Digest32 → Shards → Commitment
+abbrev commitment_of : Digest32 → Digest32 → Digest32 → Counts → Commitment
 commitment_of block root context config = record { block = block; root = root; context = context; config = config }
 
 pub commitment_reads_back : ReadsBack commitment_bytes IsCommitment commitment_at

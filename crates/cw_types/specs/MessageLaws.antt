@@ -5,7 +5,7 @@ use Rattle.cw_base.specs.declared.hash.Digest32.{Digest32}
 use Rattle.cw_base.specs.Bytes.{be16, be64}
 use Rattle.cw_base.specs.Reading.{Reading, byte_at, be16_at, be64_at}
 use Rattle.cw_base.specs.ReadingLaws.{ReadsBack, IsBytes, IsBytes-rest, bind_ok, byte_reads_back, be16_reads_back, be64_reads_back}
-use Rattle.cw_base.specs.Shards.{Shards}
+use Rattle.cw_base.specs.Counts.{Counts}
 use Rattle.cw_tree.specs.Chunks.{Piece}
 use Rattle.cw_tree.specs.Formats.{chunk_at, chunk_bytes, piece_of_bytes, widest}
 use Rattle.cw_tree.specs.FormatLaws.{FitsChunk, chunk_reads_back, chunk_bytes_same}
@@ -42,10 +42,10 @@ contents_back p =
     ap (λ (ds : List (List ℕ)). let q : Piece (List ℕ) = record { shard = p.shard; index = p.index; leaf_count = p.leaf_count; siblings = ds } in q) (contents_of_digests p.siblings)
 
 -- a chunk of a config whose shard is no wider than those of the longest block, and whose digests have thirty-two bytes
-abbrev pub IsShard : Shards → Piece Digest32 → Type 0
+abbrev pub IsShard : Counts → Piece Digest32 → Type 0
 IsShard config p = FitsChunk 32 (widest config.minimum 1048745) (piece_of_bytes (λ d. d.0) p)
 
-shard_reads_back : (config : Shards) → ReadsBack (chunk_bytes content) (IsShard config) (shard_at config)
+shard_reads_back : (config : Counts) → ReadsBack (chunk_bytes content) (IsShard config) (shard_at config)
 unfolding shard_at
 shard_reads_back config = record { found = found; again = again }
   where

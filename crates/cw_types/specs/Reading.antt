@@ -3,7 +3,7 @@ use Rattle.std.specs.Prelude.{ℕ, zero, suc, ◌-◌, ◌^◌, ◌==◌, Bool, 
 use Rattle.cw_base.specs.declared.hash.Digest32.{Digest32}
 use Rattle.cw_base.specs.declared.reader.CodecError.TheVariants.{TooLong, Invalid}
 use Rattle.cw_base.specs.Reading.{Reading, ◌>>=◌, byte_at, bytes_at, be16_at, be64_at, varint_at, config_at}
-use Rattle.cw_base.specs.Shards.{Shards}
+use Rattle.cw_base.specs.Counts.{Counts}
 use Rattle.cw_tree.specs.Chunks.{Piece}
 use Rattle.cw_tree.specs.Formats.{chunk_at, widest}
 use Rattle.cw_types.specs.Block.{Block}
@@ -154,7 +154,7 @@ abbrev pub with_digests : Piece (List ℕ) → Piece Digest32
 with_digests p = record { shard = p.shard; index = p.index; leaf_count = p.leaf_count; siblings = map (λ content. record { 0 = content }) p.siblings }
 
 -- a chunk of a config, of a block of at most 1,048,745 bytes
-unfoldable pub shard_at : Shards → List ℕ → Reading (Piece Digest32)
+unfoldable pub shard_at : Counts → List ℕ → Reading (Piece Digest32)
 shard_at config bytes = as_read with_digests (chunk_at 32 (widest config.minimum 1048745) bytes)
 
 -- a commitment, and a chunk of its config

@@ -1,7 +1,7 @@
 -- When two values are the same, as a test: field by field.
 use Rattle.std.specs.Prelude.{◌==◌, ◌&&◌, Bool, false, bytes_eq}
 use Rattle.cw_base.specs.declared.hash.Digest32.{Digest32}
-use Rattle.cw_base.specs.Config.{same_shards}
+use Rattle.cw_base.specs.Config.{same_counts}
 use Rattle.cw_types.specs.declared.commitment.Commitment.{Commitment}
 use Rattle.cw_types.specs.declared.block.Context.{Context}
 use Rattle.cw_types.specs.declared.vote.Proposal.{Proposal}
@@ -16,7 +16,7 @@ same_digest a b = bytes_eq a.0 b.0
 
 -- commitments: the three digests and the config
 unfoldable pub same_commitment : Commitment → Commitment → Bool
-same_commitment a b = same_digest a.block b.block && (same_digest a.root b.root && (same_digest a.context b.context && same_shards a.config b.config))
+same_commitment a b = same_digest a.block b.block && (same_digest a.root b.root && (same_digest a.context b.context && same_counts a.config b.config))
 
 -- contexts: the four numbers and the parent's commitment
 unfoldable pub same_context : Context → Context → Bool

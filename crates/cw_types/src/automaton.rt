@@ -43,7 +43,8 @@ pub trait CertifiableAutomaton: Automaton {
     ghost waits: { Self → Self.Context → Type 0 } = { λ automaton context. ⊤ };
 
     /// What is surely certified: each payload, unless an automaton says otherwise.
-    ghost certifies: { Self → RoundValue → Self.Digest → Type 0 } = { λ automaton round payload. ⊤ };
+    ghost certifies: { Self → RoundValue → Self.Digest
+        → Type 0 } = { λ automaton round payload. ⊤ };
 
     /// Makes a payload ready ahead, for where it will be proposed.
     fn prepare(&mut self, _context: Self::Context) -> Handoff<Self::Digest>

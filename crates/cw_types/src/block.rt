@@ -1,6 +1,7 @@
 //! Blocks of the chain, their payloads, and where they were proposed.
 
-ghost use Rattle.std.specs.Prelude.{◌≡◌, ◌↔◌, ◌-◌, ◌^◌, ◌<◌, ◌≤◌, [], ◌++◌, IsErr, IfOk, IfErr, OnOk, OnErr, take, length};
+ghost use Rattle.std.specs.Prelude.{◌≡◌, ◌↔◌, ◌-◌, ◌^◌, ◌<◌, ◌≤◌, [], ◌++◌, IsErr, IfOk, IfErr};
+ghost use Rattle.std.specs.Prelude.{OnOk, OnErr, take, length};
 ghost use Rattle.cw_types.specs.Encoding.{context_bytes, block_bytes};
 ghost use Rattle.cw_types.specs.Same.{same_context, same_block};
 ghost use Rattle.cw_types.specs.Reading.{context_at, height_at, payload_at, block_at};
@@ -12,8 +13,8 @@ use cw_base::{CodecError, Digest32, NoMemory, Reader, put_be16, put_be64, put_by
 use std::alloc::Global;
 use std::marker::Model;
 
-/// Where a block was proposed: the epoch, the view and its leader, and the view and the commitment of
-/// the block that it stands over. In bytes: 8, 8, 2, 8 and 100.
+/// Where a block was proposed: the epoch, the view and its leader, and the view and the commitment
+/// of the block that it stands over. In bytes: 8, 8, 2, 8 and 100.
 #[derive(Clone, Copy, Debug, PartialEq, Eq)]
 pub struct Context {
     pub epoch: u64,
@@ -182,8 +183,8 @@ impl Eq for Payload {
     ghost laws = { Prim.search (comparing, rules) };
 }
 
-// The most bytes of a block: 126 of its context, 32 of its parent's digest, 8 of its height, 3 of its
-// payload's length, and the payload.
+// The most bytes of a block: 126 of its context, 32 of its parent's digest, 8 of its height, 3 of
+// its payload's length, and the payload.
 pub(crate) const MAX_BLOCK: usize = 1_048_745;
 
 /// A block of the chain: its context, the digest of its parent, its height, which is below
@@ -202,18 +203,29 @@ impl Model for ChainBlock {
 
     ghost Value = { Block };
 
-    ghost view = { λ b. record { context = b.context; parent = b.parent; height = b.height; payload = b.payload } };
+    ghost view = { λ b. record {
+      context = b.context;
+      parent = b.parent;
+      height = b.height;
+      payload = b.payload;
+    } };
 
     ghost invariant = { λ b. b.height < 2 ^ 64 - 1 };
 
-    ghost inverse = { λ b. record { context = b.context; parent = b.parent; height = b.height; payload = b.payload } };
+    ghost inverse = { λ b. record {
+      context = b.context;
+      parent = b.parent;
+      height = b.height;
+      payload = b.payload;
+    } };
 }
 
 impl ChainBlock {
     /// A block of these parts. Takes no memory.
     pub fn new(context: Context, parent: Digest32, height: u64, payload: Payload) -> ChainBlock
         requires { height < 2 ^ 64 - 1 }
-        ensures { result ≡ record { context = context; parent = parent; height = height; payload = payload } }
+        ensures { result
+            ≡ record { context = context; parent = parent; height = height; payload = payload } }
     {
         ChainBlock {
             context,
@@ -304,7 +316,8 @@ impl ChainBlock {
     /// `InvalidVarint` for a payload's length in another form than its shortest, `TooLong` for one
     /// above `Payload::MAX`, `EndOfBuffer` where it is cut.
     ///
-    /// Refused, the reader stands behind the parts that were taken, a refused value among them.
+    /// Refused, the reader stands behind the parts that were taken, a refused value among them. For
+    /// want of memory it is refused only where a whole block stands there, and all of it is taken.
     #[tactic(auto, using(cw_base::specs::Ends::end_of_end), unfolding(crate::specs::Reading::block_at))]
     pub fn read(alloc: Global, reader: &mut Reader) -> Result<ChainBlock, CodecError>
         ensures value { Gives (λ block. block) result reader.new (block_at reader.old) }

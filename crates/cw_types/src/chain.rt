@@ -52,7 +52,8 @@ pub fn genesis<H: Hasher<Digest = Digest32>>(alloc: Global) -> ChainBlock
     ChainBlock::new(first_context(), H::hash(&[]), 0, Payload::empty(alloc))
 }
 
-/// What names the first block: its digest, in place of a root too, and its context's. Takes no memory.
+/// What names the first block: its digest, in place of a root too, and its context's. Takes no
+/// memory.
 pub fn genesis_commitment<H: Hasher<Digest = Digest32>>() -> Commitment
     ensures { result ≡ spec.genesis_commitment H.digest_of }
 {

@@ -71,12 +71,14 @@ impl Commitment {
         put_bytes(out, &self.config.write())
     }
 
-    /// The commitment at the front: `Invalid` for a config with a zero, `EndOfBuffer` where it is cut.
+    /// The commitment at the front: `Invalid` for a config with a zero, `EndOfBuffer` where it is
+    /// cut.
     ///
     /// Refused, the reader stands behind the parts that were taken, a zero among them.
     #[tactic(auto, using(cw_base::specs::Ends::end_of_end), unfolding(crate::specs::Reading::commitment_at))]
     pub fn read(reader: &mut Reader) -> Result<Commitment, CodecError>
-        ensures value { IsRead (λ commitment. commitment) result reader.new (commitment_at reader.old) }
+        ensures value { IsRead (λ commitment. commitment) result reader.new
+            (commitment_at reader.old) }
         ensures place { IsEnd reader.old reader.new }
     {
         let block = read_digest(reader)?;

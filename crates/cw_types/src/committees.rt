@@ -1,6 +1,7 @@
 //! Who the members are, epoch by epoch.
 
-ghost use Rattle.std.specs.Prelude.{◌≡◌, ◌+◌, ◌*◌, ◌≤◌, ◌==◌, Some, map, length, position, IfOk, IsTrue};
+ghost use Rattle.std.specs.Prelude.{◌≡◌, ◌+◌, ◌*◌, ◌≤◌, ◌==◌, Some, map, length, position, IfOk};
+ghost use Rattle.std.specs.Prelude.{IsTrue};
 ghost use Rattle.std.specs.List.{list_all};
 ghost use Rattle.cw_coding.specs.Totals.{total_of};
 ghost use Rattle.cw_types.specs.Epochs as epochs;
@@ -9,27 +10,31 @@ use crate::numbers::config_for;
 use cw_base::{Config, Items, NoMemory};
 use std::alloc::Global;
 use std::marker::Model;
+use std::sync::Arc;
 
-/// The committees of a cluster, which are known to all: how many members there are, how many heights
-/// an epoch covers, and the members of each epoch. There are 1 to 64 lists, the last of which serves
-/// for all later epochs. Each has at least four members, which rise.
+/// The committees of a cluster, which are known to all: how many members there are, how many
+/// heights an epoch covers, and the members of each epoch. There are 1 to 64 lists, the last of
+/// which serves for all later epochs. Each has at least four members, which rise.
 #[derive(Debug, Drop)]
 pub struct Committees {
     total: u16,
     // none: the first epoch has no end
     span: Option<u64>,
-    lists: Items<Items<u16>>,
+    // all copies share them
+    lists: Arc<Items<Items<u16>>, Global>,
 }
 
 impl Model for Committees {
     ghost use Rattle.std.specs.Prelude.{IsTrue};
+    ghost use Rattle.std.specs.Arc.{arc_value};
     ghost use Rattle.cw_types.specs.Epochs.{Epochs, is_sound};
 
     ghost Value = { Epochs };
 
-    ghost view = { λ c. record { total = c.total; span = c.span; lists = c.lists } };
+    ghost view = { λ c. record { total = c.total; span = c.span; lists = arc_value c.lists } };
 
-    ghost invariant = { λ c. IsTrue (is_sound (record { total = c.total; span = c.span; lists = c.lists })) };
+    ghost invariant = { λ c. IsTrue
+        (is_sound (record { total = c.total; span = c.span; lists = arc_value c.lists })) };
 }
 
 impl Committees {
@@ -47,7 +52,7 @@ impl Committees {
         Ok(Committees {
             total: n,
             span: None,
-            lists,
+            lists: Arc::new(alloc, lists)?,
         })
     }
 
@@ -61,8 +66,15 @@ impl Committees {
         requires covers { 1 ≤ span }
         requires some { 1 ≤ length lists.now }
         requires few { length lists.now ≤ 64 }
-        requires committees { IsTrue (list_all (epochs.is_committee total) (map (λ list. list.items) lists.now)) }
-        ensures { IfOk result (λ committees. committees ≡ record { total = total; span = Some span; lists = map (λ list. list.items) lists.now }) }
+        requires committees { IsTrue
+            (list_all (epochs.is_committee total) (map (λ list. list.items) lists.now)) }
+        ensures { IfOk result
+            (λ committees. committees
+            ≡ record {
+              total = total;
+              span = Some span;
+              lists = map (λ list. list.items) lists.now;
+            }) }
     {
         let mut copies = Items::new(alloc);
         for list in lists {
@@ -71,19 +83,19 @@ impl Committees {
         Ok(Committees {
             total,
             span: Some(span),
-            lists: copies,
+            lists: Arc::new(alloc, copies)?,
         })
     }
 
-    /// An equal value.
-    pub fn copy(&self, alloc: Global) -> Result<Committees, NoMemory>
+    /// An equal value, which shares the lists and takes no memory. It is refused only where as many
+    /// copies are held as can be counted.
+    pub fn copy(&self, _alloc: Global) -> Result<Committees, NoMemory>
         ensures { IfOk result (λ copy. copy ≡ self.now) }
     {
-        let lists = copy_lists(alloc, self.lists.as_slice())?;
         Ok(Committees {
             total: self.total,
             span: self.span,
-            lists,
+            lists: Arc::try_clone(&self.lists)?,
         })
     }
 
@@ -115,7 +127,7 @@ impl Committees {
         ensures value { result.now ≡ epochs.members_in self.now epoch }
         ensures committee { IsTrue (epochs.is_committee self.now.total result.now) }
     {
-        members_of(self.lists.as_slice(), epoch as usize)
+        members_of(self.lists(), epoch as usize)
     }
 
     /// How many members an epoch has. Takes no memory.
@@ -145,7 +157,8 @@ impl Committees {
         self.members(epoch).iter().any(|other| *other == member)
     }
 
-    /// The place of a member in the list of an epoch; none for one that isn't in it. Takes no memory.
+    /// The place of a member in the list of an epoch; none for one that isn't in it. Takes no
+    /// memory.
     pub fn place(&self, epoch: u64, member: u16) -> Option<u16>
         ensures { result ≡ epochs.place self.now epoch member }
     {
@@ -201,16 +214,6 @@ fn members_of(lists: &[Items<u16>], epoch: usize) -> &[u16]
         Some(list) => list.as_slice(),
         None => &[],
     }
-}
-
-fn copy_lists(alloc: Global, lists: &[Items<u16>]) -> Result<Items<Items<u16>>, NoMemory>
-    ensures { IfOk result (λ copy. copy ≡ lists.now) }
-{
-    let mut copies = Items::new(alloc);
-    for list in lists {
-        copies.push(Items::from_vec(Vec::from_slice(alloc, list.as_slice())?))?;
-    }
-    Ok(copies)
 }
 
 /// The member that leads a view of an epoch: each in turn. Takes no memory.

@@ -13,8 +13,9 @@ use cw_coding::{Chunk, ReedSolomon, ReedSolomonError, Scheme};
 use std::alloc::Global;
 use std::thread::Threads;
 
-/// What names a block whose epoch has `n` members: the digest of its bytes, the root of the codeword
-/// of its bytes, the digest of its context, and how it is cut, which is [`config_for`] of `n`.
+/// What names a block whose epoch has `n` members: the digest of its bytes, the root of the
+/// codeword of its bytes, the digest of its context, and how it is cut, which is [`config_for`] of
+/// `n`.
 ///
 /// The first block of the chain is named by [`genesis_commitment`](crate::genesis_commitment), and
 /// not by this.
@@ -32,8 +33,8 @@ pub fn commit<H: Hasher<Digest = Digest32>, R: Threads + Sync, S: Strategy>(
     Ok(commitment)
 }
 
-/// What [`commit`] gives, and the `n` chunks of the block, in the order of their indices. They share
-/// one buffer.
+/// What [`commit`] gives, and the `n` chunks of the block, in the order of their indices. They
+/// share one buffer.
 pub fn commit_with_chunks<H: Hasher<Digest = Digest32>, R: Threads + Sync, S: Strategy>(
     rt: &R,
     alloc: Global,
@@ -43,7 +44,8 @@ pub fn commit_with_chunks<H: Hasher<Digest = Digest32>, R: Threads + Sync, S: St
 ) -> Result<(Commitment, Vec<Chunk<Digest32>>), NoMemory>
     requires { 4 ≤ n }
     ensures commitment { IfOk result (λ made. made.0 ≡ spec.commit H.digest_of n block.now) }
-    ensures chunks { IfOk result (λ made. made.1.items ≡ spec.block_chunks H.digest_of n block.now) }
+    ensures chunks { IfOk result
+        (λ made. made.1.items ≡ spec.block_chunks H.digest_of n block.now) }
 {
     block_fits(block);
     let config = config_for(n);
@@ -72,7 +74,8 @@ fn encoded<H: Hasher<Digest = Digest32>, R: Threads + Sync, S: Strategy>(
     strategy: &S,
 ) -> Result<(Digest32, Vec<Chunk<Digest32>>), NoMemory>
     requires { IsEncodable config.now (length text.now) }
-    ensures { IfOk result (λ made. IsEncoding H.digest_of spec.digest_bytes config.now text.now made.0 made.1.items) }
+    ensures { IfOk result
+        (λ made. IsEncoding H.digest_of spec.digest_bytes config.now text.now made.0 made.1.items) }
 {
     match ReedSolomon::<H>::encode(rt, alloc, config, text, strategy) {
         Ok(made) => Ok(made),

@@ -37,7 +37,8 @@ pub trait Block: Heightable {
         ensures { read_as (bytes_of self.now) ≡ Some self.now };
 
     /// A law: bytes that are read as a block are that block's.
-    ghost read_is_written: { (text : List ℕ) (block : Self) → IsBytes text → read_as text ≡ Some block → bytes_of block ≡ text };
+    ghost read_is_written: { (text : List ℕ) (block : Self) → IsBytes text
+        → read_as text ≡ Some block → bytes_of block ≡ text };
 }
 
 /// A block that says where it was proposed.

@@ -3,7 +3,8 @@
 ghost use Rattle.std.specs.Prelude.{◌≡◌, ◌++◌, IfOk, IfErr, OnOk, OnErr, take, length};
 ghost use Rattle.cw_base.specs.declared.reader.CodecError.TheVariants as codec;
 ghost use Rattle.cw_types.specs.Encoding.{message_bytes};
-ghost use Rattle.cw_types.specs.Reading.{shard_at, shard_message_at, vote_message_at, ask_at, ask_height_at, tagged_message_at, message_at};
+ghost use Rattle.cw_types.specs.Reading.{shard_at, shard_message_at, vote_message_at, ask_at};
+ghost use Rattle.cw_types.specs.Reading.{ask_height_at, tagged_message_at, message_at};
 ghost use Rattle.cw_base.specs.Ends.{IsEnd};
 ghost use Rattle.cw_base.specs.Reading.{IsRead, Gives};
 
@@ -55,7 +56,8 @@ impl Message {
         }
     }
 
-    /// Appends its bytes: a tag, and its fields, or those that are no message. Where memory is short nothing changes.
+    /// Appends its bytes: a tag, and its fields, or those that are no message. Where memory is
+    /// short nothing changes.
     pub fn write(&self, out: &mut Vec<u8>) -> Result<(), NoMemory>
         ensures ok { OnOk result (out.new.items ≡ out.old.items ++ message_bytes self.now) }
         ensures err { OnErr result (out.new.items ≡ out.old.items) }
@@ -113,8 +115,9 @@ impl Message {
         }
     }
 
-    /// The message that all bytes left are: those that don't read as a message to their end are junk.
-    /// The reader is then at its end. The only refusal is `NoMemory`.
+    /// The message that all bytes left are: those that don't read as a message to their end are
+    /// junk. The reader is then at its end. The only refusal is `NoMemory`, which leaves it there
+    /// too.
     #[tactic(auto, using(cw_base::specs::Ends::ends))]
     pub fn read(alloc: Global, reader: &mut Reader) -> Result<Message, CodecError>
         ensures value { Gives (λ message. message) result reader.new (message_at reader.old) }
@@ -124,7 +127,10 @@ impl Message {
         let bytes = reader.rest();
         match read_tagged(alloc, reader) {
             Ok(message) if reader.rest().is_empty() => Ok(message),
-            Err(CodecError::NoMemory) => Err(CodecError::NoMemory),
+            Err(CodecError::NoMemory) => {
+                *reader = Reader::new(&[]);
+                Err(CodecError::NoMemory)
+            }
             _ => {
                 *reader = Reader::new(&[]);
                 let junk = Vec::from_slice(alloc, bytes)?;

@@ -3,7 +3,9 @@
 ghost use Rattle.std.specs.Prelude.{◌≡◌, ◌∷◌, ◌++◌, ◌<◌, ◌≤◌, IfOk, OnOk, OnErr, take, length};
 ghost use Rattle.cw_base.specs.Bytes.{be64};
 ghost use Rattle.cw_types.specs.Encoding.{epoch_tag_bytes, note_bytes};
-ghost use Rattle.cw_types.specs.Reading.{note_behind, block_note_at, certified_at, cert_note_at, entered_at, formed_vote_at, note_at, ordered_at, verified_at};
+ghost use Rattle.cw_types.specs.Reading.{note_behind, block_note_at, certified_at, cert_note_at};
+ghost use Rattle.cw_types.specs.Reading.{entered_at, formed_vote_at, note_at, ordered_at};
+ghost use Rattle.cw_types.specs.Reading.{verified_at};
 ghost use Rattle.cw_base.specs.Ends.{IsEnd};
 ghost use Rattle.cw_base.specs.Reading.{IsRead, Gives};
 
@@ -116,10 +118,12 @@ impl Note {
     }
 
     /// The note at the front: `Invalid` for another tag, for a later epoch's tag with an epoch of 0
-    /// behind it, for a vote or a proposal that isn't well formed, for a height of 2^64 - 1 and for a
-    /// config with a zero; `InvalidVarint`, `TooLong` and `EndOfBuffer` as for its block.
+    /// behind it, for a vote or a proposal that isn't well formed, for a height of 2^64 - 1 and for
+    /// a config with a zero; `InvalidVarint`, `TooLong` and `EndOfBuffer` as for its block.
     ///
-    /// Refused, the reader stands behind the parts that were taken, a refused tag or value among them.
+    /// Refused, the reader stands behind the parts that were taken, a refused tag or value among
+    /// them. For want of memory it is refused only where a whole note stands there, and all of it
+    /// is taken.
     #[tactic(auto, using(cw_base::specs::Ends::end_of_end), unfolding(crate::specs::Reading::note_at))]
     pub fn read(alloc: Global, reader: &mut Reader) -> Result<Note, CodecError>
         ensures value { Gives (λ note. note) result reader.new (note_at reader.old) }

@@ -15,7 +15,8 @@ pub fn max_faults(n: u16) -> u16
     (n - 1) / 3
 }
 
-/// How many members decide: all but the most that may be faulty. Two quorums share an honest member.
+/// How many members decide: all but the most that may be faulty. Two quorums share an honest
+/// member.
 pub fn quorum(n: u16) -> u16
     requires { 4 ≤ n }
     ensures { result ≡ numbers.quorum n }
@@ -23,8 +24,8 @@ pub fn quorum(n: u16) -> u16
     n - max_faults(n)
 }
 
-/// In how many chunks `n` members cut a block: one for each of them, of which any `f + 1` show it, so
-/// that as many members as may be faulty don't have enough.
+/// In how many chunks `n` members cut a block: one for each of them, of which any `f + 1` show it,
+/// so that as many members as may be faulty don't have enough.
 pub fn config_for(n: u16) -> Config
     requires { 4 ≤ n }
     ensures value { result ≡ numbers.config_for n }

@@ -4,10 +4,12 @@ ghost use Rattle.std.specs.Prelude.{◌≡◌, ◌++◌, ◌<◌, IfOk, OnOk, On
 ghost use Rattle.cw_base.specs.Bytes.{be16};
 ghost use Rattle.cw_types.specs.Encoding.{cert_bytes, proposal_bytes, tag_bytes, vote_bytes};
 ghost use Rattle.cw_types.specs.Same.{same_cert, same_proposal, same_vote};
-ghost use Rattle.cw_types.specs.Reading.{proposal_at, later_epoch_at, later_at, notarize_at, nullify_at, finalize_at, vote_at, signers_at, signed_at, cert_at};
+ghost use Rattle.cw_types.specs.Reading.{proposal_at, later_epoch_at, later_at, notarize_at};
+ghost use Rattle.cw_types.specs.Reading.{nullify_at, finalize_at, vote_at, signers_at, signed_at};
+ghost use Rattle.cw_types.specs.Reading.{cert_at};
 ghost use Rattle.cw_types.specs.Votes as votes;
 ghost use Rattle.cw_base.specs.Ends.{IsEnd};
-ghost use Rattle.cw_base.specs.Reading.{IsRead, Gives};
+ghost use Rattle.cw_base.specs.Reading.{IsRead, IsRefused, Gives};
 
 use crate::commitment::Commitment;
 use cw_base::{CodecError, Items, NoMemory, Reader, put_be16, put_be64, put_u8};
@@ -85,7 +87,8 @@ impl Proposal {
     /// Refused, the reader stands behind the parts that were taken, a zero among them.
     #[tactic(auto, using(cw_base::specs::Ends::end_of_end), unfolding(crate::specs::Reading::proposal_at))]
     pub fn read(reader: &mut Reader, epoch: u64) -> Result<Proposal, CodecError>
-        ensures value { IsRead (λ proposal. proposal) result reader.new (proposal_at epoch reader.old) }
+        ensures value { IsRead (λ proposal. proposal) result reader.new
+            (proposal_at epoch reader.old) }
         ensures place { IsEnd reader.old reader.new }
     {
         let view = reader.be64()?;
@@ -142,8 +145,8 @@ impl Vote {
         }
     }
 
-    /// Appends its bytes: a tag, 8 of the epoch where it isn't 0, and what the vote is on. Where memory
-    /// is short nothing changes.
+    /// Appends its bytes: a tag, 8 of the epoch where it isn't 0, and what the vote is on. Where
+    /// memory is short nothing changes.
     pub fn write(&self, out: &mut Vec<u8>) -> Result<(), NoMemory>
         ensures ok { OnOk result (out.new.items ≡ out.old.items ++ vote_bytes self.now) }
         ensures err { OnErr result (out.new.items ≡ out.old.items) }
@@ -184,7 +187,8 @@ impl Vote {
     /// The vote at the front: `Invalid` for another tag, for a later epoch's tag with an epoch of 0
     /// behind it, and for a config with a zero; `EndOfBuffer` where it is cut.
     ///
-    /// Refused, the reader stands behind the parts that were taken, a refused tag or value among them.
+    /// Refused, the reader stands behind the parts that were taken, a refused tag or value among
+    /// them.
     #[tactic(auto, using(cw_base::specs::Ends::end_of_end), unfolding(crate::specs::Reading::vote_at))]
     pub fn read(reader: &mut Reader) -> Result<Vote, CodecError>
         ensures value { IsRead (λ vote. vote) result reader.new (vote_at reader.old) }
@@ -272,8 +276,8 @@ impl Cert {
         })
     }
 
-    /// Appends its bytes: its vote, 2 of the number of signers, and 2 of each. Where memory is short
-    /// nothing changes.
+    /// Appends its bytes: its vote, 2 of the number of signers, and 2 of each. Where memory is
+    /// short nothing changes.
     pub fn write(&self, out: &mut Vec<u8>) -> Result<(), NoMemory>
         ensures ok { OnOk result (out.new.items ≡ out.old.items ++ cert_bytes self.now) }
         ensures err { OnErr result (out.new.items ≡ out.old.items) }
@@ -300,7 +304,9 @@ impl Cert {
 
     /// The certificate at the front: `Invalid` as for its vote, `EndOfBuffer` where it is cut.
     ///
-    /// Refused, the reader stands behind the parts that were taken, a refused tag or value among them.
+    /// Refused, the reader stands behind the parts that were taken, a refused tag or value among
+    /// them. For want of memory it is refused only where a whole certificate stands there, and all
+    /// of it is taken.
     #[tactic(auto, using(cw_base::specs::Ends::end_of_end), unfolding(crate::specs::Reading::cert_at))]
     pub fn read(alloc: Global, reader: &mut Reader) -> Result<Cert, CodecError>
         ensures value { Gives (λ cert. cert) result reader.new (cert_at reader.old) }
@@ -340,11 +346,29 @@ fn read_signers(alloc: Global, reader: &mut Reader, count: u16) -> Result<Items<
     let mut signers = Items::new(alloc);
     for i in 0..count {
         match reader.be16() {
-            Ok(signer) => signers.push(signer)?,
+            Ok(signer) => match signers.push(signer) {
+                Ok(()) => {}
+                Err(NoMemory) => return Err(skip_signers(reader, count - i - 1)),
+            },
             Err(error) => return Err(error),
         }
     }
     Ok(signers)
+}
+
+// Why so many numbers are not read that there is no memory for: where they are cut, for that.
+#[tactic(auto, using(cw_base::specs::Ends::ends))]
+fn skip_signers(reader: &mut Reader, count: u16) -> CodecError
+    ensures value { IsRefused result reader.new (signers_at count reader.old) }
+    ensures place { IsEnd reader.old reader.new }
+{
+    for i in 0..count {
+        match reader.be16() {
+            Ok(_) => {}
+            Err(error) => return error,
+        }
+    }
+    CodecError::NoMemory
 }
 
 // Two bytes of each.

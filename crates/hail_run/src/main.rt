@@ -1,6 +1,6 @@
-//! Reads a script from standard input, runs it, and prints the report; with the words `storm N` runs
-//! the script of that storm, and prints a summary. Chunks are coded on four threads. The exit status
-//! is that of the answer.
+//! Reads a script from standard input, runs it, and prints the report; with the words `storm N`
+//! runs the script of that storm, and prints a summary. Chunks are coded on four threads. The exit
+//! status is that of the answer.
 #![tactic(auto)]
 
 use cw_base::{NoGate, Sha256, StdSink, StdSource, Threads};

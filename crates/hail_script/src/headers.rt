@@ -1,6 +1,7 @@
 //! Reading the header of a script.
 
-ghost use Rattle.std.specs.Prelude.{◌≡◌, ◌≤◌, ◌⊎◌, IfOk, IfErr, OnOk, IfSome, map, length, take, IsTrue};
+ghost use Rattle.std.specs.Prelude.{◌≡◌, ◌≤◌, ◌⊎◌, IfOk, IfErr, OnOk, IfSome, map, length, take};
+ghost use Rattle.std.specs.Prelude.{IsTrue};
 ghost use Rattle.std.specs.List.{list_all};
 ghost use Rattle.cw_types.specs.Epochs.{rises_from};
 ghost use Rattle.hail_script.specs.Headers as headers;
@@ -109,7 +110,8 @@ fn rising(list: Items<u64>) -> Option<Items<u64>>
 }
 
 fn list_in(alloc: Global, parts: &[&[u8]]) -> Result<Option<Items<u64>>, NoMemory>
-    ensures value { IfOk result (λ list. list ≡ headers.list_in (map (λ part. part.now) parts.now)) }
+    ensures value { IfOk result
+        (λ list. list ≡ headers.list_in (map (λ part. part.now) parts.now)) }
     ensures rises { IfOk result (λ list. IfSome list (λ list. IsTrue (rises_from 0 list))) }
 {
     let [word, members @ ..] = parts else {
@@ -134,8 +136,10 @@ fn list_of(alloc: Global, line: &[u8]) -> Result<Option<Items<u64>>, NoMemory>
 
 // The lists of lines, of which the first is line 2.
 fn lists_from(alloc: Global, lines: &[&[u8]]) -> Result<Items<Items<u64>>, RunError>
-    ensures ok { IfOk result (λ lists. headers.lists_from 2 (map (λ line. line.now) lines.now) ≡ Ok lists) }
-    ensures err { IfErr result (λ e. (e ≡ error.NoMemory) ⊎ (headers.lists_from 2 (map (λ line. line.now) lines.now) ≡ Err e)) }
+    ensures ok { IfOk result
+        (λ lists. headers.lists_from 2 (map (λ line. line.now) lines.now) ≡ Ok lists) }
+    ensures err { IfErr result (λ e. (e ≡ error.NoMemory)
+        ⊎ (headers.lists_from 2 (map (λ line. line.now) lines.now) ≡ Err e)) }
     ensures rise { IfOk result (λ lists. IsTrue (list_all (rises_from 0) lists)) }
     ensures count { IfOk result (λ lists. length lists ≡ length lines.now) }
 {
@@ -152,7 +156,8 @@ fn lists_from(alloc: Global, lines: &[&[u8]]) -> Result<Items<Items<u64>>, RunEr
 // The first lines, as many or all that there are.
 #[tactic(auto, using(std::proofs::lemmas::List::take_all))]
 fn front<'a, 'b>(lines: &'b [&'a [u8]], count: usize) -> &'b [&'a [u8]]
-    ensures value { map (λ line. line.now) result.now ≡ take count (map (λ line. line.now) lines.now) }
+    ensures value { map (λ line. line.now) result.now ≡ take count
+        (map (λ line. line.now) lines.now) }
     ensures count { length result.now ≤ count }
     ensures whole { count ≤ length lines.now → length result.now ≡ count }
 {
@@ -168,8 +173,10 @@ pub(crate) fn lists_of(
     count: usize,
     lines: &[&[u8]],
 ) -> Result<Items<Items<u64>>, RunError>
-    ensures ok { IfOk result (λ lists. headers.lists_in count (map (λ line. line.now) lines.now) ≡ Ok lists) }
-    ensures err { IfErr result (λ e. (e ≡ error.NoMemory) ⊎ (headers.lists_in count (map (λ line. line.now) lines.now) ≡ Err e)) }
+    ensures ok { IfOk result
+        (λ lists. headers.lists_in count (map (λ line. line.now) lines.now) ≡ Ok lists) }
+    ensures err { IfErr result (λ e. (e ≡ error.NoMemory)
+        ⊎ (headers.lists_in count (map (λ line. line.now) lines.now) ≡ Err e)) }
     ensures rise { IfOk result (λ lists. IsTrue (list_all (rises_from 0) lists)) }
     ensures count { IfOk result (λ lists. length lists ≡ count) }
     ensures there { OnOk result (count ≤ length lines.now) }

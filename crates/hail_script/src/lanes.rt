@@ -1,7 +1,8 @@
 //! A script with lanes: events that come before all lanes, and lanes of events that run beside each
 //! other.
 
-ghost use Rattle.std.specs.Prelude.{◌≡◌, ◌≤◌, ◌<◌, ◌+◌, ◌-◌, ◌⊎◌, ◌^◌, IfOk, IfErr, drop, length, map};
+ghost use Rattle.std.specs.Prelude.{◌≡◌, ◌≤◌, ◌<◌, ◌+◌, ◌-◌, ◌⊎◌, ◌^◌, IfOk, IfErr, drop, length};
+ghost use Rattle.std.specs.Prelude.{map};
 ghost use Rattle.hail_script.specs.Lanes as lanes;
 ghost use Rattle.hail_script.specs.declared.error.RunError.TheVariants as error;
 
@@ -16,8 +17,8 @@ use std::marker::Model;
 /// The most lanes of a script.
 const MOST: usize = 64;
 
-/// A script with lanes. Its events stand in the order of the text: those before the first lane, and then
-/// those of each lane.
+/// A script with lanes. Its events stand in the order of the text: those before the first lane, and
+/// then those of each lane.
 #[derive(Debug, Drop)]
 pub struct LaneScript {
     script: Script,
@@ -36,11 +37,12 @@ impl Model for LaneScript {
 }
 
 impl LaneScript {
-    /// The script with lanes that a text spells, or the first cause for which it isn't run. Lines are
-    /// numbered as they stand in the text, those that begin lanes included.
+    /// The script with lanes that a text spells, or the first cause for which it isn't run. Lines
+    /// are numbered as they stand in the text, those that begin lanes included.
     pub fn parse(alloc: Global, script: &[u8]) -> Result<LaneScript, RunError>
         ensures ok { IfOk result (λ read. lanes.laned_of script.now ≡ Ok read) }
-        ensures err { IfErr result (λ e. (e ≡ error.NoMemory) ⊎ (lanes.laned_of script.now ≡ Err e)) }
+        ensures err { IfErr result (λ e. (e ≡ error.NoMemory)
+            ⊎ (lanes.laned_of script.now ≡ Err e)) }
     {
         let pieces = pieces_of(alloc, script, b'\n')?;
         let lines = without_empty_end(&pieces);
@@ -74,8 +76,8 @@ impl LaneScript {
         self.numbers.as_slice()
     }
 
-    /// How many events stand before each lane, behind the beginning of the one before it. The events
-    /// that are left are the last lane's.
+    /// How many events stand before each lane, behind the beginning of the one before it. The
+    /// events that are left are the last lane's.
     pub fn sizes(&self) -> &[u64]
         ensures { result.now ≡ self.now.sizes }
     {
@@ -110,8 +112,8 @@ fn counted(head: u64, number: u64, count: u64) -> u64
     if number > head { count + 1 } else { count }
 }
 
-// Lines without those that begin lanes, with the number of each, and how many events stand before each
-// lane, behind the beginning of the one before it.
+// Lines without those that begin lanes, with the number of each, and how many events stand before
+// each lane, behind the beginning of the one before it.
 #[derive(Drop)]
 struct Parted<'a> {
     numbers: Vec<u64>,
@@ -121,9 +123,14 @@ struct Parted<'a> {
 
 fn part<'a>(alloc: Global, lines: &[&'a [u8]], head: u64) -> Result<Parted<'a>, NoMemory>
     requires { head ≡ lanes.head_in (map (λ line. line.now) lines.now) }
-    ensures numbers { IfOk result (λ parted. parted.numbers.items ≡ map (λ row. row.0) (lanes.others_in (map (λ line. line.now) lines.now))) }
-    ensures lines { IfOk result (λ parted. map (λ line. line.now) parted.lines.items ≡ map (λ row. row.1) (lanes.others_in (map (λ line. line.now) lines.now))) }
-    ensures sizes { IfOk result (λ parted. parted.sizes ≡ lanes.sizes_in (map (λ line. line.now) lines.now)) }
+    ensures numbers { IfOk result
+        (λ parted. parted.numbers.items ≡ map (λ row. row.0)
+        (lanes.others_in (map (λ line. line.now) lines.now))) }
+    ensures lines { IfOk result
+        (λ parted. map (λ line. line.now) parted.lines.items ≡ map (λ row. row.1)
+        (lanes.others_in (map (λ line. line.now) lines.now))) }
+    ensures sizes { IfOk result
+        (λ parted. parted.sizes ≡ lanes.sizes_in (map (λ line. line.now) lines.now)) }
 {
     let mut numbers = Vec::new(alloc);
     let mut others = Vec::new(alloc);

@@ -7,9 +7,10 @@ ghost use Rattle.hail_script.specs.Grammar.{IsEarly, script_of};
 ghost use Rattle.hail_script.specs.Scenario.{Scenario};
 ghost use Rattle.hail_script.specs.declared.error.RunError.{RunError};
 
-/// A text that isn't run has one of the five causes that are tested before a run; and what the lines of
-/// one that is run bring in can be written.
+/// A text that isn't run has one of the five causes that are tested before a run; and what the
+/// lines of one that is run bring in can be written.
 pub fn script_laws()
     ensures early { (text : List ℕ) (e : RunError) → script_of text ≡ Err e → IsEarly e }
-    ensures fits { (text : List ℕ) (s : Scenario) → script_of text ≡ Ok s → AllByRecursion FitsLine s.lines }
+    ensures fits { (text : List ℕ) (s : Scenario) → script_of text ≡ Ok s
+        → AllByRecursion FitsLine s.lines }
 {}

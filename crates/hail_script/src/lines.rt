@@ -30,7 +30,9 @@ fn asked_alone(word: &[u8], member: &[u8]) -> Option<(u64, Ask)>
 }
 
 fn proposing(alloc: Global, member: &[u8], payload: &[u8]) -> Result<Option<(u64, Ask)>, NoMemory>
-    ensures { IfOk result (λ asked. option_map asked_of asked ≡ lines.asking (number member.now) (option_map rule.Propose (bytes_in payload.now))) }
+    ensures { IfOk result
+        (λ asked. option_map asked_of asked ≡ lines.asking (number member.now)
+        (option_map rule.Propose (bytes_in payload.now))) }
 {
     let payload = bytes_of(alloc, payload)?;
     Ok(asking(number_of(member), payload.map(Ask::Propose)))
@@ -42,7 +44,8 @@ fn asked_with(
     first: &[u8],
     second: &[u8],
 ) -> Result<Option<(u64, Ask)>, NoMemory>
-    ensures { IfOk result (λ asked. option_map asked_of asked ≡ lines.asked_with word.now first.now second.now) }
+    ensures { IfOk result
+        (λ asked. option_map asked_of asked ≡ lines.asked_with word.now first.now second.now) }
 {
     if word == b"propose".as_slice() {
         return proposing(alloc, first, second);
@@ -72,7 +75,8 @@ fn asked_number(word: &[u8], first: &[u8], second: &[u8]) -> Option<(u64, Ask)>
 }
 
 fn asked_in(alloc: Global, parts: &[&[u8]]) -> Result<Option<(u64, Ask)>, NoMemory>
-    ensures { IfOk result (λ asked. option_map asked_of asked ≡ lines.asked_in (map (λ part. part.now) parts.now)) }
+    ensures { IfOk result
+        (λ asked. option_map asked_of asked ≡ lines.asked_in (map (λ part. part.now) parts.now)) }
 {
     match parts {
         [word, member] => Ok(asked_alone(word, member)),
@@ -87,7 +91,8 @@ fn cutting(
     fill: Option<u64>,
     asked: Option<(u64, Ask)>,
 ) -> Option<EventLine>
-    ensures value { option_map line_of result ≡ lines.cutting call cut fill (option_map asked_of asked) }
+    ensures value { option_map line_of result ≡ lines.cutting call cut fill
+        (option_map asked_of asked) }
     ensures later { IfSome result (λ event. IsTrue (is_later (line_of event))) }
 {
     let call = call?;
@@ -106,8 +111,10 @@ fn cutting(
 }
 
 fn cut_in(alloc: Global, parts: &[&[u8]]) -> Result<Option<EventLine>, NoMemory>
-    ensures value { IfOk result (λ event. option_map line_of event ≡ lines.cut_in (map (λ part. part.now) parts.now)) }
-    ensures later { IfOk result (λ event. IfSome event (λ event. IsTrue (is_later (line_of event)))) }
+    ensures value { IfOk result
+        (λ event. option_map line_of event ≡ lines.cut_in (map (λ part. part.now) parts.now)) }
+    ensures later { IfOk result
+        (λ event. IfSome event (λ event. IsTrue (is_later (line_of event)))) }
 {
     let [call, cut, fill, asked @ ..] = parts else {
         return Ok(None);
@@ -117,7 +124,9 @@ fn cut_in(alloc: Global, parts: &[&[u8]]) -> Result<Option<EventLine>, NoMemory>
 }
 
 fn offering(alloc: Global, view: &[u8], payload: &[u8]) -> Result<Option<Fault>, NoMemory>
-    ensures { IfOk result (λ fault. option_map fault_of fault ≡ lines.offering (number view.now) (bytes_in payload.now)) }
+    ensures { IfOk result
+        (λ fault. option_map fault_of fault ≡ lines.offering (number view.now)
+        (bytes_in payload.now)) }
 {
     let Some(view) = number_of(view) else {
         return Ok(None);
@@ -129,14 +138,16 @@ fn offering(alloc: Global, view: &[u8], payload: &[u8]) -> Result<Option<Fault>,
 }
 
 fn raw(alloc: Global, field: &[u8]) -> Result<Option<Fault>, NoMemory>
-    ensures { IfOk result (λ fault. option_map fault_of fault ≡ option_map rule.Raw (bytes_in field.now)) }
+    ensures { IfOk result
+        (λ fault. option_map fault_of fault ≡ option_map rule.Raw (bytes_in field.now)) }
 {
     let bytes = bytes_of(alloc, field)?;
     Ok(bytes.map(Fault::Raw))
 }
 
 fn fault_with(alloc: Global, word: &[u8], field: &[u8]) -> Result<Option<Fault>, NoMemory>
-    ensures { IfOk result (λ fault. option_map fault_of fault ≡ lines.fault_with word.now field.now) }
+    ensures { IfOk result
+        (λ fault. option_map fault_of fault ≡ lines.fault_with word.now field.now) }
 {
     if word == b"notarize".as_slice() {
         return Ok(number_of(field).map(Fault::Notarize));
@@ -168,7 +179,8 @@ fn offer_in(
     view: &[u8],
     payload: &[u8],
 ) -> Result<Option<Fault>, NoMemory>
-    ensures { IfOk result (λ fault. option_map fault_of fault ≡ lines.offer_in word.now view.now payload.now) }
+    ensures { IfOk result
+        (λ fault. option_map fault_of fault ≡ lines.offer_in word.now view.now payload.now) }
 {
     if word != b"offer".as_slice() {
         return Ok(None);
@@ -177,7 +189,8 @@ fn offer_in(
 }
 
 fn fault_in(alloc: Global, parts: &[&[u8]]) -> Result<Option<Fault>, NoMemory>
-    ensures { IfOk result (λ fault. option_map fault_of fault ≡ lines.fault_in (map (λ part. part.now) parts.now)) }
+    ensures { IfOk result
+        (λ fault. option_map fault_of fault ≡ lines.fault_in (map (λ part. part.now) parts.now)) }
 {
     match parts {
         [word] => Ok(fault_alone(word)),
@@ -188,8 +201,10 @@ fn fault_in(alloc: Global, parts: &[&[u8]]) -> Result<Option<Fault>, NoMemory>
 }
 
 fn faulty_in(alloc: Global, parts: &[&[u8]]) -> Result<Option<EventLine>, NoMemory>
-    ensures value { IfOk result (λ event. option_map line_of event ≡ lines.faulty_in (map (λ part. part.now) parts.now)) }
-    ensures later { IfOk result (λ event. IfSome event (λ event. IsTrue (is_later (line_of event)))) }
+    ensures value { IfOk result
+        (λ event. option_map line_of event ≡ lines.faulty_in (map (λ part. part.now) parts.now)) }
+    ensures later { IfOk result
+        (λ event. IfSome event (λ event. IsTrue (is_later (line_of event)))) }
 {
     let [member, fault @ ..] = parts else {
         return Ok(None);
@@ -204,7 +219,8 @@ fn faulty_in(alloc: Global, parts: &[&[u8]]) -> Result<Option<EventLine>, NoMemo
 }
 
 fn restart_in(parts: &[&[u8]]) -> Option<EventLine>
-    ensures value { option_map line_of result ≡ lines.restart_in (map (λ part. part.now) parts.now) }
+    ensures value { option_map line_of result ≡ lines.restart_in
+        (map (λ part. part.now) parts.now) }
     ensures later { IfSome result (λ event. IsTrue (is_later (line_of event))) }
 {
     let [member] = parts else {
@@ -214,8 +230,10 @@ fn restart_in(parts: &[&[u8]]) -> Option<EventLine>
 }
 
 fn do_in(alloc: Global, parts: &[&[u8]]) -> Result<Option<EventLine>, NoMemory>
-    ensures value { IfOk result (λ event. option_map line_of event ≡ lines.do_in (map (λ part. part.now) parts.now)) }
-    ensures later { IfOk result (λ event. IfSome event (λ event. IsTrue (is_later (line_of event)))) }
+    ensures value { IfOk result
+        (λ event. option_map line_of event ≡ lines.do_in (map (λ part. part.now) parts.now)) }
+    ensures later { IfOk result
+        (λ event. IfSome event (λ event. IsTrue (is_later (line_of event)))) }
 {
     match asked_in(alloc, parts)? {
         None => Ok(None),
@@ -224,8 +242,10 @@ fn do_in(alloc: Global, parts: &[&[u8]]) -> Result<Option<EventLine>, NoMemory>
 }
 
 fn event_in(alloc: Global, parts: &[&[u8]]) -> Result<Option<EventLine>, NoMemory>
-    ensures value { IfOk result (λ event. option_map line_of event ≡ lines.event_in (map (λ part. part.now) parts.now)) }
-    ensures later { IfOk result (λ event. IfSome event (λ event. IsTrue (is_later (line_of event)))) }
+    ensures value { IfOk result
+        (λ event. option_map line_of event ≡ lines.event_in (map (λ part. part.now) parts.now)) }
+    ensures later { IfOk result
+        (λ event. IfSome event (λ event. IsTrue (is_later (line_of event)))) }
 {
     let [word, rest @ ..] = parts else {
         return Ok(None);
@@ -244,8 +264,10 @@ fn event_in(alloc: Global, parts: &[&[u8]]) -> Result<Option<EventLine>, NoMemor
 
 /// The event of a line.
 pub(crate) fn event_of(alloc: Global, line: &[u8]) -> Result<Option<EventLine>, NoMemory>
-    ensures value { IfOk result (λ event. option_map line_of event ≡ lines.event_in (fields line.now)) }
-    ensures later { IfOk result (λ event. IfSome event (λ event. IsTrue (is_later (line_of event)))) }
+    ensures value { IfOk result
+        (λ event. option_map line_of event ≡ lines.event_in (fields line.now)) }
+    ensures later { IfOk result
+        (λ event. IfSome event (λ event. IsTrue (is_later (line_of event)))) }
 {
     let parts = pieces_of(alloc, line, b' ')?;
     event_in(alloc, &parts)

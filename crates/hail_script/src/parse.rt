@@ -1,6 +1,7 @@
 //! Reading the lines behind a header, and whether they are run.
 
-ghost use Rattle.std.specs.Prelude.{◌≡◌, ◌≤◌, ◌<◌, ◌^◌, ◌⊎◌, IfOk, IfErr, IsTrue, map, nat_le, nat_lt, ◌&&◌, [], length, count_by};
+ghost use Rattle.std.specs.Prelude.{◌≡◌, ◌≤◌, ◌<◌, ◌^◌, ◌⊎◌, IfOk, IfErr, IsTrue, map, nat_le};
+ghost use Rattle.std.specs.Prelude.{nat_lt, ◌&&◌, [], length, count_by};
 ghost use Rattle.std.specs.List.{list_all};
 ghost use Rattle.cw_types.specs.Epochs.{is_committee, rises_from};
 ghost use Rattle.hail_script.specs.Admission as admission;
@@ -22,9 +23,13 @@ pub(crate) fn events_of(
     lines: &[&[u8]],
 ) -> Result<Items<EventLine>, RunError>
     requires { first ≤ 66 }
-    ensures ok { IfOk result (λ events. grammar.events_from first (map (λ line. line.now) lines.now) ≡ Ok (map line_of events)) }
-    ensures err { IfErr result (λ e. (e ≡ error.NoMemory) ⊎ (grammar.events_from first (map (λ line. line.now) lines.now) ≡ Err e)) }
-    ensures later { IfOk result (λ events. IsTrue (list_all grammar.is_later (map line_of events))) }
+    ensures ok { IfOk result
+        (λ events. grammar.events_from first (map (λ line. line.now) lines.now) ≡ Ok
+        (map line_of events)) }
+    ensures err { IfErr result (λ e. (e ≡ error.NoMemory)
+        ⊎ (grammar.events_from first (map (λ line. line.now) lines.now) ≡ Err e)) }
+    ensures later { IfOk result
+        (λ events. IsTrue (list_all grammar.is_later (map line_of events))) }
 {
     let mut events = Items::new(alloc);
     for (index, line) in lines.iter().enumerate() {
@@ -51,7 +56,8 @@ fn member_of(line: &EventLine) -> u64
 /// The first event line that names a member past the last.
 pub(crate) fn first_unknown(total: u16, first: u64, events: &[EventLine]) -> Option<u64>
     requires { first ≤ 66 }
-    ensures { result ≡ grammar.first_at (grammar.names_stranger total) first (map line_of events.now) }
+    ensures { result ≡ grammar.first_at (grammar.names_stranger total) first
+        (map line_of events.now) }
 {
     for (index, event) in events.iter().enumerate() {
         if member_of(event) >= u64::from(total) {
@@ -191,7 +197,9 @@ fn are_long(lists: &[Items<u64>]) -> bool
 
 /// Whether there are 4 to 65,535 members, and at least four in each list.
 pub(crate) fn are_sized(total: u64, lists: &[Items<u64>]) -> bool
-    ensures { result ≡ (nat_le 4 total && (nat_lt total (2 ^ 16) && list_all (λ list. nat_le 4 (length list)) lists.now)) }
+    ensures { result
+        ≡ (nat_le 4 total &&
+        (nat_lt total (2 ^ 16) && list_all (λ list. nat_le 4 (length list)) lists.now)) }
 {
     if total < 4 || total > 65535 {
         return false;

@@ -12,14 +12,17 @@ use std::str;
 
 /// The pieces of a text between separators.
 pub(crate) fn pieces_of(alloc: Global, text: &[u8], separator: u8) -> Result<Vec<&[u8]>, AllocError>
-    ensures { IfOk result (λ pieces. map (λ piece. piece.now) pieces.items ≡ slice_split (λ b. b == separator) text.now) }
+    ensures { IfOk result
+        (λ pieces. map (λ piece. piece.now) pieces.items ≡ slice_split
+        (λ b. b == separator) text.now) }
 {
     text.split(|b| *b == separator).collect(alloc)
 }
 
 /// The lines but for an empty one at the end, since a line feed at the end begins no further line.
 pub(crate) fn without_empty_end<'a, 'b>(lines: &'b [&'a [u8]]) -> &'b [&'a [u8]]
-    ensures { map (λ line. line.now) result.now ≡ pieces.without_empty_end (map (λ line. line.now) lines.now) }
+    ensures { map (λ line. line.now) result.now ≡ pieces.without_empty_end
+        (map (λ line. line.now) lines.now) }
 {
     match lines {
         [front @ .., last] if last.is_empty() => front,
@@ -72,7 +75,8 @@ pub(crate) fn bytes_of(alloc: Global, field: &[u8]) -> Result<Option<Items<u8>>,
 
 /// The numbers that fields are, if all are.
 pub(crate) fn numbers_of(alloc: Global, fields: &[&[u8]]) -> Result<Option<Items<u64>>, NoMemory>
-    ensures { IfOk result (λ numbers. numbers ≡ pieces.numbers (map (λ field. field.now) fields.now)) }
+    ensures { IfOk result
+        (λ numbers. numbers ≡ pieces.numbers (map (λ field. field.now) fields.now)) }
 {
     let mut numbers = Items::new(alloc);
     for field in fields {

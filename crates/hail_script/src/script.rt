@@ -1,6 +1,7 @@
 //! A script that is run.
 
-ghost use Rattle.std.specs.Prelude.{◌≡◌, ◌≤◌, ◌<◌, ◌^◌, ◌⊎◌, ◌∷◌, [], Some, None, IfOk, IfErr, IsTrue, drop, length, map};
+ghost use Rattle.std.specs.Prelude.{◌≡◌, ◌≤◌, ◌<◌, ◌^◌, ◌⊎◌, ◌∷◌, [], Some, None, IfOk, IfErr};
+ghost use Rattle.std.specs.Prelude.{IsTrue, drop, length, map};
 ghost use Rattle.std.specs.List.{list_all};
 ghost use Rattle.cw_types.specs.Epochs.{is_committee, rises_from};
 ghost use Rattle.cw_rules.specs.Reached.{IsCluster};
@@ -42,9 +43,15 @@ impl Model for Script {
 
     ghost Value = { Scenario };
 
-    ghost view = { λ s. record { committees = s.committees; backlog = s.backlog; lines = map line_of s.events } };
+    ghost view = { λ s. record {
+      committees = s.committees;
+      backlog = s.backlog;
+      lines = map line_of s.events;
+    } };
 
-    ghost invariant = { λ s. (1 ≤ s.backlog) × (s.first ≡ first_event s.committees) × (s.first ≤ 66) × IsRunnable (record { committees = s.committees; backlog = s.backlog; lines = map line_of s.events }) };
+    ghost invariant = { λ s. (1 ≤ s.backlog) × (s.first ≡ first_event s.committees) × (s.first ≤ 66)
+        × IsRunnable
+        (record { committees = s.committees; backlog = s.backlog; lines = map line_of s.events }) };
 }
 
 // The committees with these members.
@@ -59,7 +66,9 @@ fn committees_of(
     requires some { 1 ≤ length lists.now }
     requires few { length lists.now ≤ 64 }
     requires committees { IsTrue (list_all (is_committee members) lists.now) }
-    ensures { IfOk result (λ committees. committees ≡ record { total = members; span = Some span; lists = lists.now }) }
+    ensures { IfOk result
+        (λ committees. committees
+        ≡ record { total = members; span = Some span; lists = lists.now }) }
 {
     let narrowed = narrow_all(alloc, members as u16, lists)?;
     Committees::new(alloc, members as u16, span, &narrowed)
@@ -77,7 +86,8 @@ impl Script {
     /// The script that a text spells, or the first cause for which it isn't run.
     pub fn parse(alloc: Global, script: &[u8]) -> Result<Script, RunError>
         ensures ok { IfOk result (λ read. grammar.script_of script.now ≡ Ok read) }
-        ensures err { IfErr result (λ e. (e ≡ error.NoMemory) ⊎ (grammar.script_of script.now ≡ Err e)) }
+        ensures err { IfErr result (λ e. (e ≡ error.NoMemory)
+            ⊎ (grammar.script_of script.now ≡ Err e)) }
     {
         let pieces = pieces_of(alloc, script, b'\n')?;
         match Script::read(alloc, without_empty_end(&pieces)) {
@@ -88,8 +98,12 @@ impl Script {
 
     /// The script that lines make, or the first cause for which it isn't run.
     pub(crate) fn read(alloc: Global, lines: &[&[u8]]) -> Result<Script, RunError>
-        ensures ok { IfOk result (λ read. grammar.if_admitted (grammar.spelled_in (map (λ line. line.now) lines.now)) ≡ Ok read) }
-        ensures err { IfErr result (λ e. (e ≡ error.NoMemory) ⊎ (grammar.if_admitted (grammar.spelled_in (map (λ line. line.now) lines.now)) ≡ Err e)) }
+        ensures ok { IfOk result
+            (λ read. grammar.if_admitted (grammar.spelled_in (map (λ line. line.now) lines.now))
+            ≡ Ok read) }
+        ensures err { IfErr result (λ e. (e ≡ error.NoMemory)
+            ⊎ (grammar.if_admitted (grammar.spelled_in (map (λ line. line.now) lines.now))
+            ≡ Err e)) }
     {
         let Some((first, more)) = lines.split_first() else {
             return Err(RunError::Syntax(1));
@@ -113,8 +127,14 @@ impl Script {
         lines: &[&[u8]],
     ) -> Result<Script, RunError>
         requires { 1 ≤ backlog }
-        ensures ok { IfOk result (λ read. grammar.if_admitted (grammar.behind_header (Some (header.Cluster members backlog)) (map (λ line. line.now) lines.now)) ≡ Ok read) }
-        ensures err { IfErr result (λ e. (e ≡ error.NoMemory) ⊎ (grammar.if_admitted (grammar.behind_header (Some (header.Cluster members backlog)) (map (λ line. line.now) lines.now)) ≡ Err e)) }
+        ensures ok { IfOk result
+            (λ read. grammar.if_admitted
+            (grammar.behind_header (Some (header.Cluster members backlog))
+            (map (λ line. line.now) lines.now)) ≡ Ok read) }
+        ensures err { IfErr result (λ e. (e ≡ error.NoMemory)
+            ⊎ (grammar.if_admitted
+            (grammar.behind_header (Some (header.Cluster members backlog))
+            (map (λ line. line.now) lines.now)) ≡ Err e)) }
     {
         let events = match events_of(alloc, 2, lines) {
             Ok(events) => events,
@@ -140,8 +160,14 @@ impl Script {
         requires span { 1 ≤ span }
         requires some { 1 ≤ count }
         requires few { count ≤ 64 }
-        ensures ok { IfOk result (λ read. grammar.if_admitted (grammar.behind_header (Some (header.Several members backlog span count)) (map (λ line. line.now) lines.now)) ≡ Ok read) }
-        ensures err { IfErr result (λ e. (e ≡ error.NoMemory) ⊎ (grammar.if_admitted (grammar.behind_header (Some (header.Several members backlog span count)) (map (λ line. line.now) lines.now)) ≡ Err e)) }
+        ensures ok { IfOk result
+            (λ read. grammar.if_admitted
+            (grammar.behind_header (Some (header.Several members backlog span count))
+            (map (λ line. line.now) lines.now)) ≡ Ok read) }
+        ensures err { IfErr result (λ e. (e ≡ error.NoMemory)
+            ⊎ (grammar.if_admitted
+            (grammar.behind_header (Some (header.Several members backlog span count))
+            (map (λ line. line.now) lines.now)) ≡ Err e)) }
     {
         let lists = match lists_of(alloc, count as usize, lines) {
             Ok(lists) => lists,
@@ -169,8 +195,20 @@ impl Script {
         requires few { length lists ≤ 64 }
         requires rise { IsTrue (list_all (rises_from 0) lists) }
         requires later { IsTrue (list_all grammar.is_later (map line_of events)) }
-        ensures ok { IfOk result (λ read. grammar.admitted (record { committees = record { total = members; span = Some span; lists = lists }; backlog = backlog; lines = map line_of events }) ≡ Ok read) }
-        ensures err { IfErr result (λ e. (e ≡ error.NoMemory) ⊎ (grammar.admitted (record { committees = record { total = members; span = Some span; lists = lists }; backlog = backlog; lines = map line_of events }) ≡ Err e)) }
+        ensures ok { IfOk result
+            (λ read. grammar.admitted
+            (record {
+              committees = record { total = members; span = Some span; lists = lists };
+              backlog = backlog;
+              lines = map line_of events;
+            }) ≡ Ok read) }
+        ensures err { IfErr result (λ e. (e ≡ error.NoMemory)
+            ⊎ (grammar.admitted
+            (record {
+              committees = record { total = members; span = Some span; lists = lists };
+              backlog = backlog;
+              lines = map line_of events;
+            }) ≡ Err e)) }
     {
         if !are_sized(members, lists.as_slice()) {
             return Err(RunError::BadCommittee);
@@ -196,8 +234,14 @@ impl Script {
         requires first { first ≡ grammar.first_event committees }
         requires few { first ≤ 66 }
         requires later { IsTrue (list_all grammar.is_later (map line_of events)) }
-        ensures ok { IfOk result (λ read. grammar.admitted (record { committees = committees; backlog = backlog; lines = map line_of events }) ≡ Ok read) }
-        ensures err { IfErr result (λ e. (e ≡ error.NoMemory) ⊎ (grammar.admitted (record { committees = committees; backlog = backlog; lines = map line_of events }) ≡ Err e)) }
+        ensures ok { IfOk result
+            (λ read. grammar.admitted
+            (record { committees = committees; backlog = backlog; lines = map line_of events })
+            ≡ Ok read) }
+        ensures err { IfErr result (λ e. (e ≡ error.NoMemory)
+            ⊎ (grammar.admitted
+            (record { committees = committees; backlog = backlog; lines = map line_of events })
+            ≡ Err e)) }
     {
         let lines = events.as_slice();
         if let Some(line) = first_unknown(committees.total(), first, lines) {
@@ -263,8 +307,8 @@ impl Script {
         self.first
     }
 
-    /// A law: in a cluster of the script's committees each epoch has members enough, who are there, and
-    /// of whom the script makes at most f faulty.
+    /// A law: in a cluster of the script's committees each epoch has members enough, who are there,
+    /// and of whom the script makes at most f faulty.
     pub fn is_cluster(&self)
         ensures { (r : Rules) → r.epochs ≡ self.now.committees → IsCluster r self.now.lines }
     {
@@ -274,7 +318,8 @@ impl Script {
 
     /// For each member, whether some line makes it faulty.
     pub fn faulty(&self, alloc: Global) -> Result<Vec<bool>, NoMemory>
-        ensures { IfOk result (λ marks. marks.items ≡ grammar.marks self.now.lines self.now.committees.total) }
+        ensures { IfOk result
+            (λ marks. marks.items ≡ grammar.marks self.now.lines self.now.committees.total) }
     {
         marks_of(alloc, self.committees.total(), self.events.as_slice())
     }

@@ -27,7 +27,9 @@ pub(crate) fn chain_of<H: Hasher<Digest = Digest32>>(
     steps: &[Entry],
 ) -> Result<Items<ChainBlock>, NoMemory>
     ensures { (r : Rules) (w : RulesWorld) → GoesBy H.digest_of r → AreMembers places.now w.members
-        → IfOk result (λ chain. chain ≡ chain_from r w (highest_of (flat_map (λ e. e.handed) (opening.now ++ steps.now)))) }
+        → IfOk result
+        (λ chain. chain ≡ chain_from r w
+        (highest_of (flat_map (λ e. e.handed) (opening.now ++ steps.now)))) }
 {
     match highest(steps, highest(opening, None)) {
         None => Ok(Items::new(alloc)),
@@ -75,7 +77,8 @@ fn parent<H: Hasher<Digest = Digest32>>(
     block: &ChainBlock,
     left: u64,
 ) -> Result<Option<ChainBlock>, NoMemory>
-    ensures below { (r : Rules) (w : RulesWorld) → GoesBy H.digest_of r → AreMembers places.now w.members
+    ensures below { (r : Rules) (w : RulesWorld) → GoesBy H.digest_of r
+        → AreMembers places.now w.members
         → IfOk result (λ next. next ≡ under r w left block.now) }
     ensures bottom { left ≡ 0 → IfOk result (λ next. next ≡ None) }
 {
@@ -102,7 +105,8 @@ fn named<H: Hasher<Digest = Digest32>>(
     places: &[Place<Seat<H>>],
     commitment: &Commitment,
 ) -> Result<Option<ChainBlock>, NoMemory>
-    ensures { IfOk result (λ block. block ≡ first_named H.digest_of (map notes_in places.now) commitment.now) }
+    ensures { IfOk result
+        (λ block. block ≡ first_named H.digest_of (map notes_in places.now) commitment.now) }
 {
     if commitment.is_same(&genesis_commitment::<H>()) {
         return Ok(Some(genesis::<H>(alloc)));
@@ -118,7 +122,8 @@ fn noted_in<'a, H: Hasher<Digest = Digest32>>(
     places: &'a [Place<Seat<H>>],
     commitment: &Commitment,
 ) -> Option<&'a ChainBlock>
-    ensures { option_map (λ b. b.now) result ≡ first_some (noted_block_of commitment.now) (flat_map (λ notes. notes) (map notes_in places.now)) }
+    ensures { option_map (λ b. b.now) result ≡ first_some (noted_block_of commitment.now)
+        (flat_map (λ notes. notes) (map notes_in places.now)) }
 {
     for place in places {
         if let Some(found) = noted_by(notes_at::<H>(place), commitment) {
@@ -129,7 +134,8 @@ fn noted_in<'a, H: Hasher<Digest = Digest32>>(
 }
 
 fn noted_by<'a>(notes: &'a [Note], commitment: &Commitment) -> Option<&'a ChainBlock>
-    ensures { option_map (λ b. b.now) result ≡ first_some (noted_block_of commitment.now) notes.now }
+    ensures { option_map (λ b. b.now) result ≡ first_some
+        (noted_block_of commitment.now) notes.now }
 {
     for note in notes {
         if let Some(found) = noted(note, commitment) {

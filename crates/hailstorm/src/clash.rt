@@ -7,7 +7,8 @@ ghost use Rattle.cw_rules.specs.Reached.{AllNamed};
 ghost use Rattle.cw_rules.specs.Rules.{Rules};
 ghost use Rattle.cw_rules.specs.World.{World as RulesWorld};
 ghost use Rattle.hailstorm.specs.Places.{AreMembers, notes_at as notes_in};
-ghost use Rattle.hailstorm.specs.Runs.{GoesBy, HasGrown, all_before, clash_in, clash_of, earlier_of, encoded, notes_before, other, other_in};
+ghost use Rattle.hailstorm.specs.Runs.{GoesBy, HasGrown, all_before, clash_in, clash_of};
+ghost use Rattle.hailstorm.specs.Runs.{earlier_of, encoded, notes_before, other, other_in};
 
 use crate::place::Place;
 use crate::seat::Seat;
@@ -16,7 +17,8 @@ use cw_base::{Digest, Digest32, Hasher, Items, NoMemory};
 use cw_types::{ChainBlock, Note, genesis};
 use std::alloc::Global;
 
-/// The first of a member's new blocks that collides with one noted before it, after the one that it collides with.
+/// The first of a member's new blocks that collides with one noted before it, after the one that it
+/// collides with.
 pub(crate) fn find_clash<H: Hasher<Digest = Digest32>>(
     alloc: Global,
     places: &[Place<Seat<H>>],
@@ -24,7 +26,8 @@ pub(crate) fn find_clash<H: Hasher<Digest = Digest32>>(
     old: usize,
 ) -> Result<Option<(Items<u8>, Items<u8>)>, NoMemory>
     requires known { id < length places.now }
-    ensures { (r : Rules) (before after : RulesWorld) → GoesBy H.digest_of r → AreMembers places.now after.members → HasGrown before after id old → AllNamed r after
+    ensures { (r : Rules) (before after : RulesWorld) → GoesBy H.digest_of r
+        → AreMembers places.now after.members → HasGrown before after id old → AllNamed r after
         → IfOk result (λ clash. clash ≡ option_map (encoded r) (clash_at r before after id)) }
 {
     let own = notes_at::<H>(&places[id]);
@@ -39,7 +42,9 @@ fn clash_from<H: Hasher<Digest = Digest32>>(
     own: &[Note],
     old: usize,
 ) -> Result<Option<(Items<u8>, Items<u8>)>, NoMemory>
-    ensures { IfOk result (λ clash. clash ≡ clash_in H.digest_of (map notes_in places.now) id old (drop old own.now)) }
+    ensures { IfOk result
+        (λ clash. clash ≡ clash_in H.digest_of (map notes_in places.now) id old
+        (drop old own.now)) }
 {
     for index in old..own.len() {
         let clash = clash_of::<H>(alloc, places, id, index, &own[index])?;
@@ -58,7 +63,8 @@ fn clash_of<H: Hasher<Digest = Digest32>>(
     index: usize,
     note: &Note,
 ) -> Result<Option<(Items<u8>, Items<u8>)>, NoMemory>
-    ensures { IfOk result (λ clash. clash ≡ clash_of H.digest_of (map notes_in places.now) id index note.now) }
+    ensures { IfOk result
+        (λ clash. clash ≡ clash_of H.digest_of (map notes_in places.now) id index note.now) }
 {
     match note {
         Note::Block(commitment, block) => {
@@ -71,7 +77,8 @@ fn clash_of<H: Hasher<Digest = Digest32>>(
     }
 }
 
-// The encoding of the first block, of genesis and those noted before, with that digest that is another.
+// The encoding of the first block, of genesis and those noted before, with that digest that is
+// another.
 fn earlier<H: Hasher<Digest = Digest32>>(
     alloc: Global,
     places: &[Place<Seat<H>>],
@@ -80,7 +87,9 @@ fn earlier<H: Hasher<Digest = Digest32>>(
     digest: &Digest32,
     block: &ChainBlock,
 ) -> Result<Option<Items<u8>>, NoMemory>
-    ensures { IfOk result (λ found. found ≡ option_map block_bytes (earlier_of H.digest_of (map notes_in places.now) id index digest.now block.now)) }
+    ensures { IfOk result
+        (λ found. found ≡ option_map block_bytes
+        (earlier_of H.digest_of (map notes_in places.now) id index digest.now block.now)) }
 {
     let first = genesis::<H>(alloc);
     let bytes = encode(alloc, &first)?;
@@ -93,7 +102,8 @@ fn earlier<H: Hasher<Digest = Digest32>>(
     }
 }
 
-// The first block of the notes before a place and a number in it, with that digest, that is another.
+// The first block of the notes before a place and a number in it, with that digest, that is
+// another.
 fn earlier_in<'a, H: Hasher<Digest = Digest32>>(
     places: &'a [Place<Seat<H>>],
     id: usize,
@@ -101,7 +111,8 @@ fn earlier_in<'a, H: Hasher<Digest = Digest32>>(
     digest: &Digest32,
     block: &ChainBlock,
 ) -> Option<&'a ChainBlock>
-    ensures { option_map (λ b. b.now) result ≡ other_in (all_before id index 0 (map notes_in places.now)) digest.now block.now }
+    ensures { option_map (λ b. b.now) result ≡ other_in
+        (all_before id index 0 (map notes_in places.now)) digest.now block.now }
 {
     for (at, place) in places.iter().enumerate() {
         let notes = notes_before::<H>(place, at, id, index);

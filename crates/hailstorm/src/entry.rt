@@ -40,7 +40,15 @@ pub(crate) fn enter(
     outs: Items<Out>,
     handed: Items<Handed>,
 ) -> Result<Entry, NoMemory>
-    ensures { IfOk result (λ entry. entry ≡ record { line = line; member = member; found = found; sent = sent_from (length (sent_in pool.now)) from outs; handed = handed }) }
+    ensures { IfOk result
+        (λ entry. entry
+        ≡ record {
+          line = line;
+          member = member;
+          found = found;
+          sent = sent_from (length (sent_in pool.now)) from outs;
+          handed = handed;
+        }) }
 {
     let sent = number(alloc, pool.count(), from, outs.into_vec())?;
     Ok(Entry {
@@ -61,8 +69,17 @@ pub(crate) fn enter_done(
     found: Option<u64>,
     done: Option<StepOut>,
 ) -> Result<Entry, NoMemory>
-    ensures { let sent = sent_from (length (sent_in pool.now)) member (option_map_or (λ out. out.sent) done []) in
-        IfOk result (λ entry. entry ≡ record { line = line; member = Some member; found = found; sent = sent; handed = option_map_or (λ out. out.handed) done [] }) }
+    ensures { let sent = sent_from (length (sent_in pool.now)) member
+        (option_map_or (λ out. out.sent) done []) in
+        IfOk result
+        (λ entry. entry
+        ≡ record {
+          line = line;
+          member = Some member;
+          found = found;
+          sent = sent;
+          handed = option_map_or (λ out. out.handed) done [];
+        }) }
 {
     match done {
         None => enter(

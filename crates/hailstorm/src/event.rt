@@ -32,7 +32,8 @@ pub(crate) fn is_faulty(faulty: &[bool], member: u16) -> bool
 }
 
 impl Verifier for Table<'_> {
-    ghost signs = { λ votes member vote. table votes.faulty.now (sent_in votes.pool.now) member vote };
+    ghost signs = { λ votes member vote. table votes.faulty.now
+        (sent_in votes.pool.now) member vote };
 
     fn signed(&self, member: u16, vote: &Vote) -> bool {
         is_faulty(self.faulty, member) || self.pool.has_vote(member, vote)
@@ -50,7 +51,8 @@ fn is_to(to: To, member: u16) -> bool
 
 // The message of that number, where it was sent and goes to the member.
 fn message_for(pool: &Pool, member: u16, number: u64) -> Option<&Message>
-    ensures { option_map (λ message. message.now) result ≡ rule.message_for (over (sent_in pool.now)) member number }
+    ensures { option_map (λ message. message.now) result ≡ rule.message_for
+        (over (sent_in pool.now)) member number }
 {
     match pool.get(number) {
         None => None,
@@ -91,7 +93,8 @@ fn delivered(
     member: u16,
     number: u64,
 ) -> Result<Option<Event>, NoMemory>
-    ensures { IfOk result (λ event. event ≡ rule.event_of (over (sent_in pool.now)) member (rule.Deliver number)) }
+    ensures { IfOk result
+        (λ event. event ≡ rule.event_of (over (sent_in pool.now)) member (rule.Deliver number)) }
 {
     match message_for(pool, member, number) {
         None => Ok(None),
@@ -100,7 +103,8 @@ fn delivered(
 }
 
 fn floor_of(alloc: Global, pool: &Pool, member: u16, number: u64) -> Result<Option<Event>, NoMemory>
-    ensures { IfOk result (λ event. event ≡ rule.event_of (over (sent_in pool.now)) member (rule.Floor number)) }
+    ensures { IfOk result
+        (λ event. event ≡ rule.event_of (over (sent_in pool.now)) member (rule.Floor number)) }
 {
     match message_for(pool, member, number) {
         None => Ok(None),
@@ -116,7 +120,8 @@ pub(crate) fn event_for(
     ask: &Ask,
 ) -> Result<Option<Event>, NoMemory>
     requires { asks_oversize ask.now ≡ false }
-    ensures { IfOk result (λ event. event ≡ rule.event_of (over (sent_in pool.now)) member (ask_of ask.now)) }
+    ensures { IfOk result
+        (λ event. event ≡ rule.event_of (over (sent_in pool.now)) member (ask_of ask.now)) }
 {
     match ask {
         Ask::Propose(payload) => Ok(Some(Event::Propose(proposing(alloc, payload.as_slice())?))),

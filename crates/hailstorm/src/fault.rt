@@ -1,6 +1,7 @@
 //! What a faulty member sends.
 
-ghost use Rattle.std.specs.Prelude.{◌≡◌, ◌++◌, ◌<◌, ◌∷◌, [], IfOk, OnOk, IsTrue, false, map, option_map, filter_map};
+ghost use Rattle.std.specs.Prelude.{◌≡◌, ◌++◌, ◌<◌, ◌∷◌, [], IfOk, OnOk, IsTrue, false, map};
+ghost use Rattle.std.specs.Prelude.{option_map, filter_map};
 ghost use Rattle.cw_types.specs.Reading.{message_of};
 ghost use Rattle.cw_rules.specs.Sends.{chunk_out, to_all as all};
 ghost use Rattle.cw_rules.specs.World as rule;
@@ -72,7 +73,8 @@ fn again(
     number: u64,
     finalizes: bool,
 ) -> Result<Items<Out>, NoMemory>
-    ensures { IfOk result (λ outs. outs ≡ offers.again finalizes (over (sent_in pool.now)) member number) }
+    ensures { IfOk result
+        (λ outs. outs ≡ offers.again finalizes (over (sent_in pool.now)) member number) }
 {
     match voted_on(pool, number) {
         None => Ok(Items::new(alloc)),
@@ -131,7 +133,8 @@ fn chunk_outs(
     commitment: &Commitment,
     chunks: Vec<Chunk<Digest32>>,
 ) -> Result<Items<Out>, NoMemory>
-    ensures { IfOk result (λ outs. outs ≡ filter_map (chunk_out member list.now commitment.now) chunks.items) }
+    ensures { IfOk result
+        (λ outs. outs ≡ filter_map (chunk_out member list.now commitment.now) chunks.items) }
 {
     let mut outs = Items::new(alloc);
     for chunk in chunks {
@@ -159,7 +162,8 @@ fn offered<H: Hasher<Digest = Digest32>>(
     view: u64,
     payload: Payload,
 ) -> Result<ChainBlock, NoMemory>
-    ensures { IfOk result (λ block. block ≡ offers.offered H.digest_of committees.now view payload) }
+    ensures { IfOk result
+        (λ block. block ≡ offers.offered H.digest_of committees.now view payload) }
 {
     let mut bytes = Vec::new(alloc);
     genesis::<H>(alloc).write(&mut bytes)?;
@@ -183,7 +187,8 @@ fn offer<H: Hasher<Digest = Digest32>, R: Threads + Sync, S: Strategy>(
     strategy: &S,
 ) -> Result<Items<Out>, NoMemory>
     requires { is_oversize payload.now ≡ false }
-    ensures { IfOk result (λ outs. outs ≡ offers.offer H.digest_of committees.now member view payload.now) }
+    ensures { IfOk result
+        (λ outs. outs ≡ offers.offer H.digest_of committees.now member view payload.now) }
 {
     let block = offered::<H>(alloc, committees, view, proposing(alloc, payload)?)?;
     let (commitment, chunks) = cut_block::<H, R, S>(rt, alloc, committees, &block, strategy)?;
@@ -209,7 +214,9 @@ pub(crate) fn fault_sends<H: Hasher<Digest = Digest32>, R: Threads + Sync, S: St
     strategy: &S,
 ) -> Result<Items<Out>, NoMemory>
     requires { offers_oversize fault.now ≡ false }
-    ensures { IfOk result (λ outs. outs ≡ rule.fault_sends (rules_of H.digest_of script.now) (over (sent_in pool.now)) member (fault_of fault.now)) }
+    ensures { IfOk result
+        (λ outs. outs ≡ rule.fault_sends (rules_of H.digest_of script.now)
+        (over (sent_in pool.now)) member (fault_of fault.now)) }
 {
     match fault {
         Fault::Silent => Ok(Items::new(alloc)),

@@ -1,7 +1,8 @@
 //! The frame of a program that reads a script, runs it, and writes what it makes of the report.
 
 ghost use Rattle.std.specs.Prelude.{◌≡◌, List, ℕ, Some, IfOk, IfErr};
-ghost use Rattle.hailstorm.specs.Programs.{EndsEarly, Finishes, HasReadFault, IsEarly, IsRead, early_of as early_by, status_of};
+ghost use Rattle.hailstorm.specs.Programs.{EndsEarly, Finishes, HasReadFault, IsEarly, IsRead};
+ghost use Rattle.hailstorm.specs.Programs.{early_of as early_by, status_of};
 ghost use Rattle.hailstorm.specs.Reports.{IsRun};
 ghost use Rattle.hailstorm.specs.declared.frame.Early.TheVariants as cause;
 
@@ -70,25 +71,29 @@ pub enum Early {
 
 const TOO_LONG: &[u8] = b"error TooLong\n";
 
-/// Reads a script to its end and runs it. Of a source that gives more than 16,777,216 bytes one byte
-/// more than these is read.
+/// Reads a script to its end and runs it. Of a source that gives more than 16,777,216 bytes one
+/// byte more than these is read.
 pub fn run_source<H: Hasher<Digest = Digest32>, R: Threads + Sync, I: Source, S: Strategy>(
     rt: &R,
     alloc: Global,
     input: &mut I,
     strategy: &S,
 ) -> Result<Ran<H>, Early>
-    // The source is at its end, its text is no longer than a script and spells this one, and this is the report of its run.
-    ensures ok { (text : List ℕ) → I.left input.old ≡ Some text → IfOk result (λ ran. IsRead H.digest_of text (I.left input.new) ran) }
+    // The source is at its end, its text is no longer than a script and spells this one, and this
+    // is the report of its run.
+    ensures ok { (text : List ℕ) → I.left input.old ≡ Some text
+        → IfOk result (λ ran. IsRead H.digest_of text (I.left input.new) ran) }
 
     // Whether or not the source tells its bytes: this is the report of the run of the script.
     ensures run { IfOk result (λ ran. IsRun H.digest_of ran.script ran.report) }
 
     // Each cause has its meaning for the bytes that the source had left.
-    ensures err { (text : List ℕ) → I.left input.old ≡ Some text → IfErr result (λ early. IsEarly H.digest_of text (I.left input.new) early) }
+    ensures err { (text : List ℕ) → I.left input.old ≡ Some text
+        → IfErr result (λ early. IsEarly H.digest_of text (I.left input.new) early) }
 
     // A read fault is told only where the source has failed in this call.
-    ensures fault { IfErr result (λ early. HasReadFault (I.faults input.old) (I.faults input.new) early) }
+    ensures fault { IfErr result
+        (λ early. HasReadFault (I.faults input.old) (I.faults input.new) early) }
 {
     match read_script(alloc, input) {
         Reading::Whole(text) => match run_text::<H, R, S>(rt, alloc, &text, strategy) {
@@ -112,10 +117,11 @@ pub(crate) fn early_of(error: RunError) -> Early
     }
 }
 
-/// Writes the line of the cause for which there is no report, and ends so. Of a fault of the source,
-/// and where memory is short, nothing is written.
+/// Writes the line of the cause for which there is no report, and ends so. Of a fault of the
+/// source, and where memory is short, nothing is written.
 pub fn end_early<X: Drop, O: Sink>(alloc: Global, output: &mut O, early: Early) -> Exit<X>
-    ensures { EndsEarly (O.held output.old) (O.held output.new) (O.faults output.old) (O.faults output.new) early result }
+    ensures { EndsEarly (O.held output.old) (O.held output.new) (O.faults output.old)
+        (O.faults output.new) early result }
 {
     match early {
         Early::TooLong => finish(output, TOO_LONG, Exit::TooLong),
@@ -127,7 +133,8 @@ pub fn end_early<X: Drop, O: Sink>(alloc: Global, output: &mut O, early: Early) 
 }
 
 fn end_refused<X: Drop, O: Sink>(alloc: Global, output: &mut O, error: RunError) -> Exit<X>
-    ensures { EndsEarly (O.held output.old) (O.held output.new) (O.faults output.old) (O.faults output.new) (cause.Refused error) result }
+    ensures { EndsEarly (O.held output.old) (O.held output.new) (O.faults output.old)
+        (O.faults output.new) (cause.Refused error) result }
 {
     match error_text(alloc, &error) {
         Ok(text) => finish(output, &text, Exit::Refused(error)),
@@ -141,7 +148,8 @@ fn end_clash<X: Drop, O: Sink>(
     earlier: Items<u8>,
     later: Items<u8>,
 ) -> Exit<X>
-    ensures { EndsEarly (O.held output.old) (O.held output.new) (O.faults output.old) (O.faults output.new) (cause.Clash earlier later) result }
+    ensures { EndsEarly (O.held output.old) (O.held output.new) (O.faults output.old)
+        (O.faults output.new) (cause.Clash earlier later) result }
 {
     match clash_text(alloc, earlier.as_slice(), later.as_slice()) {
         Ok(text) => finish(output, &text, Exit::Clash(earlier, later)),
@@ -151,7 +159,8 @@ fn end_clash<X: Drop, O: Sink>(
 
 /// Writes a text whole, and then ends so; or tells that the sink failed behind a front of the text.
 pub fn finish<X: Drop, O: Sink>(output: &mut O, text: &[u8], exit: Exit<X>) -> Exit<X>
-    ensures { Finishes (O.held output.old) (O.held output.new) (O.faults output.old) (O.faults output.new) text.now exit result }
+    ensures { Finishes (O.held output.old) (O.held output.new) (O.faults output.old)
+        (O.faults output.new) text.now exit result }
 {
     match write_all(output, text) {
         Ok(()) => exit,

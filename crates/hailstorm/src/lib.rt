@@ -1,4 +1,5 @@
-//! The cluster that a script runs, what is reported of the run, and the program from bytes to bytes.
+//! The cluster that a script runs, what is reported of the run, and the program from bytes to
+//! bytes.
 #![tactic(auto)]
 
 mod chain;

@@ -1,6 +1,7 @@
 //! One line of a script: what becomes of the cluster.
 
-ghost use Rattle.std.specs.Prelude.{◌≡◌, ◌<◌, ◌^◌, ◌++◌, [], None, List, Option, false, map, is_none, length, IfOk, IsTrue};
+ghost use Rattle.std.specs.Prelude.{◌≡◌, ◌<◌, ◌^◌, ◌++◌, [], None, List, Option, false, map};
+ghost use Rattle.std.specs.Prelude.{is_none, length, IfOk, IsTrue};
 ghost use Rattle.cw_rules.specs.Step.{Member};
 ghost use Rattle.cw_rules.specs.World.{World, fault_sends, sent_from};
 ghost use Rattle.hail_script.specs.Admission as admission;
@@ -43,7 +44,9 @@ fn turn_place<H: Hasher<Digest = Digest32>, R: Threads + Sync, S: Strategy>(
     requires sound { AreSound (rules_of H.digest_of script.now) 0 places.old }
     requires short { names_oversize (line_of line.now) ≡ false }
     requires later { IsTrue (is_later (line_of line.now)) }
-    ensures turned { IfOk result (λ r. IsPlaced (rules_of H.digest_of script.now) faulty.now (sent_in pool.now) id line.now places.old places.new r.0 r.1) }
+    ensures turned { IfOk result
+        (λ r. IsPlaced (rules_of H.digest_of script.now) faulty.now
+        (sent_in pool.now) id line.now places.old places.new r.0 r.1) }
     ensures sound { IfOk result (λ _. AreSound (rules_of H.digest_of script.now) 0 places.new) }
 {
     let place = mem::replace(&mut places[usize::from(id)], Place::Faulty);
@@ -74,8 +77,11 @@ pub(crate) fn play_member<H: Hasher<Digest = Digest32>, R: Threads + Sync, S: St
     requires sound { AreSound (rules_of H.digest_of script.now) 0 places.old }
     requires short { names_oversize (line_of line.now) ≡ false }
     requires later { IsTrue (is_later (line_of line.now)) }
-    ensures turn { (w : World) → AreMembers places.old w.members → sent_in pool.now ≡ w.pool → faulty.now ≡ map is_none w.members
-        → IfOk result (λ entry. IsTurn (rules_of H.digest_of script.now) w number (line_of line.now) places.new (sent_in pool.now ++ entry.sent) entry) }
+    ensures turn { (w : World) → AreMembers places.old w.members → sent_in pool.now ≡ w.pool
+        → faulty.now ≡ map is_none w.members
+        → IfOk result
+        (λ entry. IsTurn (rules_of H.digest_of script.now) w number
+        (line_of line.now) places.new (sent_in pool.now ++ entry.sent) entry) }
     ensures sound { IfOk result (λ _. AreSound (rules_of H.digest_of script.now) 0 places.new) }
 {
     let (found, done) = turn_place(rt, alloc, script, faulty, places, pool, id, line, strategy)?;
@@ -95,8 +101,17 @@ fn play_fault<H: Hasher<Digest = Digest32>, R: Threads + Sync, S: Strategy>(
     strategy: &S,
 ) -> Result<Entry, NoMemory>
     requires { offers_oversize fault.now ≡ false }
-    ensures { let outs = fault_sends (rules_of H.digest_of script.now) (over (sent_in pool.now)) member (fault_of fault.now) in
-        IfOk result (λ entry. entry ≡ record { line = number; member = None; found = None; sent = sent_from (length (sent_in pool.now)) member outs; handed = [] }) }
+    ensures { let outs = fault_sends (rules_of H.digest_of script.now)
+        (over (sent_in pool.now)) member (fault_of fault.now) in
+        IfOk result
+        (λ entry. entry
+        ≡ record {
+          line = number;
+          member = None;
+          found = None;
+          sent = sent_from (length (sent_in pool.now)) member outs;
+          handed = [];
+        }) }
 {
     let outs = fault::fault_sends::<H, R, S>(rt, alloc, script, pool, member, fault, strategy)?;
     let entry = enter(
@@ -142,8 +157,11 @@ pub(crate) fn play<H: Hasher<Digest = Digest32>, R: Threads + Sync, S: Strategy>
     requires sound { AreSound (rules_of H.digest_of script.now) 0 places.old }
     requires short { names_oversize (line_of line.now) ≡ false }
     requires later { IsTrue (is_later (line_of line.now)) }
-    ensures turn { (w : World) → AreMembers places.old w.members → sent_in pool.now ≡ w.pool → faulty.now ≡ map is_none w.members
-        → IfOk result (λ entry. IsTurn (rules_of H.digest_of script.now) w number (line_of line.now) places.new (sent_in pool.now ++ entry.sent) entry) }
+    ensures turn { (w : World) → AreMembers places.old w.members → sent_in pool.now ≡ w.pool
+        → faulty.now ≡ map is_none w.members
+        → IfOk result
+        (λ entry. IsTurn (rules_of H.digest_of script.now) w number
+        (line_of line.now) places.new (sent_in pool.now ++ entry.sent) entry) }
     ensures sound { IfOk result (λ _. AreSound (rules_of H.digest_of script.now) 0 places.new) }
 {
     let id = member_of(line) as u16;

@@ -1,6 +1,7 @@
 //! The entries of the lines so far, and the messages and votes in them by number and by signer.
 
-ghost use Rattle.std.specs.Prelude.{◌≡◌, ◌<◌, ◌^◌, ◌++◌, ◌∷◌, [], length, map, option_and_then, slice_get, IfOk, OnOk};
+ghost use Rattle.std.specs.Prelude.{◌≡◌, ◌<◌, ◌^◌, ◌++◌, ◌∷◌, [], length, map, option_and_then};
+ghost use Rattle.std.specs.Prelude.{slice_get, IfOk, OnOk};
 ghost use Rattle.std.specs.List.{list_any, range_with_len};
 ghost use Rattle.std.specs.Option.{option_map};
 ghost use Rattle.cw_rules.specs.World as rule;
@@ -13,9 +14,9 @@ use cw_types::Vote;
 use std::alloc::Global;
 use std::marker::Model;
 
-/// The entries of the lines so far. Each message stands in its entry alone, and is found by its number
-/// without a search; a sent vote is looked up among its signer's of that view. Contracts see the
-/// entries.
+/// The entries of the lines so far. Each message stands in its entry alone, and is found by its
+/// number without a search; a sent vote is looked up among its signer's of that view. Contracts see
+/// the entries.
 #[derive(Drop)]
 pub(crate) struct Pool {
     entries: Items<Entry>,
@@ -34,7 +35,8 @@ impl Model for Pool {
 
     ghost view = { λ p. p.entries };
 
-    ghost invariant = { λ p. StandAt p.entries p.places.items × TellVotes p.votes.rounds (sent_in p.entries) };
+    ghost invariant = { λ p. StandAt p.entries p.places.items
+        × TellVotes p.votes.rounds (sent_in p.entries) };
 }
 
 impl Pool {
@@ -107,7 +109,9 @@ impl Pool {
 
 // The places of an entry's messages.
 fn put_places(places: &mut Vec<(usize, usize)>, entry: usize, count: usize) -> Result<(), NoMemory>
-    ensures { OnOk result (places.new.items ≡ places.old.items ++ map (λ place. (entry, place)) (range_with_len 0 count)) }
+    ensures { OnOk result
+        (places.new.items ≡ places.old.items ++ map (λ place. (entry, place))
+        (range_with_len 0 count)) }
 {
     for place in 0..count {
         places.push((entry, place))?;

@@ -1,6 +1,7 @@
 //! The program: from the bytes that come in to the bytes that go out.
 
-ghost use Rattle.std.specs.Prelude.{◌≡◌, ◌≢◌, List, ℕ, None, Some, IfOk, map, string_bytes, option_map};
+ghost use Rattle.std.specs.Prelude.{◌≡◌, ◌≢◌, List, ℕ, None, Some, IfOk, map, string_bytes};
+ghost use Rattle.std.specs.Prelude.{option_map};
 ghost use Rattle.hailstorm.specs.Headline as headline;
 ghost use Rattle.hailstorm.specs.Headline.{Means, MeansUsage, Answers};
 ghost use Rattle.hailstorm.specs.Programs.{HasFault, IsSilent};
@@ -21,8 +22,8 @@ use std::thread::Threads;
 const USAGE: &[u8] = b"usage: hail_run [storm N]\n";
 
 /// Without words reads a script to its end, runs it, and writes its report; with `storm N` runs the
-/// script of that storm and writes a summary. All text is made before the first byte is written. The
-/// words are those after the program's name.
+/// script of that storm and writes a summary. All text is made before the first byte is written.
+/// The words are those after the program's name.
 pub fn run_program<
     H: Hasher<Digest = Digest32>,
     R: Threads + Sync,
@@ -42,17 +43,23 @@ pub fn run_program<
         → (input.new ≡ input.old) × MeansUsage (O.held output.old) (O.held output.new) result }
 
     // Under `storm N` nothing is read, and each answer has its meaning for the storm's script.
-    ensures storm { (number : ℕ) → headline.asked_of (map string_bytes words.now) ≡ Some (Some number)
-        → (input.new ≡ input.old) × Answers H.digest_of (Some number) (spec.storm_script number) (O.held output.old) (O.held output.new) result }
+    ensures storm { (number : ℕ)
+        → headline.asked_of (map string_bytes words.now) ≡ Some (Some number)
+        → (input.new ≡ input.old)
+        × Answers H.digest_of (Some number) (spec.storm_script number) (O.held output.old)
+        (O.held output.new) result }
 
     // Without words each answer has its meaning for the bytes that the source had left.
-    ensures answer { (text : List ℕ) → headline.asked_of (map string_bytes words.now) ≡ Some None → I.left input.old ≡ Some text
+    ensures answer { (text : List ℕ) → headline.asked_of (map string_bytes words.now) ≡ Some None
+        → I.left input.old ≡ Some text
         → Means H.digest_of text (I.left input.new) (O.held output.old) (O.held output.new) result }
 
     // A fault is told only where the source or the sink has failed in this call.
-    ensures fault { HasFault (I.faults input.old) (I.faults input.new) (O.faults output.old) (O.faults output.new) result }
+    ensures fault { HasFault (I.faults input.old) (I.faults input.new) (O.faults output.old)
+        (O.faults output.new) result }
 
-    // Where the source failed, or memory is short, nothing is written, whether or not the source tells its bytes.
+    // Where the source failed, or memory is short, nothing is written, whether or not the source
+    // tells its bytes.
     ensures silent { IsSilent (O.held output.old) (O.held output.new) result }
 {
     match asked_of(words) {
@@ -93,7 +100,8 @@ fn run_input<H: Hasher<Digest = Digest32>, R: Threads + Sync, I: Source, O: Sink
 ) -> Exit<Report<H>>
     ensures answer { (text : List ℕ) → I.left input.old ≡ Some text
         → Means H.digest_of text (I.left input.new) (O.held output.old) (O.held output.new) result }
-    ensures fault { HasFault (I.faults input.old) (I.faults input.new) (O.faults output.old) (O.faults output.new) result }
+    ensures fault { HasFault (I.faults input.old) (I.faults input.new) (O.faults output.old)
+        (O.faults output.new) result }
     ensures silent { IsSilent (O.held output.old) (O.held output.new) result }
 {
     match run_source::<H, R, I, S>(rt, alloc, input, strategy) {
@@ -110,7 +118,8 @@ fn run_storm<H: Hasher<Digest = Digest32>, R: Threads + Sync, O: Sink, S: Strate
     output: &mut O,
     strategy: &S,
 ) -> Exit<Report<H>>
-    ensures answer { Answers H.digest_of (Some number) (spec.storm_script number) (O.held output.old) (O.held output.new) result }
+    ensures answer { Answers H.digest_of (Some number) (spec.storm_script number)
+        (O.held output.old) (O.held output.new) result }
     ensures fault { HasFault 0 0 (O.faults output.old) (O.faults output.new) result }
     ensures silent { IsSilent (O.held output.old) (O.held output.new) result }
 {
@@ -130,7 +139,8 @@ fn end_with<H: Hasher<Digest = Digest32>, O: Sink>(
     output: &mut O,
     report: Report<H>,
 ) -> Exit<Report<H>>
-    ensures { headline.EndsWith H.digest_of storm (O.held output.old) (O.held output.new) (O.faults output.old) (O.faults output.new) report result }
+    ensures { headline.EndsWith H.digest_of storm (O.held output.old) (O.held output.new)
+        (O.faults output.old) (O.faults output.new) report result }
 {
     match text_of::<H>(alloc, storm, &report) {
         Ok(text) => finish(output, &text, Exit::Done(report)),
@@ -144,7 +154,8 @@ fn text_of<H: Hasher<Digest = Digest32>>(
     storm: Option<u64>,
     report: &Report<H>,
 ) -> Result<Vec<u8>, NoMemory>
-    ensures { IfOk result (λ text. text.items ≡ headline.text_of H.digest_of storm (shown_report report.now)) }
+    ensures { IfOk result
+        (λ text. text.items ≡ headline.text_of H.digest_of storm (shown_report report.now)) }
 {
     match storm {
         None => report_text::<H>(alloc, report),

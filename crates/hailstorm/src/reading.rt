@@ -23,7 +23,8 @@ pub enum Reading {
 
 /// Reads a source to its end, or to one byte more than a script may have.
 pub(crate) fn read_script<I: Source>(alloc: Global, input: &mut I) -> Reading
-    ensures { Reads (I.left input.old) (I.left input.new) (I.faults input.old) (I.faults input.new) result }
+    ensures { Reads (I.left input.old) (I.left input.new) (I.faults input.old)
+        (I.faults input.new) result }
 {
     let mut text = Vec::new(alloc);
     let mut room = [0u8; 4096];

@@ -24,9 +24,19 @@ impl Model for Sent {
 
     ghost Value = { Sent };
 
-    ghost view = { λ s. record { number = s.number; from = s.from; to = s.to; message = s.message } };
+    ghost view = { λ s. record {
+      number = s.number;
+      from = s.from;
+      to = s.to;
+      message = s.message;
+    } };
 
-    ghost inverse = { λ s. record { number = s.number; from = s.from; to = s.to; message = s.message } };
+    ghost inverse = { λ s. record {
+      number = s.number;
+      from = s.from;
+      to = s.to;
+      message = s.message;
+    } };
 }
 
 impl Sent {
@@ -43,7 +53,8 @@ impl Sent {
     }
 }
 
-/// What a start or a line of the script gave. The line is 0 in the opening, and the header is line 1.
+/// What a start or a line of the script gave. The line is 0 in the opening, and the header is line
+/// 1.
 #[derive(Debug, Drop, PartialEq, Eq)]
 pub struct Entry {
     pub line: u64,
@@ -60,9 +71,21 @@ impl Model for Entry {
 
     ghost Value = { Entry };
 
-    ghost view = { λ e. record { line = e.line; member = e.member; found = e.found; sent = e.sent; handed = e.handed } };
+    ghost view = { λ e. record {
+      line = e.line;
+      member = e.member;
+      found = e.found;
+      sent = e.sent;
+      handed = e.handed;
+    } };
 
-    ghost inverse = { λ e. record { line = e.line; member = e.member; found = e.found; sent = e.sent; handed = e.handed } };
+    ghost inverse = { λ e. record {
+      line = e.line;
+      member = e.member;
+      found = e.found;
+      sent = e.sent;
+      handed = e.handed;
+    } };
 }
 
 /// Where an honest member stands at the end of a run.
@@ -81,13 +104,23 @@ impl Model for Acked {
 
     ghost Value = { Acked };
 
-    ghost view = { λ a. record { member = a.member; live = a.live; height = a.height; notes = a.notes } };
+    ghost view = { λ a. record {
+      member = a.member;
+      live = a.live;
+      height = a.height;
+      notes = a.notes;
+    } };
 
-    ghost inverse = { λ a. record { member = a.member; live = a.live; height = a.height; notes = a.notes } };
+    ghost inverse = { λ a. record {
+      member = a.member;
+      live = a.live;
+      height = a.height;
+      notes = a.notes;
+    } };
 }
 
-/// A run: what each start and each line gave, where each honest member stands at the end, the bytes of
-/// their disks, their nodes as the run left them, none for a stopped one, and the chain.
+/// A run: what each start and each line gave, where each honest member stands at the end, the bytes
+/// of their disks, their nodes as the run left them, none for a stopped one, and the chain.
 #[derive(Drop)]
 pub struct Report<H: Hasher<Digest = Digest32>> {
     pub opening: Items<Entry>,

@@ -47,9 +47,13 @@ pub(crate) fn start<H: Hasher<Digest = Digest32>, R: Threads + Sync, S: Strategy
     requires known { id < committees.total }
     requires some { 1 ≤ backlog }
     requires calm { is_calm disk ≡ true }
-    requires holds { (frames : List (List NoteValue)) × FindsNotes frames (memory_state disk).now.seen }
+    requires holds { (frames : List (List NoteValue))
+        × FindsNotes frames (memory_state disk).now.seen }
     ensures { (frames : List (List NoteValue)) → FindsNotes frames (memory_state disk).now.seen
-        → IfOk result (λ started. HasStarted (coded H.digest_of committees backlog (λ b a. true)) id frames disk started.0 started.1) }
+        → IfOk result
+        (λ started. HasStarted
+        (coded H.digest_of committees backlog
+        (λ b a. true)) id frames disk started.0 started.1) }
 {
     match Node::start(
         rt, alloc, id, committees, backlog, disk, AcceptAll, strategy,
@@ -71,8 +75,12 @@ pub(crate) fn step<H: Hasher<Digest = Digest32>, V: Verifier, R: Threads + Sync,
     strategy: &S,
 ) -> Result<StepOut, StoreError>
     requires { Works node.old }
-    ensures ok { IfOk result (λ out. HasStepped (rules_by H.digest_of node.old) (V.signs verifier.now) event.now node.old node.new out) }
-    ensures cut { IsErrOf result StoreError.Disk → WasStopped (rules_by H.digest_of node.old) (V.signs verifier.now) event.now node.old node.new }
+    ensures ok { IfOk result
+        (λ out. HasStepped (rules_by H.digest_of node.old)
+        (V.signs verifier.now) event.now node.old node.new out) }
+    ensures cut { IsErrOf result StoreError.Disk
+        → WasStopped (rules_by H.digest_of node.old)
+        (V.signs verifier.now) event.now node.old node.new }
     ensures not_failed { IsErrOf result StoreError.Failed → ⊥ }
     ensures not_foreign { (place : ℕ) → IsErrOf result (StoreError.Foreign place) → ⊥ }
 {

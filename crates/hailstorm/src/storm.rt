@@ -1,6 +1,7 @@
 //! The script of a storm, and the summary of its run.
 
-ghost use Rattle.std.specs.Prelude.{◌≡◌, ◌<◌, ◌≤◌, ◌*◌, ◌^◌, ◌++◌, length, IfOk, OnOk, string_bytes};
+ghost use Rattle.std.specs.Prelude.{◌≡◌, ◌<◌, ◌≤◌, ◌*◌, ◌^◌, ◌++◌, length, IfOk, OnOk};
+ghost use Rattle.std.specs.Prelude.{string_bytes};
 ghost use Rattle.cw_base.specs.Bytes.{be32};
 ghost use Rattle.hex.specs.Hex.{encode_lower};
 ghost use Rattle.hailstorm.specs.Reports.{shown_report};
@@ -45,7 +46,9 @@ fn digits(alloc: Global, word: u64) -> Result<String, NoMemory>
 
 #[tactic(auto, unfolding(crate::specs::Storm::propose_text))]
 fn put_propose(text: &mut String, member: u64, payload: &String) -> Result<(), NoMemory>
-    ensures { OnOk result (string_bytes text.new ≡ string_bytes text.old ++ spec.propose_text member (string_bytes payload.now)) }
+    ensures { OnOk result
+        (string_bytes text.new ≡ string_bytes text.old ++ spec.propose_text member
+        (string_bytes payload.now)) }
 {
     write!(text, "propose {member} {payload}\n")?;
     Ok(())
@@ -53,7 +56,8 @@ fn put_propose(text: &mut String, member: u64, payload: &String) -> Result<(), N
 
 #[tactic(auto, unfolding(crate::specs::Storm::cut_line))]
 fn put_stop(text: &mut String, call: u64, cut: u64, fill: u64, member: u64) -> Result<(), NoMemory>
-    ensures { OnOk result (string_bytes text.new ≡ string_bytes text.old ++ spec.cut_line call cut fill member) }
+    ensures { OnOk result
+        (string_bytes text.new ≡ string_bytes text.old ++ spec.cut_line call cut fill member) }
 {
     write!(text, "cut {call} {cut} {fill} ack {member}\n")?;
     Ok(())
@@ -61,14 +65,16 @@ fn put_stop(text: &mut String, call: u64, cut: u64, fill: u64, member: u64) -> R
 
 #[tactic(auto, unfolding(crate::specs::Storm::restart_line))]
 fn put_restart(text: &mut String, member: u64) -> Result<(), NoMemory>
-    ensures { OnOk result (string_bytes text.new ≡ string_bytes text.old ++ spec.restart_line member) }
+    ensures { OnOk result
+        (string_bytes text.new ≡ string_bytes text.old ++ spec.restart_line member) }
 {
     write!(text, "restart {member}\n")?;
     Ok(())
 }
 
 fn put_cut(text: &mut String, call: u64, cut: u64, fill: u64, member: u64) -> Result<(), NoMemory>
-    ensures { OnOk result (string_bytes text.new ≡ string_bytes text.old ++ spec.cut_text call cut fill member) }
+    ensures { OnOk result
+        (string_bytes text.new ≡ string_bytes text.old ++ spec.cut_text call cut fill member) }
 {
     put_stop(text, call, cut, fill, member)?;
     put_restart(text, member)?;
@@ -88,7 +94,10 @@ impl Drawn {
     }
 
     fn propose(&mut self, alloc: Global, round: u64) -> Result<(), NoMemory>
-        ensures { OnOk result (spec.shown_draw self.new.state (string_bytes self.new.text) (spec.draw (spec.propose_line round) (spec.drawn (string_bytes self.old.text) self.old.state))) }
+        ensures { OnOk result
+            (spec.shown_draw self.new.state (string_bytes self.new.text)
+            (spec.draw (spec.propose_line round)
+            (spec.drawn (string_bytes self.old.text) self.old.state))) }
     {
         let word = self.draw();
         let payload = digits(alloc, word)?;
@@ -97,7 +106,10 @@ impl Drawn {
 
     #[tactic(auto, unfolding(crate::specs::Storm::deliver_line))]
     fn deliver(&mut self, number: u64, member: u64) -> Result<(), NoMemory>
-        ensures { OnOk result (spec.shown_draw self.new.state (string_bytes self.new.text) (spec.draw (spec.deliver_line number member) (spec.drawn (string_bytes self.old.text) self.old.state))) }
+        ensures { OnOk result
+            (spec.shown_draw self.new.state (string_bytes self.new.text)
+            (spec.draw (spec.deliver_line number member)
+            (spec.drawn (string_bytes self.old.text) self.old.state))) }
     {
         let word = self.draw();
         if word % 8 == 0 {
@@ -108,7 +120,9 @@ impl Drawn {
     }
 
     fn deliver_all(&mut self, number: u64) -> Result<(), NoMemory>
-        ensures { OnOk result (spec.shown_draw self.new.state (string_bytes self.new.text) (spec.deliver_all number (spec.drawn (string_bytes self.old.text) self.old.state))) }
+        ensures { OnOk result
+            (spec.shown_draw self.new.state (string_bytes self.new.text)
+            (spec.deliver_all number (spec.drawn (string_bytes self.old.text) self.old.state))) }
     {
         self.deliver(number, 0)?;
         self.deliver(number, 1)?;
@@ -120,7 +134,10 @@ impl Drawn {
     fn deliver_from(&mut self, count: u64, first: u64) -> Result<(), NoMemory>
         requires low { first ≤ 2 ^ 32 }
         requires few { count ≤ 2 ^ 32 }
-        ensures { OnOk result (spec.shown_draw self.new.state (string_bytes self.new.text) (spec.deliver_from count first (spec.drawn (string_bytes self.old.text) self.old.state))) }
+        ensures { OnOk result
+            (spec.shown_draw self.new.state (string_bytes self.new.text)
+            (spec.deliver_from count first
+            (spec.drawn (string_bytes self.old.text) self.old.state))) }
     {
         for step in 0..count {
             self.deliver_all(first + step)?;
@@ -130,7 +147,8 @@ impl Drawn {
 
     #[tactic(auto, unfolding(crate::specs::Storm::acks))]
     fn ack(&mut self) -> Result<(), NoMemory>
-        ensures text { OnOk result (string_bytes self.new.text ≡ string_bytes self.old.text ++ spec.acks) }
+        ensures text { OnOk result
+            (string_bytes self.new.text ≡ string_bytes self.old.text ++ spec.acks) }
         ensures state { self.new.state ≡ self.old.state }
     {
         self.text.push_str("ack 0\nack 1\nack 2\nack 3\n")?;
@@ -138,7 +156,9 @@ impl Drawn {
     }
 
     fn cut(&mut self) -> Result<(), NoMemory>
-        ensures { OnOk result (spec.shown_draw self.new.state (string_bytes self.new.text) (spec.cut_round (spec.drawn (string_bytes self.old.text) self.old.state))) }
+        ensures { OnOk result
+            (spec.shown_draw self.new.state (string_bytes self.new.text)
+            (spec.cut_round (spec.drawn (string_bytes self.old.text) self.old.state))) }
     {
         let member = self.draw() % 4;
         let call = 1 + self.draw() % 5;
@@ -150,10 +170,12 @@ impl Drawn {
     fn round(&mut self, alloc: Global, round: u64) -> Result<(), NoMemory>
         requires low { 1 ≤ round }
         requires high { round ≤ 32 }
-        ensures { OnOk result (spec.shown_draw self.new.state (string_bytes self.new.text) (spec.round round (spec.drawn (string_bytes self.old.text) self.old.state))) }
+        ensures { OnOk result
+            (spec.shown_draw self.new.state (string_bytes self.new.text)
+            (spec.round round (spec.drawn (string_bytes self.old.text) self.old.state))) }
     {
         self.propose(alloc, round)?;
-        self.deliver_from(24, 24 * (round - 1))?;
+        self.deliver_from(48, 24 * (round - 1))?;
         self.ack()?;
         if round % 8 == 0 {
             self.cut()?;
@@ -163,7 +185,9 @@ impl Drawn {
 
     fn rounds(&mut self, alloc: Global, count: u64) -> Result<(), NoMemory>
         requires { count ≤ 32 }
-        ensures { OnOk result (spec.shown_draw self.new.state (string_bytes self.new.text) (spec.rounds count 1 (spec.drawn (string_bytes self.old.text) self.old.state))) }
+        ensures { OnOk result
+            (spec.shown_draw self.new.state (string_bytes self.new.text)
+            (spec.rounds count 1 (spec.drawn (string_bytes self.old.text) self.old.state))) }
     {
         for step in 0..count {
             self.round(alloc, 1 + step)?;
@@ -225,7 +249,8 @@ pub(crate) fn summary_text<H: Hasher<Digest = Digest32>>(
     number: u64,
     report: &Report<H>,
 ) -> Result<Vec<u8>, NoMemory>
-    ensures { IfOk result (λ made. made.items ≡ text.summary_text H.digest_of number (shown_report report.now)) }
+    ensures { IfOk result
+        (λ made. made.items ≡ text.summary_text H.digest_of number (shown_report report.now)) }
 {
     let mut out = String::new(alloc);
     let opening = report.opening.as_slice();
@@ -253,7 +278,8 @@ fn put_events(out: &mut String, events: usize) -> Result<(), NoMemory>
 }
 
 fn put_messages(out: &mut String, messages: u128) -> Result<(), NoMemory>
-    ensures { OnOk result (string_bytes out.new ≡ string_bytes out.old ++ text.messages_line messages) }
+    ensures { OnOk result
+        (string_bytes out.new ≡ string_bytes out.old ++ text.messages_line messages) }
 {
     write!(out, "messages {messages}\n")?;
     Ok(())
@@ -271,7 +297,8 @@ fn put_chain<H: Hasher<Digest = Digest32>>(
     links: &[ChainBlock],
     alloc: Global,
 ) -> Result<(), NoMemory>
-    ensures { OnOk result (string_bytes out.new ≡ string_bytes out.old ++ text.top_text H.digest_of links.now) }
+    ensures { OnOk result
+        (string_bytes out.new ≡ string_bytes out.old ++ text.top_text H.digest_of links.now) }
 {
     match links.last() {
         Some(top) => put_top::<H>(out, top, alloc),
@@ -284,7 +311,8 @@ fn put_top<H: Hasher<Digest = Digest32>>(
     top: &ChainBlock,
     alloc: Global,
 ) -> Result<(), NoMemory>
-    ensures { OnOk result (string_bytes out.new ≡ string_bytes out.old ++ text.top_lines H.digest_of top.now) }
+    ensures { OnOk result
+        (string_bytes out.new ≡ string_bytes out.old ++ text.top_lines H.digest_of top.now) }
 {
     let mut bytes = Vec::new(alloc);
     top.write(&mut bytes)?;

@@ -20,7 +20,8 @@ pub fn report_text<H: Hasher<Digest = Digest32>>(
     alloc: Global,
     report: &Report<H>,
 ) -> Result<Vec<u8>, NoMemory>
-    ensures { IfOk result (λ text. text.items ≡ spec.report_text H.digest_of (shown_report report.now)) }
+    ensures { IfOk result
+        (λ text. text.items ≡ spec.report_text H.digest_of (shown_report report.now)) }
 {
     let mut out = String::new(alloc);
     put_opening::<H>(&mut out, report.opening.as_slice(), alloc)?;
@@ -37,7 +38,9 @@ fn put_opening<H: Hasher<Digest = Digest32>>(
     entries: &[Entry],
     alloc: Global,
 ) -> Result<(), NoMemory>
-    ensures { OnOk result (string_bytes out.new ≡ string_bytes out.old ++ flat_map (spec.opening_text H.digest_of) entries.now) }
+    ensures { OnOk result
+        (string_bytes out.new ≡ string_bytes out.old ++ flat_map
+        (spec.opening_text H.digest_of) entries.now) }
 {
     for entry in entries {
         put_open(out, entry.member)?;
@@ -51,7 +54,9 @@ fn put_steps<H: Hasher<Digest = Digest32>>(
     entries: &[Entry],
     alloc: Global,
 ) -> Result<(), NoMemory>
-    ensures { OnOk result (string_bytes out.new ≡ string_bytes out.old ++ flat_map (spec.step_text H.digest_of) entries.now) }
+    ensures { OnOk result
+        (string_bytes out.new ≡ string_bytes out.old ++ flat_map
+        (spec.step_text H.digest_of) entries.now) }
 {
     for entry in entries {
         put_step(out, entry.line)?;
@@ -97,7 +102,8 @@ fn put_gave<H: Hasher<Digest = Digest32>>(
     entry: &Entry,
     alloc: Global,
 ) -> Result<(), NoMemory>
-    ensures { OnOk result (string_bytes out.new ≡ string_bytes out.old ++ spec.gave_text H.digest_of entry.now) }
+    ensures { OnOk result
+        (string_bytes out.new ≡ string_bytes out.old ++ spec.gave_text H.digest_of entry.now) }
 {
     put_sends::<H>(out, entry.sent.as_slice(), alloc)?;
     put_handed(out, entry.member, entry.handed.as_slice(), alloc)?;
@@ -109,7 +115,9 @@ fn put_sends<H: Hasher<Digest = Digest32>>(
     messages: &[Sent],
     alloc: Global,
 ) -> Result<(), NoMemory>
-    ensures { OnOk result (string_bytes out.new ≡ string_bytes out.old ++ flat_map (spec.sent_line H.digest_of) messages.now) }
+    ensures { OnOk result
+        (string_bytes out.new ≡ string_bytes out.old ++ flat_map
+        (spec.sent_line H.digest_of) messages.now) }
 {
     for sent in messages {
         put_sent::<H>(out, sent, alloc)?;
@@ -123,7 +131,8 @@ fn put_sent<H: Hasher<Digest = Digest32>>(
     sent: &Sent,
     alloc: Global,
 ) -> Result<(), NoMemory>
-    ensures { OnOk result (string_bytes out.new ≡ string_bytes out.old ++ spec.sent_line H.digest_of sent.now) }
+    ensures { OnOk result
+        (string_bytes out.new ≡ string_bytes out.old ++ spec.sent_line H.digest_of sent.now) }
 {
     let number = sent.number;
     let from = sent.from;
@@ -147,7 +156,8 @@ fn message_digest<H: Hasher<Digest = Digest32>>(
     alloc: Global,
     message: &Message,
 ) -> Result<String, NoMemory>
-    ensures { IfOk result (λ text. string_bytes text ≡ spec.digest_text (H.digest_of (message_bytes message.now))) }
+    ensures { IfOk result
+        (λ text. string_bytes text ≡ spec.digest_text (H.digest_of (message_bytes message.now))) }
 {
     let mut bytes = Vec::new(alloc);
     message.write(&mut bytes)?;
@@ -236,7 +246,8 @@ fn put_handed(
     handed: &[Handed],
     alloc: Global,
 ) -> Result<(), NoMemory>
-    ensures { OnOk result (string_bytes out.new ≡ string_bytes out.old ++ spec.hands_text member handed.now) }
+    ensures { OnOk result
+        (string_bytes out.new ≡ string_bytes out.old ++ spec.hands_text member handed.now) }
 {
     let Some(member) = member else {
         return Ok(());
@@ -251,7 +262,9 @@ fn put_hands(
     handed: &[Handed],
     alloc: Global,
 ) -> Result<(), NoMemory>
-    ensures { OnOk result (string_bytes out.new ≡ string_bytes out.old ++ flat_map (spec.hand_line member) handed.now) }
+    ensures { OnOk result
+        (string_bytes out.new ≡ string_bytes out.old ++ flat_map
+        (spec.hand_line member) handed.now) }
 {
     for block in handed {
         put_hand(out, member, block, alloc)?;
@@ -261,7 +274,8 @@ fn put_hands(
 
 #[tactic(auto, unfolding(crate::specs::Text::hand_line))]
 fn put_hand(out: &mut String, member: u16, handed: &Handed, alloc: Global) -> Result<(), NoMemory>
-    ensures { OnOk result (string_bytes out.new ≡ string_bytes out.old ++ spec.hand_line member handed.now) }
+    ensures { OnOk result
+        (string_bytes out.new ≡ string_bytes out.old ++ spec.hand_line member handed.now) }
 {
     let digest = hex::encode(alloc, handed.digest.0.as_slice())?;
     let height = handed.height;
@@ -270,7 +284,8 @@ fn put_hand(out: &mut String, member: u16, handed: &Handed, alloc: Global) -> Re
 }
 
 fn put_members(out: &mut String, members: &[Acked]) -> Result<(), NoMemory>
-    ensures { OnOk result (string_bytes out.new ≡ string_bytes out.old ++ flat_map spec.member_line members.now) }
+    ensures { OnOk result
+        (string_bytes out.new ≡ string_bytes out.old ++ flat_map spec.member_line members.now) }
 {
     for member in members {
         put_member(out, member)?;
@@ -280,7 +295,8 @@ fn put_members(out: &mut String, members: &[Acked]) -> Result<(), NoMemory>
 
 #[tactic(auto, unfolding(crate::specs::Text::member_line))]
 fn put_member(out: &mut String, acked: &Acked) -> Result<(), NoMemory>
-    ensures { OnOk result (string_bytes out.new ≡ string_bytes out.old ++ spec.member_line acked.now) }
+    ensures { OnOk result
+        (string_bytes out.new ≡ string_bytes out.old ++ spec.member_line acked.now) }
 {
     let member = acked.member;
     let state = if acked.live { "live" } else { "stopped" };
@@ -300,7 +316,8 @@ fn put_chain<H: Hasher<Digest = Digest32>>(
     chain: &[ChainBlock],
     alloc: Global,
 ) -> Result<(), NoMemory>
-    ensures { OnOk result (string_bytes out.new ≡ string_bytes out.old ++ spec.chain_text H.digest_of 0 chain.now) }
+    ensures { OnOk result
+        (string_bytes out.new ≡ string_bytes out.old ++ spec.chain_text H.digest_of 0 chain.now) }
 {
     for (height, block) in chain.iter().enumerate() {
         put_link::<H>(out, height, block, alloc)?;
@@ -315,7 +332,9 @@ fn put_link<H: Hasher<Digest = Digest32>>(
     block: &ChainBlock,
     alloc: Global,
 ) -> Result<(), NoMemory>
-    ensures { OnOk result (string_bytes out.new ≡ string_bytes out.old ++ spec.chain_line H.digest_of height block.now) }
+    ensures { OnOk result
+        (string_bytes out.new ≡ string_bytes out.old
+        ++ spec.chain_line H.digest_of height block.now) }
 {
     let mut bytes = Vec::new(alloc);
     block.write(&mut bytes)?;
@@ -356,7 +375,8 @@ pub(crate) fn error_text(alloc: Global, error: &RunError) -> Result<Vec<u8>, NoM
 /// The line of a clash of two blocks, from their encodings.
 #[tactic(auto, unfolding(crate::specs::Text::error_line))]
 pub(crate) fn clash_text(alloc: Global, earlier: &[u8], later: &[u8]) -> Result<Vec<u8>, NoMemory>
-    ensures { IfOk result (λ text. text.items ≡ spec.error_line (cause.HashClash earlier.now later.now)) }
+    ensures { IfOk result
+        (λ text. text.items ≡ spec.error_line (cause.HashClash earlier.now later.now)) }
 {
     let mut out = String::new(alloc);
     let earlier = hex::encode(alloc, earlier)?;

@@ -1,6 +1,7 @@
 //! What a line makes of the member that it names.
 
-ghost use Rattle.std.specs.Prelude.{◌≡◌, ◌<◌, ◌≤◌, List, ℕ, Option, Some, None, [], false, map, true, is_none, option_and_then, IfOk, IsTrue};
+ghost use Rattle.std.specs.Prelude.{◌≡◌, ◌<◌, ◌≤◌, List, ℕ, Option, Some, None, [], false, map};
+ghost use Rattle.std.specs.Prelude.{true, is_none, option_and_then, IfOk, IsTrue};
 ghost use Rattle.cw_types.specs.declared.note.Note.{Note as NoteValue};
 ghost use Rattle.cw_types.specs.declared.event.Event.{Event as EventValue};
 ghost use Rattle.cw_rules.specs.Step.{Member, Stepped, cut_step, start};
@@ -10,7 +11,8 @@ ghost use Rattle.node_disk.specs.Memory.{is_calm, memory_state};
 ghost use Rattle.hail_script.specs.Admission.{asks_oversize};
 ghost use Rattle.hail_script.specs.Events.{ask_of, line_of};
 ghost use Rattle.hail_script.specs.Grammar.{is_later, names_oversize};
-ghost use Rattle.hailstorm.specs.Places.{Holds, IsMember, IsSound, IsStopped, Makes, did, did_cut, over, rules_of, starts_again, table, turned_by};
+ghost use Rattle.hailstorm.specs.Places.{Holds, IsMember, IsSound, IsStopped, Makes, did, did_cut};
+ghost use Rattle.hailstorm.specs.Places.{over, rules_of, starts_again, table, turned_by};
 ghost use Rattle.hailstorm.specs.Places as places;
 ghost use Rattle.hailstorm.specs.Pool.{sent_in};
 ghost use Rattle.hailstorm.specs.Seats.{HasStepped, Works, out_of, rules_by};
@@ -38,7 +40,9 @@ fn take_event<H: Hasher<Digest = Digest32>, R: Threads + Sync, S: Strategy>(
 ) -> Result<StepOut, NoMemory>
     requires works { Works node.old }
     requires calm { is_calm node.old.log.disk ≡ true }
-    ensures steps { IfOk result (λ out. HasStepped (rules_by H.digest_of node.old) (table votes.now.faulty.now (sent_in votes.now.pool.now)) event.now node.old node.new out) }
+    ensures steps { IfOk result
+        (λ out. HasStepped (rules_by H.digest_of node.old)
+        (table votes.now.faulty.now (sent_in votes.now.pool.now)) event.now node.old node.new out) }
     ensures calm { IfOk result (λ out. is_calm node.new.log.disk ≡ true) }
 {
     match step(rt, alloc, node, event, votes, strategy) {
@@ -54,7 +58,8 @@ fn stopped<H: Hasher<Digest = Digest32>>(
     alloc: Global,
     node: Node<H, MemoryDisk, AcceptAll>,
 ) -> Result<Place<Seat<H>>, NoMemory>
-    requires { (frames : List (List NoteValue)) × FindsNotes frames (memory_state node.log.disk).now.seen }
+    requires { (frames : List (List NoteValue))
+        × FindsNotes frames (memory_state node.log.disk).now.seen }
     ensures { IfOk result (λ place. IsStopped node.log.disk place) }
 {
     let disk = node.into_disk().reopen();
@@ -90,7 +95,9 @@ fn cut_event<H: Hasher<Digest = Digest32>, R: Threads + Sync, S: Strategy>(
     requires works { Works node }
     requires calm { is_calm node.log.disk ≡ true }
     requires later { 0 < stop.call }
-    ensures cut { let done = cut_step (rules_by H.digest_of node) node.id (table votes.now.faulty.now (sent_in votes.now.pool.now)) node.member stop.call stop.cut stop.fill event.now in
+    ensures cut { let done = cut_step (rules_by H.digest_of node) node.id
+        (table votes.now.faulty.now
+        (sent_in votes.now.pool.now)) node.member stop.call stop.cut stop.fill event.now in
         IfOk result (λ made. IsMember made.0 (Some done.member) × (made.1 ≡ out_of done)) }
     ensures sound { IfOk result (λ made. IsSound (rules_by H.digest_of node) node.id made.0) }
 {
@@ -115,8 +122,10 @@ pub(crate) fn restart<H: Hasher<Digest = Digest32>, R: Threads + Sync, S: Strate
 ) -> Result<(Place<Seat<H>>, StepOut), NoMemory>
     requires known { id < script.now.committees.total }
     requires calm { is_calm disk ≡ true }
-    requires holds { (frames : List (List NoteValue)) × FindsNotes frames (memory_state disk).now.seen }
-    ensures started { (frames : List (List NoteValue)) → FindsNotes frames (memory_state disk).now.seen
+    requires holds { (frames : List (List NoteValue))
+        × FindsNotes frames (memory_state disk).now.seen }
+    ensures started { (frames : List (List NoteValue))
+        → FindsNotes frames (memory_state disk).now.seen
         → let done = start (rules_of H.digest_of script.now) id frames in
         IfOk result (λ made. IsMember made.0 (Some done.member) × (made.1 ≡ out_of done)) }
     ensures sound { IfOk result (λ made. IsSound (rules_of H.digest_of script.now) id made.0) }
@@ -141,7 +150,11 @@ fn asked<H: Hasher<Digest = Digest32>, R: Threads + Sync, S: Strategy>(
     requires short { asks_oversize ask.now ≡ false }
     ensures makes { (o : Option Member) → IsMember place o
         → let signed = table votes.now.faulty.now (sent_in votes.now.pool.now) in
-        IfOk result (λ made. Makes o (option_and_then (did (rules_of H.digest_of script.now) signed (over (sent_in votes.now.pool.now)) id (ask_of ask.now)) o) made.0 made.1) }
+        IfOk result
+        (λ made. Makes o
+        (option_and_then
+        (did (rules_of H.digest_of script.now) signed (over (sent_in votes.now.pool.now)) id
+        (ask_of ask.now)) o) made.0 made.1) }
     ensures sound { IfOk result (λ made. IsSound (rules_of H.digest_of script.now) id made.0) }
 {
     match place {
@@ -174,7 +187,12 @@ fn cut<H: Hasher<Digest = Digest32>, R: Threads + Sync, S: Strategy>(
     requires later { 0 < stop.call }
     ensures makes { (o : Option Member) → IsMember place o
         → let signed = table votes.now.faulty.now (sent_in votes.now.pool.now) in
-        IfOk result (λ made. Makes o (option_and_then (did_cut (rules_of H.digest_of script.now) signed (over (sent_in votes.now.pool.now)) id stop.call stop.cut stop.fill (ask_of ask.now)) o) made.0 made.1) }
+        IfOk result
+        (λ made. Makes o
+        (option_and_then
+        (did_cut (rules_of H.digest_of script.now) signed
+        (over (sent_in votes.now.pool.now)) id stop.call stop.cut stop.fill
+        (ask_of ask.now)) o) made.0 made.1) }
     ensures sound { IfOk result (λ made. IsSound (rules_of H.digest_of script.now) id made.0) }
 {
     match place {
@@ -202,7 +220,9 @@ fn restarted<H: Hasher<Digest = Digest32>, R: Threads + Sync, S: Strategy>(
     requires known { id < script.now.committees.total }
     requires sound { IsSound (rules_of H.digest_of script.now) id place }
     ensures makes { (o : Option Member) → IsMember place o
-        → IfOk result (λ made. Makes o (option_and_then (starts_again (rules_of H.digest_of script.now) id) o) made.0 made.1) }
+        → IfOk result
+        (λ made. Makes o
+        (option_and_then (starts_again (rules_of H.digest_of script.now) id) o) made.0 made.1) }
     ensures sound { IfOk result (λ made. IsSound (rules_of H.digest_of script.now) id made.0) }
 {
     match place {
@@ -231,7 +251,11 @@ pub(crate) fn take_turn<H: Hasher<Digest = Digest32>, R: Threads + Sync, S: Stra
     requires later { IsTrue (is_later (line_of line.now)) }
     ensures makes { (o : Option Member) → IsMember place o
         → let signed = table votes.now.faulty.now (sent_in votes.now.pool.now) in
-        IfOk result (λ made. Makes o (option_and_then (turned_by (rules_of H.digest_of script.now) signed (over (sent_in votes.now.pool.now)) id (line_of line.now)) o) made.0 made.1) }
+        IfOk result
+        (λ made. Makes o
+        (option_and_then
+        (turned_by (rules_of H.digest_of script.now) signed
+        (over (sent_in votes.now.pool.now)) id (line_of line.now)) o) made.0 made.1) }
     ensures sound { IfOk result (λ made. IsSound (rules_of H.digest_of script.now) id made.0) }
 {
     match line {

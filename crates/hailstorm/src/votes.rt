@@ -13,8 +13,8 @@ use cw_types::{Message, Vote};
 use std::alloc::Global;
 use std::collections::BTreeMap;
 
-/// The votes that their own signers sent, by the signer and the epoch and view that they are cast in.
-/// So a look-up passes over the few votes of one member in one view.
+/// The votes that their own signers sent, by the signer and the epoch and view that they are cast
+/// in. So a look-up passes over the few votes of one member in one view.
 #[derive(Drop)]
 pub(crate) struct Votes {
     rounds: BTreeMap<(u16, u64, u64), Items<Vote>>,
@@ -32,7 +32,8 @@ impl Votes {
 
     /// Whether a member sent a vote.
     pub(crate) fn has(&self, member: u16, vote: &Vote) -> bool
-        ensures { result ≡ list_any (same_vote vote.now) (votes_in self.now.rounds (round_of member vote.now)) }
+        ensures { result ≡ list_any (same_vote vote.now)
+            (votes_in self.now.rounds (round_of member vote.now)) }
     {
         match self.rounds.get(&(member, vote.epoch(), vote.view())) {
             None => false,
@@ -42,7 +43,8 @@ impl Votes {
 
     /// With messages more.
     pub(crate) fn take_all(&mut self, alloc: Global, sent: &[Sent]) -> Result<(), NoMemory>
-        ensures { (before : List SentValue) → TellVotes self.old.rounds before → OnOk result (TellVotes self.new.rounds (before ++ sent.now)) }
+        ensures { (before : List SentValue) → TellVotes self.old.rounds before
+            → OnOk result (TellVotes self.new.rounds (before ++ sent.now)) }
     {
         for one in sent {
             self.take(alloc, one)?;
@@ -52,7 +54,8 @@ impl Votes {
 
     // With a message more.
     fn take(&mut self, alloc: Global, sent: &Sent) -> Result<(), NoMemory>
-        ensures { (before : List SentValue) → TellVotes self.old.rounds before → OnOk result (TellVotes self.new.rounds (before ++ sent.now ∷ [])) }
+        ensures { (before : List SentValue) → TellVotes self.old.rounds before
+            → OnOk result (TellVotes self.new.rounds (before ++ sent.now ∷ [])) }
     {
         let Message::Vote(signer, vote) = &sent.message else {
             return Ok(());
@@ -66,7 +69,8 @@ impl Votes {
 
     // With a vote of its own signer more.
     fn put(&mut self, alloc: Global, signer: u16, vote: Vote) -> Result<(), NoMemory>
-        ensures { (before : List SentValue) (sent : SentValue) → sent.from ≡ signer → sent.message ≡ message.Vote signer vote → TellVotes self.old.rounds before
+        ensures { (before : List SentValue) (sent : SentValue) → sent.from ≡ signer
+            → sent.message ≡ message.Vote signer vote → TellVotes self.old.rounds before
             → OnOk result (TellVotes self.new.rounds (before ++ sent ∷ [])) }
     {
         let round = (signer, vote.epoch(), vote.view());

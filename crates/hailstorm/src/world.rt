@@ -1,6 +1,7 @@
 //! The cluster that a script runs.
 
-ghost use Rattle.std.specs.Prelude.{◌≡◌, ◌<◌, ◌^◌, ◌++◌, [], Ok, Some, filter_map, is_none, length, map, slice_get, IfOk, IfErr, OnOk, Option};
+ghost use Rattle.std.specs.Prelude.{◌≡◌, ◌<◌, ◌^◌, ◌++◌, [], Ok, Some, filter_map, is_none, length};
+ghost use Rattle.std.specs.Prelude.{map, slice_get, IfOk, IfErr, OnOk, Option};
 ghost use Rattle.std.specs.List.{enumerate_from};
 ghost use Rattle.cw_rules.specs.Held.{last_ack};
 ghost use Rattle.cw_rules.specs.Report.{acked_at, opening_entries, opening_entry};
@@ -9,7 +10,8 @@ ghost use Rattle.cw_rules.specs.Step.{Member};
 ghost use Rattle.hailstorm.specs.Offers.{some_of};
 ghost use Rattle.cw_rules.specs.World.{World as RulesWorld};
 ghost use Rattle.hail_script.specs.Grammar.{marks, script_of};
-ghost use Rattle.hailstorm.specs.Places.{AreMembers, AreSound, IsMember, IsSound, notes_at as notes_in, rules_of};
+ghost use Rattle.hailstorm.specs.Places.{AreMembers, AreSound, IsMember, IsSound};
+ghost use Rattle.hailstorm.specs.Places.{notes_at as notes_in, rules_of};
 ghost use Rattle.hailstorm.specs.declared.place.Place.{Place as PlaceValue};
 ghost use Rattle.hailstorm.specs.Reports.{AreNodesOf, HoldNotes, IsCause, IsReport, IsRun, honest};
 ghost use Rattle.hailstorm.specs.Seats.{Seat as SeatValue};
@@ -37,7 +39,8 @@ use std::thread::Threads;
 pub struct World;
 
 impl World {
-    /// Runs a script: each honest member starts, by number, and each line has its turn, until a clash.
+    /// Runs a script: each honest member starts, by number, and each line has its turn, until a
+    /// clash.
     pub fn run<H: Hasher<Digest = Digest32>, R: Threads + Sync, S: Strategy>(
         rt: &R,
         alloc: Global,
@@ -87,7 +90,9 @@ fn run_script<H: Hasher<Digest = Digest32>, R: Threads + Sync, S: Strategy>(
     strategy: &S,
 ) -> Result<Report<H>, RunError>
     ensures ok { IfOk result (λ report. IsRun H.digest_of script.now report) }
-    ensures err { IfErr result (λ e. IsStopped (rules_of H.digest_of script.now) (opened H.digest_of script.now) script.now.lines e) }
+    ensures err { IfErr result
+        (λ e. IsStopped (rules_of H.digest_of script.now)
+        (opened H.digest_of script.now) script.now.lines e) }
 {
     let _lines = script.lines();
     let faulty = script.faulty(alloc)?;
@@ -120,8 +125,10 @@ fn open_one<H: Hasher<Digest = Digest32>, R: Threads + Sync, S: Strategy>(
 ) -> Result<(Place<Seat<H>>, Option<Entry>), NoMemory>
     requires marks { faulty.now ≡ marks script.now.lines script.now.committees.total }
     requires known { id < script.now.committees.total }
-    ensures entry { IfOk result (λ made. made.1 ≡ opening_entry (rules_of H.digest_of script.now) script.now.lines id) }
-    ensures member { IfOk result (λ made. IsMember made.0 (seat_of (rules_of H.digest_of script.now) script.now.lines id)) }
+    ensures entry { IfOk result
+        (λ made. made.1 ≡ opening_entry (rules_of H.digest_of script.now) script.now.lines id) }
+    ensures member { IfOk result
+        (λ made. IsMember made.0 (seat_of (rules_of H.digest_of script.now) script.now.lines id)) }
     ensures sound { IfOk result (λ made. IsSound (rules_of H.digest_of script.now) id made.0) }
 {
     if is_faulty(faulty, id) {
@@ -160,8 +167,10 @@ pub(crate) fn open_all<H: Hasher<Digest = Digest32>, R: Threads + Sync, S: Strat
     strategy: &S,
 ) -> Result<(Items<Entry>, Vec<Place<Seat<H>>>), NoMemory>
     requires { faulty.now ≡ marks script.now.lines script.now.committees.total }
-    ensures opening { IfOk result (λ r. r.0 ≡ opening_entries (rules_of H.digest_of script.now) script.now.lines) }
-    ensures members { IfOk result (λ r. AreMembers r.1.items (opened H.digest_of script.now).members) }
+    ensures opening { IfOk result
+        (λ r. r.0 ≡ opening_entries (rules_of H.digest_of script.now) script.now.lines) }
+    ensures members { IfOk result
+        (λ r. AreMembers r.1.items (opened H.digest_of script.now).members) }
     ensures sound { IfOk result (λ r. AreSound (rules_of H.digest_of script.now) 0 r.1.items) }
     ensures count { IfOk result (λ r. length r.1.items ≡ script.now.committees.total) }
 {
@@ -188,9 +197,13 @@ fn play_all<H: Hasher<Digest = Digest32>, R: Threads + Sync, S: Strategy>(
     requires flags { faulty.now ≡ map is_none (opened H.digest_of script.now).members }
     requires sound { AreSound (rules_of H.digest_of script.now) 0 places.old }
     requires count { length places.old ≡ script.now.committees.total }
-    ensures ok { IfOk result (λ steps. ArePlayed (rules_of H.digest_of script.now) (opened H.digest_of script.now) script.now.lines steps places.new) }
+    ensures ok { IfOk result
+        (λ steps. ArePlayed (rules_of H.digest_of script.now)
+        (opened H.digest_of script.now) script.now.lines steps places.new) }
     ensures sound { IfOk result (λ _. AreSound (rules_of H.digest_of script.now) 0 places.new) }
-    ensures err { IfErr result (λ e. IsStopped (rules_of H.digest_of script.now) (opened H.digest_of script.now) script.now.lines e) }
+    ensures err { IfErr result
+        (λ e. IsStopped (rules_of H.digest_of script.now)
+        (opened H.digest_of script.now) script.now.lines e) }
 {
     cluster_laws();
     script.is_cluster();
@@ -216,7 +229,8 @@ pub(crate) fn notes_before<H: Hasher<Digest = Digest32>>(
     places: &[Place<Seat<H>>],
     id: usize,
 ) -> usize
-    ensures { (p : PlaceValue SeatValue) → slice_get places.now id ≡ Some p → result ≡ length (notes_in p) }
+    ensures { (p : PlaceValue SeatValue) → slice_get places.now id ≡ Some p
+        → result ≡ length (notes_in p) }
 {
     match places.get(id) {
         None => 0,
@@ -230,7 +244,8 @@ pub(crate) fn standings<H: Hasher<Digest = Digest32>>(
     places: &[Place<Seat<H>>],
 ) -> Result<Items<Acked>, NoMemory>
     requires { length places.now < 2 ^ 16 }
-    ensures { (r : Rules) (w : RulesWorld) → AreSound r 0 places.now → AreMembers places.now w.members
+    ensures { (r : Rules) (w : RulesWorld) → AreSound r 0 places.now
+        → AreMembers places.now w.members
         → IfOk result (λ acked. acked ≡ filter_map acked_at (enumerate_from 0 w.members)) }
 {
     let mut acked = Items::new(alloc);
@@ -253,7 +268,8 @@ fn push_some(acked: &mut Items<Acked>, one: Option<Acked>) -> Result<(), NoMemor
 }
 
 fn standing_of<H: Hasher<Digest = Digest32>>(member: u16, place: &Place<Seat<H>>) -> Option<Acked>
-    ensures { (r : Rules) (o : Option Member) → IsSound r member place.now → IsMember place.now o → result ≡ acked_at (member, o) }
+    ensures { (r : Rules) (o : Option Member) → IsSound r member place.now → IsMember place.now o
+        → result ≡ acked_at (member, o) }
 {
     match place {
         Place::Faulty => None,
@@ -263,7 +279,13 @@ fn standing_of<H: Hasher<Digest = Digest32>>(member: u16, place: &Place<Seat<H>>
 }
 
 fn standing(member: u16, live: bool, notes: &[Note]) -> Acked
-    ensures { result ≡ record { member = member; live = live; height = last_ack notes.now; notes = length notes.now } }
+    ensures { result
+        ≡ record {
+          member = member;
+          live = live;
+          height = last_ack notes.now;
+          notes = length notes.now;
+        } }
 {
     Acked {
         member,
@@ -310,7 +332,8 @@ pub(crate) fn close_all<H: Hasher<Digest = Digest32>>(
     ),
     NoMemory,
 >
-    ensures { (r : Rules) (w : RulesWorld) → AreSound r 0 places.items → AreMembers places.items w.members
+    ensures { (r : Rules) (w : RulesWorld) → AreSound r 0 places.items
+        → AreMembers places.items w.members
         → IfOk result (λ closed. HoldNotes (honest w) closed.0 × AreNodesOf (honest w) closed.1) }
 {
     let mut disks = Items::new(alloc);

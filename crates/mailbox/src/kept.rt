@@ -1,6 +1,7 @@
 //! The value under the lock of a session.
 
-ghost use Rattle.std.specs.Prelude.{◌≡◌, ◌+◌, ◌^◌, ◌<◌, [], length, map, true, Some, IfOk, OnOk, OnErr};
+ghost use Rattle.std.specs.Prelude.{◌≡◌, ◌+◌, ◌^◌, ◌<◌, [], length, map, true, Some, IfOk, OnOk};
+ghost use Rattle.std.specs.Prelude.{OnErr};
 ghost use Rattle.mailbox.specs.Replay.{HasTurned, IsReplay};
 ghost use Rattle.mailbox.specs.Turning.{TurnsBy};
 
@@ -33,7 +34,11 @@ impl<T: Turn, L: Session<T>> Model for Kept<T, L> {
 
     ghost Value = { Course T T.Event T.Reply };
 
-    ghost view = { λ k. record { state = k.state; history = k.history.items; booked = k.book.total } };
+    ghost view = { λ k. record {
+      state = k.state;
+      history = k.history.items;
+      booked = k.book.total;
+    } };
 
     ghost invariant = { λ k. IsReplay T.turns L.opening k.history.items k.state
         × (length k.history.items ≡ k.book.total)
@@ -65,8 +70,8 @@ impl<T: Turn, L: Session<T>> Kept<T, L> {
     }
 
     /// Turns the state once by a closure, adds the entry, and counts the call on a share of the
-    /// ledger. What the closure calls may start threads, where a trait's method may not. Refused for
-    /// memory it makes no turn. Answers the entry's place and the reply.
+    /// ledger. What the closure calls may start threads, where a trait's method may not. Refused
+    /// for memory it makes no turn. Answers the entry's place and the reply.
     pub fn enter_by<F: FnOnce(&mut T, &T::Event) -> (T::Reply, T::Reply)>(
         &mut self,
         share: &mut Share<L>,
@@ -76,7 +81,8 @@ impl<T: Turn, L: Session<T>> Kept<T, L> {
         requires parts { 0 < share.old.parts }
         requires turn { TurnsBy F.FnOnce T.turns T.Reply.eq turn }
 
-        ensures turned { IfOk result (λ r. HasTurned T.turns T.Reply.eq event r.1 self.old self.new) }
+        ensures turned { IfOk result
+            (λ r. HasTurned T.turns T.Reply.eq event r.1 self.old self.new) }
         ensures place { IfOk result (λ r. r.0 ≡ length self.old.history) }
         ensures counted { OnOk result (share.new.amount ≡ share.old.amount + 1) }
         // A count of calls has 64 bits.
@@ -140,7 +146,8 @@ impl<T: TurnAlone, L: Session<T>> Kept<T, L> {
     ) -> Result<(u64, T::Reply), NoMemory>
         requires { 0 < share.old.parts }
 
-        ensures turned { IfOk result (λ r. HasTurned T.turns T.Reply.eq event r.1 self.old self.new) }
+        ensures turned { IfOk result
+            (λ r. HasTurned T.turns T.Reply.eq event r.1 self.old self.new) }
         ensures place { IfOk result (λ r. r.0 ≡ length self.old.history) }
         ensures counted { OnOk result (share.new.amount ≡ share.old.amount + 1) }
         ensures within { OnOk result (share.new.amount < 2 ^ 64) }

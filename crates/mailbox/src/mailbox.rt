@@ -1,7 +1,9 @@
 //! Mailboxes: parts of a session whose state lies under one lock, beside the calls that were made.
 
-ghost use Rattle.std.specs.Prelude.{◌≡◌, ◌≢◌, ◌+◌, ◌-◌, ◌/◌, ◌<◌, ◌≤◌, [], ◌∷◌, Some, Err, IfErr, IfOk, OnErr, OnOk, length, map, ℕ};
-ghost use Rattle.mailbox.specs.Calls.{AreCalls, HasStepped, IsFirstFault, Mail, calls_in, is_entry, joined, lists_of};
+ghost use Rattle.std.specs.Prelude.{◌≡◌, ◌≢◌, ◌+◌, ◌-◌, ◌/◌, ◌<◌, ◌≤◌, [], ◌∷◌, Some, Err, IfErr};
+ghost use Rattle.std.specs.Prelude.{IfOk, OnErr, OnOk, length, map, ℕ};
+ghost use Rattle.mailbox.specs.Calls.{AreCalls, HasStepped, IsFirstFault, Mail, calls_in, is_entry};
+ghost use Rattle.mailbox.specs.Calls.{joined, lists_of};
 ghost use Rattle.mailbox.specs.Replay.{IsReplay, IsReplayToSome};
 ghost use Rattle.mailbox.specs.Turning.{TurnsBy};
 
@@ -139,8 +141,10 @@ impl<T: Turn, L: Session<T>> Mailbox<T, L> {
     /// Hands over half of its parts, rounded down, to a new mailbox without calls.
     pub fn split(&mut self, alloc: Global) -> Result<Mailbox<T, L>, NoMemory>
         requires { 2 ≤ self.old.parts }
-        ensures half { IfOk result (λ m. m ≡ record { parts = self.old.parts / 2; own = []; lists = [] }) }
-        ensures rest { OnOk result (self.new ≡ record self.old { parts = self.old.parts - self.old.parts / 2 }) }
+        ensures half { IfOk result
+            (λ m. m ≡ record { parts = self.old.parts / 2; own = []; lists = [] }) }
+        ensures rest { OnOk result
+            (self.new ≡ record self.old { parts = self.old.parts - self.old.parts / 2 }) }
         ensures err { OnErr result (self.new ≡ self.old) }
     {
         let half = self.parts / 2;
@@ -161,9 +165,9 @@ impl<T: Turn, L: Session<T>> Mailbox<T, L> {
         })
     }
 
-    /// Turns the state once by a closure, under the lock, and adds the call to its own list. It makes
-    /// room and copies the event first: refused for memory it makes no turn. Answers the place of the
-    /// entry in the history.
+    /// Turns the state once by a closure, under the lock, and adds the call to its own list. It
+    /// makes room and copies the event first: refused for memory it makes no turn. Answers the
+    /// place of the entry in the history.
     ///
     /// What the closure calls may start threads, where [`TurnAlone::turn`] may not.
     pub fn step_by<R: Wait, F: FnOnce(&mut T, &T::Event) -> (T::Reply, T::Reply)>(
@@ -174,7 +178,8 @@ impl<T: Turn, L: Session<T>> Mailbox<T, L> {
         turn: F,
     ) -> Result<u64, NoMemory>
         requires { TurnsBy F.FnOnce T.turns T.Reply.eq turn }
-        ensures ok { IfOk result (λ place. HasStepped T.turns T.Event.eq T.Reply.eq event place self.old self.new) }
+        ensures ok { IfOk result
+            (λ place. HasStepped T.turns T.Event.eq T.Reply.eq event place self.old self.new) }
         ensures err { OnErr result (self.new ≡ self.old) }
     {
         self.own.reserve(1)?;
@@ -210,8 +215,8 @@ impl<T: Turn, L: Session<T>> Mailbox<T, L> {
         }
     }
 
-    /// Takes the parts and all lists of another mailbox of the session. It is handed back for want of
-    /// memory alone.
+    /// Takes the parts and all lists of another mailbox of the session. It is handed back for want
+    /// of memory alone.
     pub fn join(&mut self, _alloc: Global, other: Mailbox<T, L>) -> Result<(), Mailbox<T, L>>
         ensures ok { OnOk result (self.new ≡ joined self.old other) }
         ensures back { IfErr result (λ m. m ≡ other) }
@@ -248,11 +253,12 @@ impl<T: Turn, L: Session<T>> Mailbox<T, L> {
         Ok(())
     }
 
-    /// Ends the session: the state and the history, which is the calls of all joined mailboxes. Takes
-    /// no memory, and passes over each list once.
+    /// Ends the session: the state and the history, which is the calls of all joined mailboxes.
+    /// Takes no memory, and passes over each list once.
     pub fn close<R: Wait>(self, rt: &R) -> Result<(T, Vec<(T::Event, T::Reply)>), CloseError<T, L>>
         ensures replay { IfOk result (λ r. IsReplay T.turns L.opening r.1.items r.0) }
-        ensures calls { IfOk result (λ r. AreCalls (is_entry T.Event.eq T.Reply.eq) r.1.items (lists_of self)) }
+        ensures calls { IfOk result
+            (λ r. AreCalls (is_entry T.Event.eq T.Reply.eq) r.1.items (lists_of self)) }
         ensures number { IfOk result (λ r. length r.1.items ≡ calls_in (lists_of self)) }
         ensures whole { OnOk result (self.parts ≡ L.all) }
 
@@ -300,7 +306,8 @@ impl<T: TurnAlone, L: Session<T>> Mailbox<T, L> {
     /// Turns the state once, under the lock, and adds the call to its own list, as
     /// [`Mailbox::step_by`] does.
     pub fn step<R: Wait>(&mut self, rt: &R, alloc: Global, event: T::Event) -> Result<u64, NoMemory>
-        ensures ok { IfOk result (λ place. HasStepped T.turns T.Event.eq T.Reply.eq event place self.old self.new) }
+        ensures ok { IfOk result
+            (λ place. HasStepped T.turns T.Event.eq T.Reply.eq event place self.old self.new) }
         ensures err { OnErr result (self.new ≡ self.old) }
     {
         self.step_by(rt, alloc, event, |state, event| state.turn(alloc, event))

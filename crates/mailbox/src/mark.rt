@@ -1,6 +1,7 @@
 //! Whether the calls of several lists are the entries of one history, in one pass over the lists.
 
-ghost use Rattle.std.specs.Prelude.{◌≡◌, ◌<◌, ℕ, ◌&&◌, length, map, true, false, MatchOption, Some, get_or, slice_get};
+ghost use Rattle.std.specs.Prelude.{◌≡◌, ◌<◌, ℕ, ◌&&◌, length, map, true, false, MatchOption, Some};
+ghost use Rattle.std.specs.Prelude.{get_or, slice_get};
 ghost use Rattle.mailbox.specs.Calls.{IsFirstFault, is_entry, place_holds};
 ghost use Rattle.mailbox.specs.Marks.{is_empty, is_filled, marked, marked_by, next_mark};
 
@@ -47,8 +48,10 @@ pub(crate) fn first_fault<T: Turn>(
     requires empty { marks.old ≡ map (λ x. Mark.Empty) history.now }
     ensures { MatchOption result
         ((k : ℕ) → k < length history.now
-        → place_holds (is_entry T.Event.eq T.Reply.eq) history.now (map (λ v. v.items) lists.now) k ≡ true)
-        (λ place. IsFirstFault (is_entry T.Event.eq T.Reply.eq) history.now (map (λ v. v.items) lists.now) place) }
+        → place_holds (is_entry T.Event.eq T.Reply.eq) history.now (map (λ v. v.items) lists.now) k
+        ≡ true)
+        (λ place. IsFirstFault (is_entry T.Event.eq T.Reply.eq) history.now
+        (map (λ v. v.items) lists.now) place) }
 {
     for list in lists {
         mark_list(history, list.as_slice(), marks);
@@ -61,7 +64,8 @@ fn mark_list<T: Turn>(history: &[(T::Event, T::Reply)], list: &[Call<T>], marks:
     requires { length marks.old ≡ length history.now }
     ensures { (k : ℕ) (x : _) → slice_get history.now k ≡ Some x
         → get_or marks.new k Mark.Empty
-        ≡ marked_by (is_entry T.Event.eq T.Reply.eq x) k (get_or marks.old k Mark.Empty) 0 list.now }
+        ≡ marked_by (is_entry T.Event.eq T.Reply.eq x) k
+        (get_or marks.old k Mark.Empty) 0 list.now }
 {
     let mut top = 0;
     for call in list {

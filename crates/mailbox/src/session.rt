@@ -7,9 +7,9 @@ use std::sync::ledger::Ledger;
 
 /// One session: into how many parts its ledger is cut, and the state that it opens with.
 ///
-/// A session is a function over `L: Session<T>` that its caller calls at `Brand`, where the caller's
-/// proof picks both: `all` is the number of parts of the `Blank` that it passes, `opening` the state
-/// that the function hands to [`Mailbox::new`](crate::Mailbox::new).
+/// A session is a function over `L: Session<T>` that its caller calls at `Brand`, where the
+/// caller's proof picks both: `all` is the number of parts of the `Blank` that it passes, `opening`
+/// the state that the function hands to [`Mailbox::new`](crate::Mailbox::new).
 pub trait Session<T>: Ledger {
     ghost all: { ℕ };
 

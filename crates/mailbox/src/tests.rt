@@ -22,7 +22,8 @@ impl Turn for Counter {
 
     type Reply = u64;
 
-    ghost turns = { λ old event reply new. (new.value ≡ (old.value + event) % 2 ^ 64) × (reply ≡ new.value) };
+    ghost turns = { λ old event reply new. (new.value ≡ (old.value + event) % 2 ^ 64)
+        × (reply ≡ new.value) };
 
     fn copy(_alloc: Global, event: &u64) -> Result<u64, NoMemory> {
         Ok(*event)

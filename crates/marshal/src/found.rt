@@ -12,12 +12,13 @@ use cw_types::Note;
 use node_disk::{StoreError, read_log};
 use std::alloc::Global;
 
-/// The notes that a start on a disk of these bytes has, in order. `Foreign` comes exactly where such a
-/// start answers it, and beside it only want of memory.
+/// The notes that a start on a disk of these bytes has, in order. `Foreign` comes exactly where
+/// such a start answers it, and beside it only want of memory.
 pub fn notes_on(alloc: Global, bytes: &[u8]) -> Result<Items<Note>, MarshalError>
     ensures ok { IfOk result (λ notes. read_notes bytes.now ≡ Ok notes) }
     ensures storable { IfOk result (λ notes. IsTrue (list_all is_storable notes)) }
-    ensures foreign { (place : ℕ) → IsErrOf result (StoreError.Foreign place) → read_notes bytes.now ≡ Err place }
+    ensures foreign { (place : ℕ) → IsErrOf result (StoreError.Foreign place)
+        → read_notes bytes.now ≡ Err place }
     ensures disk { IsErrOf result StoreError.Disk → ⊥ }
     ensures failed { IsErrOf result StoreError.Failed → ⊥ }
 {

@@ -24,7 +24,8 @@ pub(crate) fn noted_in<'a, H: Hasher<Digest = Digest32>>(
     commitment: &Commitment,
 ) -> Option<Held<'a>>
     requires { digests.now ≡ map (note_digest H.digest_of) notes.now }
-    ensures block { option_map (λ h. h.block.now) result ≡ first_some (held.noted_block_of commitment.now) notes.now }
+    ensures block { option_map (λ h. h.block.now) result ≡ first_some
+        (held.noted_block_of commitment.now) notes.now }
     ensures digest { IfSome result (λ h. h.digest ≡ H.digest_of (block_bytes h.block.now)) }
 {
     for (index, note) in notes.iter().enumerate() {

@@ -2,7 +2,7 @@
 use Rattle.std.specs.Prelude.{ℕ, ◌&&◌, ◌==◌, Bool, List, filter, map, not, false}
 use Rattle.std.specs.List.{list_any}
 use Rattle.std.specs.Option.{option_map_or}
-use Rattle.cw_base.specs.Config.{same_shards}
+use Rattle.cw_base.specs.Config.{same_counts}
 use Rattle.cw_types.specs.Epochs.{place}
 use Rattle.cw_types.specs.Same.{same_commitment}
 use Rattle.cw_types.specs.declared.commitment.Commitment.{Commitment}
@@ -19,4 +19,4 @@ asks id missing before = map (λ c. to_all (Message.Ask id c))
 -- the chunk stands at the member's own place in that epoch, and is of its config
 abbrev pub is_own_row : Rules → ℕ → ℕ → Commitment → Chunk → Bool
 is_own_row r id epoch c x = option_map_or (λ at. x.index == at) (place r.epochs epoch id) false
-    && same_shards c.config (config r epoch)
+    && same_counts c.config (config r epoch)

@@ -1,6 +1,7 @@
 //! What a member accepts.
 
-ghost use Rattle.std.specs.Prelude.{◌≡◌, ◌==◌, ◌&&◌, ◌++◌, ◌∷◌, [], None, IfOk, IsTrue, OnOk, false, position, true};
+ghost use Rattle.std.specs.Prelude.{◌≡◌, ◌==◌, ◌&&◌, ◌++◌, ◌∷◌, [], None, IfOk, IsTrue, OnOk};
+ghost use Rattle.std.specs.Prelude.{false, position, true};
 ghost use Rattle.std.specs.List.{list_all, list_any};
 ghost use Rattle.std.specs.Option.{option_map_or};
 ghost use Rattle.cw_rules.specs.Accepted as rule;
@@ -10,7 +11,8 @@ ghost use Rattle.cw_rules.specs.Step.{taken_came};
 ghost use Rattle.cw_types.specs.Epochs as epochs;
 ghost use Rattle.cw_types.specs.Votes.{vote_epoch, well_formed};
 ghost use Rattle.voter.specs.Standing.{are_signers};
-ghost use Rattle.node.specs.Accepting.{brings_row, is_acceptable, is_new_row, is_own_place, with_row};
+ghost use Rattle.node.specs.Accepting.{brings_row, is_acceptable, is_new_row, is_own_place};
+ghost use Rattle.node.specs.Accepting.{with_row};
 ghost use Rattle.node.specs.Holding.{came_of, is_whole, knowing, rules_of};
 ghost use Rattle.node.specs.Standing.{HasCome, Stands};
 

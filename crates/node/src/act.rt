@@ -1,6 +1,7 @@
 //! One step of what a node holds.
 
-ghost use Rattle.std.specs.Prelude.{◌≡◌, ◌≤◌, ◌++◌, ◌∷◌, [], ℕ, IfOk, IsErrOf, None, OnOk, drop, false, filter_map, length, map, true};
+ghost use Rattle.std.specs.Prelude.{◌≡◌, ◌≤◌, ◌++◌, ◌∷◌, [], ℕ, IfOk, IsErrOf, None, OnOk, drop};
+ghost use Rattle.std.specs.Prelude.{false, filter_map, length, map, true};
 ghost use Rattle.cw_rules.specs.Accepted.{State};
 ghost use Rattle.cw_rules.specs.Sends as sends_rule;
 ghost use Rattle.cw_rules.specs.Step as rule;

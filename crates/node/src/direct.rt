@@ -1,6 +1,7 @@
 //! The notes that an event gives at once.
 
-ghost use Rattle.std.specs.Prelude.{◌≡◌, ◌&&◌, ◌==◌, ◌<◌, ◌-◌, ◌^◌, ◌+◌, IfOk, IfSome, IsTrue, OnOk, if◌then◌else◌, [], ◌∷◌, false, nat_le, nat_lt, not};
+ghost use Rattle.std.specs.Prelude.{◌≡◌, ◌&&◌, ◌==◌, ◌<◌, ◌-◌, ◌^◌, ◌+◌, IfOk, IfSome, IsTrue};
+ghost use Rattle.std.specs.Prelude.{OnOk, if◌then◌else◌, [], ◌∷◌, false, nat_le, nat_lt, not};
 ghost use Rattle.std.specs.Option.{option_map, option_map_or};
 ghost use Rattle.cw_types.specs.Epochs as epochs_rule;
 ghost use Rattle.cw_types.specs.Votes.{is_ordered};

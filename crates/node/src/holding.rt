@@ -43,7 +43,19 @@ impl<H: Hasher<Digest = Digest32>, D: Disk, A> Model for Holding<H, D, A> {
 
     ghost Value = { Holding D A };
 
-    ghost view = { λ h. record { id = h.id; epochs = h.committees; backlog = h.backlog; app = h.app; store = store_of h.store.marshal; log = log_of h.store.marshal; tally = h.tally; shards = h.shards; arrivals = h.arrivals; shown = h.shown; wishes = h.wishes } };
+    ghost view = { λ h. record {
+      id = h.id;
+      epochs = h.committees;
+      backlog = h.backlog;
+      app = h.app;
+      store = store_of h.store.marshal;
+      log = log_of h.store.marshal;
+      tally = h.tally;
+      shards = h.shards;
+      arrivals = h.arrivals;
+      shown = h.shown;
+      wishes = h.wishes;
+    } };
 }
 
 impl<H: Hasher<Digest = Digest32>, D: Disk, A: Application> Holding<H, D, A> {
@@ -81,7 +93,10 @@ impl<H: Hasher<Digest = Digest32>, A: Application> Holding<H, MemoryDisk, A> {
         ensures armed { is_stopped self.old.log.disk ≡ false
             → self.new ≡ record self.old {
               log = record self.old.log {
-                disk = record self.old.log.disk { stop = stop_from_now self.old.log.disk call cut fill };
+                disk = record self.old.log.disk {
+                  stop = stop_from_now self.old.log.disk call cut
+                      fill;
+                };
               };
             } }
         ensures stopped { is_stopped self.old.log.disk ≡ true → self.new ≡ self.old }

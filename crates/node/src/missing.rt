@@ -1,6 +1,7 @@
 //! Which blocks are missing, and what is asked for.
 
-ghost use Rattle.std.specs.Prelude.{◌≡◌, ◌++◌, ◌∷◌, [], List, IfOk, OnOk, None, Some, filter, filter_map, not, if◌then◌else◌, nat_lt, option_and_then};
+ghost use Rattle.std.specs.Prelude.{◌≡◌, ◌++◌, ◌∷◌, [], List, IfOk, OnOk, None, Some, filter};
+ghost use Rattle.std.specs.Prelude.{filter_map, not, if◌then◌else◌, nat_lt, option_and_then};
 ghost use Rattle.cw_rules.specs.Rules.{genesis_commitment};
 ghost use Rattle.std.specs.List.{list_any};
 ghost use Rattle.std.specs.Option.{option_map_or};

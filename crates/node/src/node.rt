@@ -1,11 +1,13 @@
 //! A member, which acts by the rules.
 
-ghost use Rattle.std.specs.Prelude.{◌≡◌, ℕ, ◌<◌, ◌≤◌, IfErr, IfOk, IsErrOf, OnErr, OnOk, false, true};
+ghost use Rattle.std.specs.Prelude.{◌≡◌, ℕ, ◌<◌, ◌≤◌, IfErr, IfOk, IsErrOf, OnErr, OnOk, false};
+ghost use Rattle.std.specs.Prelude.{true};
 ghost use Rattle.cw_rules.specs.Notes.{epoch_of, view_of};
 ghost use Rattle.cw_rules.specs.Step as rule;
 ghost use Rattle.marshal.specs.Stored.{log_of};
 ghost use Rattle.node.specs.Disks.{HasFound, HasTried, WasRefused};
-ghost use Rattle.node.specs.State.{IsAtWork, IsMarshalOf, IsNodeOf, IsSameNode, notes_of_step, rules_of, stepped};
+ghost use Rattle.node.specs.State.{IsAtWork, IsMarshalOf, IsNodeOf, IsSameNode, notes_of_step};
+ghost use Rattle.node.specs.State.{rules_of, stepped};
 
 use crate::holding::Holding;
 use crate::start::Setup;
@@ -90,7 +92,8 @@ impl<H: Hasher<Digest = Digest32>, D: Disk, A: Application + Drop> Node<H, D, A>
         // The rules' start on the frames that it finds on the disk.
         ensures node { IfOk result (λ r. IsNodeOf id committees backlog app r.0) }
         ensures start { IfOk result (λ r.
-            stepped r.0.member r.1 ≡ rule.start (rules_of H.digest_of A.accepts r.0) id r.0.member.frames) }
+            stepped r.0.member r.1 ≡ rule.start
+            (rules_of H.digest_of A.accepts r.0) id r.0.member.frames) }
         ensures at_work { IfOk result (λ r. IsAtWork D.state r.0) }
 
         // What it did to the disk, and what a crash at any moment leaves.
@@ -148,7 +151,8 @@ impl<H: Hasher<Digest = Digest32>, D: Disk, A: Application + Drop> Node<H, D, A>
     ) -> Result<StepOut, NodeError>
         // One step of the rules.
         ensures step { IfOk result (λ out.
-            stepped self.new.member out ≡ rule.step (rules_of H.digest_of A.accepts self.old) self.old.id
+            stepped self.new.member out ≡ rule.step
+            (rules_of H.digest_of A.accepts self.old) self.old.id
             (V.signs verifier.now) self.old.member event.now) }
         ensures same { IsSameNode self.old self.new }
         ensures at_work { OnOk result (IsAtWork D.state self.new) }
@@ -164,7 +168,8 @@ impl<H: Hasher<Digest = Digest32>, D: Disk, A: Application + Drop> Node<H, D, A>
         // notes.
         ensures disk { self.old.member.live ≡ true
             → HasTried D.state D.continues self.old.member.frames
-            (notes_of_step (rules_of H.digest_of A.accepts self.old) (V.signs verifier.now) self.old event.now)
+            (notes_of_step (rules_of H.digest_of A.accepts self.old)
+            (V.signs verifier.now) self.old event.now)
             result self.old.log self.new.log }
         ensures never_fails { D.calm self.old.log.disk ≡ true → IsErrOf result StoreError.Disk → ⊥ }
     {
@@ -245,7 +250,10 @@ impl<H: Hasher<Digest = Digest32>, A: Application + Drop> Node<H, MemoryDisk, A>
         ensures armed { is_stopped self.old.log.disk ≡ false
             → self.new ≡ record self.old {
               log = record self.old.log {
-                disk = record self.old.log.disk { stop = stop_from_now self.old.log.disk call cut fill };
+                disk = record self.old.log.disk {
+                  stop = stop_from_now self.old.log.disk call cut
+                      fill;
+                };
               };
             } }
         ensures stopped { is_stopped self.old.log.disk ≡ true → self.new ≡ self.old }

@@ -14,8 +14,8 @@ use std::marker::Model;
 use std::sync::Wait;
 use std::thread::Threads;
 
-/// A node beside its verifier and its strategy. Contracts see the node, the verifier, and whether an
-/// answer was lost.
+/// A node beside its verifier and its strategy. Contracts see the node, the verifier, and whether
+/// an answer was lost.
 ///
 /// Its turns may start threads, so a mailbox of it is stepped by [`step_seat`].
 ///
@@ -103,15 +103,16 @@ impl<
         &self.node
     }
 
-    /// The node takes the event, and what it answers is given twice. Where no memory is left for the
-    /// second copy it answers `NoMemory` twice, and `Failed` from then on.
+    /// The node takes the event, and what it answers is given twice. Where no memory is left for
+    /// the second copy it answers `NoMemory` twice, and `Failed` from then on.
     pub fn turn<R: Threads + Sync>(
         &mut self,
         rt: &R,
         alloc: Global,
         event: &Event,
     ) -> (Result<StepOut, NodeError>, Result<StepOut, NodeError>)
-        ensures lawful { IsSeatTurn H.digest_of A.accepts V.signs D.state D.continues self.old event.now result.0 self.new }
+        ensures lawful { IsSeatTurn H.digest_of A.accepts V.signs D.state D.continues self.old
+            event.now result.0 self.new }
         ensures twice { result.1 ≡ result.0 }
         ensures equal { ⟦<Result<StepOut, NodeError> as PartialEq>⟧.eq result.0 result.1 ≡ true }
     {
@@ -127,7 +128,8 @@ impl<
         alloc: Global,
         event: &Event,
     ) -> (Result<StepOut, NodeError>, Result<StepOut, NodeError>)
-        ensures lawful { IsSeatTurn H.digest_of A.accepts V.signs D.state D.continues self.old event.now result.0 self.new }
+        ensures lawful { IsSeatTurn H.digest_of A.accepts V.signs D.state D.continues self.old
+            event.now result.0 self.new }
         ensures twice { result.1 ≡ result.0 }
     {
         if self.lost {
@@ -171,7 +173,8 @@ pub fn step_seat<
 ) -> Result<u64, NoMemory>
     ensures ok { IfOk result (λ place.
         HasStepped (IsSeatTurn H.digest_of A.accepts V.signs D.state D.continues)
-        ⟦<Event as PartialEq>⟧.eq ⟦<Result<StepOut, NodeError> as PartialEq>⟧.eq event place mailbox.old mailbox.new) }
+        ⟦<Event as PartialEq>⟧.eq ⟦<Result<StepOut, NodeError> as PartialEq>⟧.eq event place
+        mailbox.old mailbox.new) }
     ensures err { OnErr result (mailbox.new ≡ mailbox.old) }
 {
     mailbox.step_by(rt, alloc, event, |seat, event| seat.turn(rt, alloc, event))
@@ -193,7 +196,8 @@ fn step_once<
     verifier: &V,
     strategy: &S,
 ) -> Result<StepOut, NodeError>
-    ensures { IsStep H.digest_of A.accepts (V.signs verifier.now) D.state D.continues node.old event.now result node.new }
+    ensures { IsStep H.digest_of A.accepts
+        (V.signs verifier.now) D.state D.continues node.old event.now result node.new }
 {
     node.step(rt, alloc, event, verifier, strategy)
 }

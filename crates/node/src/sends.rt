@@ -1,7 +1,8 @@
 //! What the notes of a step send, and the chunk of its own that a member passes on.
 
-ghost use Rattle.std.specs.Prelude.{◌≡◌, ◌++◌, ◌∷◌, ◌==◌, [], ℕ, IfOk, OnOk, None, Some, filter_map, flat_map, if◌then◌else◌, slice_get};
-ghost use Rattle.cw_base.specs.Config.{same_shards};
+ghost use Rattle.std.specs.Prelude.{◌≡◌, ◌++◌, ◌∷◌, ◌==◌, [], ℕ, IfOk, OnOk, None, Some};
+ghost use Rattle.std.specs.Prelude.{filter_map, flat_map, if◌then◌else◌, slice_get};
+ghost use Rattle.cw_base.specs.Config.{same_counts};
 ghost use Rattle.cw_rules.specs.Rules.{config as config_of};
 ghost use Rattle.cw_types.specs.declared.event.Event.TheVariants as event;
 ghost use Rattle.cw_types.specs.declared.note.Note.{Note as NoteValue};
@@ -171,7 +172,7 @@ impl<H: Hasher<Digest = Digest32>, D: Disk, A: Application> Holding<H, D, A> {
 
     // Whether blocks of that epoch are cut so.
     fn is_config_of(&self, config: &Config, epoch: u64) -> bool
-        ensures { result ≡ same_shards config.now
+        ensures { result ≡ same_counts config.now
             (config_of (rules_of H.digest_of A.accepts self.now) epoch) }
     {
         let n = self.committees.size(epoch);

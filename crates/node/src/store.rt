@@ -1,6 +1,8 @@
 //! The store of a node's notes: its marshal, by the clauses that the node stands on.
 
-ghost use Rattle.std.specs.Prelude.{◌≡◌, ℕ, ◌≤◌, ◌<◌, ◌++◌, ◌^◌, ◌-◌, [], IfErr, IfOk, IfSome, IsErrOf, IsTrue, List, None, OnErr, OnOk, Some, filter_map, false, map, true, unwrap_or};
+ghost use Rattle.std.specs.Prelude.{◌≡◌, ℕ, ◌≤◌, ◌<◌, ◌++◌, ◌^◌, ◌-◌, [], IfErr, IfOk, IfSome};
+ghost use Rattle.std.specs.Prelude.{IsErrOf, IsTrue, List, None, OnErr, OnOk, Some, filter_map};
+ghost use Rattle.std.specs.Prelude.{false, map, true, unwrap_or};
 ghost use Rattle.std.specs.List.{last_or, list_all};
 ghost use Rattle.std.specs.Option.{option_map};
 ghost use Rattle.cw_types.specs.NoteLaws.{is_storable};
@@ -9,7 +11,8 @@ ghost use Rattle.cw_rules.specs.Direct.{least};
 ghost use Rattle.cw_rules.specs.Held as rule;
 ghost use Rattle.cw_rules.specs.Notes as notes_rule;
 ghost use Rattle.cw_rules.specs.Sends as sends_rule;
-ghost use Rattle.cw_rules.specs.Step.{Of_commitment, Of_digest, add_frame, deliveries, give_ticket, no_tickets, served, ticketed, unserved};
+ghost use Rattle.cw_rules.specs.Step.{Of_commitment, Of_digest, add_frame, deliveries, give_ticket};
+ghost use Rattle.cw_rules.specs.Step.{no_tickets, served, ticketed, unserved};
 ghost use Rattle.cw_types.specs.declared.event.Event.TheVariants as event;
 ghost use Rattle.cw_types.specs.declared.note.Note.{Note as NoteValue};
 ghost use Rattle.node_disk.specs.Disk.{LeavesOnly};

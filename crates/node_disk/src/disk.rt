@@ -3,7 +3,8 @@
 ghost use Rattle.std.specs.Prelude.{◌≡◌, ◌≤◌, length, Bool, true, false, IfOk, OnOk, IsErrOf};
 ghost use Rattle.cw_base.specs.Causes.{Rose};
 ghost use Rattle.node_disk.specs.Images.{IsImage};
-ghost use Rattle.node_disk.specs.Disk.{DiskState, HasWritten, HasFailedToWrite, HasSynced, HasFailedToSync, IsSame};
+ghost use Rattle.node_disk.specs.Disk.{DiskState, HasWritten, HasFailedToWrite, HasSynced};
+ghost use Rattle.node_disk.specs.Disk.{HasFailedToSync, IsSame};
 
 use std::alloc::{AllocError, Global};
 
@@ -50,7 +51,8 @@ pub trait Disk: Send + Sync {
         ensures same { IsSame (state self.old) (state self.new) }
         ensures tries { (state self.new).tries ≡ (state self.old).tries }
         ensures faults { (state self.old).faults ≤ (state self.new).faults }
-        ensures cause { IsErrOf result DiskError.Failed → Rose (state self.old).faults (state self.new).faults }
+        ensures cause { IsErrOf result DiskError.Failed
+            → Rose (state self.old).faults (state self.new).faults }
         ensures never_fails { calm self.old ≡ true → IsErrOf result DiskError.Failed → ⊥ }
         ensures continues { continues self.old self.new };
 
@@ -58,8 +60,10 @@ pub trait Disk: Send + Sync {
     fn write_at(&mut self, place: u64, bytes: &[u8]) -> Result<(), DiskError>
         requires { place ≤ length (state self.old).now.seen }
         ensures ok { OnOk result (HasWritten place bytes.now (state self.old) (state self.new)) }
-        ensures failed { IsErrOf result DiskError.Failed → HasFailedToWrite place bytes.now (state self.old) (state self.new) }
-        ensures no_memory { IsErrOf result DiskError.NoMemory → IsSame (state self.old) (state self.new) }
+        ensures failed { IsErrOf result DiskError.Failed
+            → HasFailedToWrite place bytes.now (state self.old) (state self.new) }
+        ensures no_memory { IsErrOf result DiskError.NoMemory
+            → IsSame (state self.old) (state self.new) }
         ensures tried { Rose (state self.old).tries (state self.new).tries }
         ensures faults { (state self.old).faults ≤ (state self.new).faults }
         ensures never_fails { calm self.old ≡ true → IsErrOf result DiskError.Failed → ⊥ }
@@ -68,8 +72,10 @@ pub trait Disk: Send + Sync {
     /// Brings all that was written onto the disk: a crash then leaves what a read gives.
     fn sync(&mut self) -> Result<(), DiskError>
         ensures ok { OnOk result (HasSynced (state self.old) (state self.new)) }
-        ensures failed { IsErrOf result DiskError.Failed → HasFailedToSync (state self.old) (state self.new) }
-        ensures no_memory { IsErrOf result DiskError.NoMemory → IsSame (state self.old) (state self.new) }
+        ensures failed { IsErrOf result DiskError.Failed
+            → HasFailedToSync (state self.old) (state self.new) }
+        ensures no_memory { IsErrOf result DiskError.NoMemory
+            → IsSame (state self.old) (state self.new) }
         ensures tried { Rose (state self.old).tries (state self.new).tries }
         ensures faults { (state self.old).faults ≤ (state self.new).faults }
         ensures never_fails { calm self.old ≡ true → IsErrOf result DiskError.Failed → ⊥ }

@@ -1,10 +1,13 @@
 //! What a device call does to the bytes of a disk in memory.
 
-ghost use Rattle.std.specs.Prelude.{◌≡◌, ◌==◌, ◌+◌, ◌-◌, ◌≤◌, ◌<◌, ◌^◌, ◌++◌, [], ◌∷◌, ℕ, List, length, map, IfOk, OnOk, OnErr, vec_len, vec_capacity};
+ghost use Rattle.std.specs.Prelude.{◌≡◌, ◌==◌, ◌+◌, ◌-◌, ◌≤◌, ◌<◌, ◌^◌, ◌++◌, [], ◌∷◌, ℕ, List};
+ghost use Rattle.std.specs.Prelude.{length, map, IfOk, OnOk, OnErr, vec_len, vec_capacity};
 ghost use Rattle.cw_base.specs.Causes.{Rose};
 ghost use Rattle.cw_base.specs.Memory.{counted};
 ghost use Rattle.node_disk.specs.Disk.{put_at};
-ghost use Rattle.node_disk.specs.Record.{Write, Sync, Held, put_within, torn, put_torn, done_writes, write_of, effect, entry_of, is_listed, by_number, outcome_at, is_done};
+ghost use Rattle.node_disk.specs.Record.{Write, Sync, Held, put_within, torn, put_torn};
+ghost use Rattle.node_disk.specs.Record.{done_writes, write_of, effect, entry_of, is_listed};
+ghost use Rattle.node_disk.specs.Record.{by_number, outcome_at, is_done};
 
 use crate::DiskError;
 use crate::record::{Action, Call, Outcome, Pending, Stop};
@@ -64,9 +67,12 @@ pub(crate) fn change_by_write(
 ) -> Result<(), AllocError>
     ensures seen { OnOk result ((held : Held) → bytes.old.items ≡ held.seen
         → bytes.new.items ≡ (effect held (Write place new.now) outcome).seen) }
-    ensures unsynced { OnOk result ((held : Held) → map write_of pending.old.items ≡ done_writes held.writes
-        → map write_of pending.new.items ≡ done_writes (effect held (Write place new.now) outcome).writes) }
-    ensures err { OnErr result ((bytes.new.items ≡ bytes.old.items) × (pending.new.items ≡ pending.old.items)) }
+    ensures unsynced { OnOk result ((held : Held)
+        → map write_of pending.old.items ≡ done_writes held.writes
+        → map write_of pending.new.items ≡ done_writes
+        (effect held (Write place new.now) outcome).writes) }
+    ensures err { OnErr result ((bytes.new.items ≡ bytes.old.items)
+        × (pending.new.items ≡ pending.old.items)) }
 {
     match outcome {
         Outcome::Done => {
@@ -92,7 +98,8 @@ fn tear(
     cut: u64,
     fill: u8,
 ) -> Result<(), AllocError>
-    ensures { OnOk result (bytes.new.items ≡ put_torn cut fill (map write_of pending.now) bytes.old.items) }
+    ensures { OnOk result
+        (bytes.new.items ≡ put_torn cut fill (map write_of pending.now) bytes.old.items) }
 {
     let mut left = cut;
     for write in pending {
@@ -110,11 +117,14 @@ pub(crate) fn change_by_sync(
     pending: &mut Vec<Pending>,
     outcome: Outcome,
 ) -> Result<(), AllocError>
-    ensures seen { OnOk result ((held : Held) → bytes.old.items ≡ held.seen → map write_of pending.old.items ≡ done_writes held.writes
+    ensures seen { OnOk result ((held : Held) → bytes.old.items ≡ held.seen
+        → map write_of pending.old.items ≡ done_writes held.writes
         → bytes.new.items ≡ (effect held Sync outcome).seen) }
-    ensures unsynced { OnOk result ((held : Held) → map write_of pending.old.items ≡ done_writes held.writes
+    ensures unsynced { OnOk result ((held : Held)
+        → map write_of pending.old.items ≡ done_writes held.writes
         → map write_of pending.new.items ≡ done_writes (effect held Sync outcome).writes) }
-    ensures err { OnErr result ((bytes.new.items ≡ bytes.old.items) × (pending.new.items ≡ pending.old.items)) }
+    ensures err { OnErr result ((bytes.new.items ≡ bytes.old.items)
+        × (pending.new.items ≡ pending.old.items)) }
 {
     match outcome {
         Outcome::Done => {
@@ -197,7 +207,8 @@ pub(crate) fn count_fault(faults: &mut u64) -> DiskError
 // Records a device call, for which there is room.
 pub(crate) fn add_call(calls: &mut Vec<Call>, reopened: bool, action: Action, outcome: Outcome)
     requires { vec_len calls.old < vec_capacity calls.old }
-    ensures { calls.new.items ≡ calls.old.items ++ record { reopened = reopened; action = action; outcome = outcome } ∷ [] }
+    ensures { calls.new.items ≡ calls.old.items
+        ++ record { reopened = reopened; action = action; outcome = outcome } ∷ [] }
 {
     let _ = calls.push(Call {
         reopened,

@@ -18,9 +18,11 @@ use crate::Disk;
 pub fn law_of_a_stop()
     ensures cut_short { (old new : LogState MemoryState) (frame : List ℕ) (call cut fill : ℕ)
         → IsArmed call cut fill old.disk → WasCutShort memory_state Continues frame old new
-        → (call ≤ 4) × Finds (kept_frames call cut fill old.frames frame) (memory_state new.disk).now.seen }
+        → (call ≤ 4)
+        × Finds (kept_frames call cut fill old.frames frame) (memory_state new.disk).now.seen }
     ensures whole { (old new : LogState MemoryState) (frame : List ℕ) (call cut fill : ℕ)
-        → IsArmed call cut fill old.disk → HasAppended memory_state Continues frame old new → 0 < length frame
+        → IsArmed call cut fill old.disk → HasAppended memory_state Continues frame old new
+        → 0 < length frame
         → (4 < call) × Finds (old.frames ++ frame ∷ []) (memory_state new.disk).now.seen }
 {}
 
@@ -30,15 +32,17 @@ pub fn law_of_reads<D: Disk>()
     ensures { (disk : D) → IsImage (D.state disk).now (D.state disk).now.seen }
 {}
 
-/// A law, of a test of images. Where a crash at any moment of a run of calls leaves only images that
-/// pass, and a crash at any moment of the next run too, the two are one such run: each image that a
-/// crash at some moment since the first began might have left passes.
+/// A law, of a test of images. Where a crash at any moment of a run of calls leaves only images
+/// that pass, and a crash at any moment of the next run too, the two are one such run: each image
+/// that a crash at some moment since the first began might have left passes.
 pub fn law_of_moments()
     ensures composed { (old mid new : DiskState) (passes : List ℕ → Bool)
-        → LeavesOnly old mid (λ image. passes image ≡ true) → LeavesOnly mid new (λ image. passes image ≡ true)
+        → LeavesOnly old mid (λ image. passes image ≡ true)
+        → LeavesOnly mid new (λ image. passes image ≡ true)
         → LeavesOnly old new (λ image. passes image ≡ true) }
     ensures left_since { (old mid new : DiskState) (passes : List ℕ → Bool)
-        → LeavesOnly old mid (λ image. passes image ≡ true) → LeavesOnly mid new (λ image. passes image ≡ true)
+        → LeavesOnly old mid (λ image. passes image ≡ true)
+        → LeavesOnly mid new (λ image. passes image ≡ true)
         → (image : List ℕ) → LeftSince new (length old.past) image → passes image ≡ true }
 {}
 
@@ -48,7 +52,8 @@ pub fn law_of_rest()
     ensures seen { (frames : List (List ℕ)) (gate : ℕ) (moment : Moment)
         → IsSettled frames gate moment → Finds frames moment.seen }
     ensures images { (frames : List (List ℕ)) (gate : ℕ) (moment : Moment)
-        → IsSettled frames gate moment → (image : List ℕ) → IsImage moment image → Finds frames image }
+        → IsSettled frames gate moment → (image : List ℕ) → IsImage moment image
+        → Finds frames image }
     ensures stays { (frames : List (List ℕ)) (frame : List ℕ) (gate : ℕ) (disk : DiskState)
         → IsSettled frames gate disk.now → LeavesOnly disk disk (FindsWithOrWithout frames frame) }
 {}
@@ -56,7 +61,8 @@ pub fn law_of_rest()
 /// A law. A calm disk stays calm, and one in memory cuts no append of a log short.
 pub fn law_of_calm<D: Disk>()
     ensures stays { (old new : D) → D.continues old new → D.calm old ≡ true → D.calm new ≡ true }
-    ensures memory_stays { (old new : MemoryState) → Continues old new → is_calm old ≡ true → is_calm new ≡ true }
+    ensures memory_stays { (old new : MemoryState) → Continues old new → is_calm old ≡ true
+        → is_calm new ≡ true }
     ensures whole { (old new : LogState MemoryState) (frame : List ℕ)
         → is_calm old.disk ≡ true → WasCutShort memory_state Continues frame old new → ⊥ }
 {}

@@ -1,11 +1,16 @@
 //! A log of frames on a disk.
 
-ghost use Rattle.std.specs.Prelude.{◌≡◌, ◌⊎◌, ◌+◌, ◌≤◌, ◌<◌, ◌^◌, ◌++◌, [], ◌∷◌, List, ℕ, length, true, false, IfOk, OnOk, OnErr, IfErr, Ok, Err, IsErrOf, Some, None, slice_get};
+ghost use Rattle.std.specs.Prelude.{◌≡◌, ◌⊎◌, ◌+◌, ◌≤◌, ◌<◌, ◌^◌, ◌++◌, [], ◌∷◌, List, ℕ, length};
+ghost use Rattle.std.specs.Prelude.{true, false, IfOk, OnOk, OnErr, IfErr, Ok, Err, IsErrOf, Some};
+ghost use Rattle.std.specs.Prelude.{None, slice_get};
 ghost use Rattle.node_disk.specs.Images.{IsImage, IsDurable};
 ghost use Rattle.cw_base.specs.Causes.{Rose};
-ghost use Rattle.node_disk.specs.Disk.{Holds, Torn, LeavesOnly, Synced, HasTold, IsCutShort, IsFront};
+ghost use Rattle.node_disk.specs.Disk.{Holds, Torn, LeavesOnly, Synced, HasTold, IsCutShort};
+ghost use Rattle.node_disk.specs.Disk.{IsFront};
 ghost use Rattle.node_disk.specs.Frames.{body, read_log, IsAtRest, Finds, FindsWithOrWithout};
-ghost use Rattle.node_disk.specs.Log.{IsSettled, all_items, write_then_sync, with_frame, calls_of_append, start_calls, IsBeforeOrSame, HasAppended, WasCutShort};
+ghost use Rattle.node_disk.specs.Log.{IsSettled, all_items, write_then_sync, with_frame};
+ghost use Rattle.node_disk.specs.Log.{calls_of_append, start_calls, IsBeforeOrSame, HasAppended};
+ghost use Rattle.node_disk.specs.Log.{WasCutShort};
 
 use crate::reading::read_frames;
 use crate::{Disk, DiskError, MemoryDisk};
@@ -80,9 +85,9 @@ impl From<DiskError> for StoreError {
 /// byte first, the frame, and the next gate byte. Any other gate byte is closed and ends the log;
 /// what stands behind it doesn't count. A file shorter than two bytes has no frames.
 ///
-/// An append writes length, frame and a closed gate behind the last gate, syncs, opens the last gate
-/// and syncs. So the gate stands closed on the disk until the frame behind it is there whole, and no
-/// checksum is needed.
+/// An append writes length, frame and a closed gate behind the last gate, syncs, opens the last
+/// gate and syncs. So the gate stands closed on the disk until the frame behind it is there whole,
+/// and no checksum is needed.
 ///
 /// ```text
 /// let mut log = match Log::start(alloc, MemoryDisk::new(alloc, Vec::new(alloc))) {
@@ -105,14 +110,16 @@ pub struct Log<D: Disk> {
 }
 
 impl<D: Disk> Log<D> {
-    ghost use Rattle.node_disk.specs.LogWords.{log_frames, log_gate, log_disk, has_failed, log_state, LogIsSettled, IsUnchanged};
+    ghost use Rattle.node_disk.specs.LogWords.{log_frames, log_gate, log_disk, has_failed};
+    ghost use Rattle.node_disk.specs.LogWords.{log_state, LogIsSettled, IsUnchanged};
 
     /// Opens the log of a disk: syncs, reads, and where the file is shorter than two bytes writes a
     /// closed gate and syncs. An `Err` hands the disk back.
     #[tactic(auto, using(crate::proofs::AtRest::settled_images))]
     pub fn start(alloc: Global, mut disk: D) -> Result<Log<D>, (D, StoreError)>
         // The frames are those of the bytes that it found, or a frame there is cut.
-        ensures ok { IfOk result (λ log. (has_failed log ≡ false) × Finds (log_frames log) (D.state disk).now.seen) }
+        ensures ok { IfOk result (λ log. (has_failed log ≡ false)
+            × Finds (log_frames log) (D.state disk).now.seen) }
         ensures settled { IfOk result (λ log. LogIsSettled D.state log) }
         ensures seen { IfOk result (λ log. 2 ≤ length (D.state disk).now.seen
             → (D.state (log_disk log)).now.seen ≡ (D.state disk).now.seen) }
@@ -123,13 +130,16 @@ impl<D: Disk> Log<D> {
         ensures foreign_same { (place : ℕ) → IfErr result (λ e. e.1 ≡ StoreError.Foreign place
             → (D.state e.0).now.seen ≡ (D.state disk).now.seen) }
 
-        // They stay in each image from the first sync on, and before it no other image than before can be left.
+        // They stay in each image from the first sync on, and before it no other image than before
+        // can be left.
         ensures any_moment { IfOk result (λ log.
-            LeavesOnly (D.state disk) (D.state (log_disk log)) (IsBeforeOrSame (D.state disk).now)) }
+            LeavesOnly (D.state disk) (D.state (log_disk log))
+            (IsBeforeOrSame (D.state disk).now)) }
         ensures any_moment_err { IfErr result (λ e.
             LeavesOnly (D.state disk) (D.state e.0) (IsBeforeOrSame (D.state disk).now)) }
 
-        // The device calls: all of them, or up to the first that fails. A read that fails comes after the sync.
+        // The device calls: all of them, or up to the first that fails. A read that fails comes
+        // after the sync.
         ensures calls { IfOk result (λ log.
             HasTold (start_calls (D.state disk).now.seen) (D.state disk) (D.state (log_disk log))) }
         ensures calls_foreign { (place : ℕ) → IfErr result (λ e. e.1 ≡ StoreError.Foreign place
@@ -140,8 +150,10 @@ impl<D: Disk> Log<D> {
         ensures calls_no_memory { IfErr result (λ e. e.1 ≡ StoreError.NoMemory
             → IsFront (start_calls (D.state disk).now.seen) (D.state disk) (D.state e.0)) }
 
-        ensures cause { IfErr result (λ e. e.1 ≡ StoreError.Disk → Rose (D.state disk).faults (D.state e.0).faults) }
-        ensures faults { IfOk result (λ log. (D.state disk).faults ≤ (D.state (log_disk log)).faults) }
+        ensures cause { IfErr result (λ e. e.1 ≡ StoreError.Disk
+            → Rose (D.state disk).faults (D.state e.0).faults) }
+        ensures faults { IfOk result
+            (λ log. (D.state disk).faults ≤ (D.state (log_disk log)).faults) }
         ensures faults_err { IfErr result (λ e. (D.state disk).faults ≤ (D.state e.0).faults) }
         ensures never_fails { D.calm disk ≡ true → IfErr result (λ e. e.1 ≡ StoreError.Disk → ⊥) }
         ensures not_failed { IfErr result (λ e. e.1 ≡ StoreError.Failed → ⊥) }
@@ -199,9 +211,9 @@ impl<D: Disk> Log<D> {
     }
 
     /// Adds a frame, which is then on the disk, by four device calls: it writes length, frame and a
-    /// closed gate behind the last gate, syncs, opens that gate, and syncs, and makes none after the
-    /// first that fails. An empty frame isn't added and calls no device. Refused for memory before a
-    /// device call, it changes nothing.
+    /// closed gate behind the last gate, syncs, opens that gate, and syncs, and makes none after
+    /// the first that fails. An empty frame isn't added and calls no device. Refused for memory
+    /// before a device call, it changes nothing.
     #[tactic(auto, using(crate::proofs::AtRest::settled_images))]
     pub fn append(&mut self, frame: &[u8]) -> Result<(), StoreError>
         ensures ok { OnOk result ((has_failed self.new ≡ false)
@@ -215,13 +227,15 @@ impl<D: Disk> Log<D> {
         ensures on_disk { OnOk result ((image : List ℕ)
             → IsImage (D.state (log_disk self.new)).now image → Finds (log_frames self.new) image) }
 
-        // A crash at any moment of the call leaves the frames from before it, with the new one or without.
+        // A crash at any moment of the call leaves the frames from before it, with the new one or
+        // without.
         ensures any_moment { has_failed self.old ≡ false
             → LeavesOnly (D.state (log_disk self.old)) (D.state (log_disk self.new))
             (FindsWithOrWithout (log_frames self.old) frame.now) }
 
         // The device calls: all of them, or up to the first that fails.
-        ensures appended { OnOk result (HasAppended D.state D.continues frame.now (log_state self.old) (log_state self.new)) }
+        ensures appended { OnOk result
+            (HasAppended D.state D.continues frame.now (log_state self.old) (log_state self.new)) }
         ensures cut_short { IsErrOf result StoreError.Disk
             → WasCutShort D.state D.continues frame.now (log_state self.old) (log_state self.new) }
         ensures calls_no_memory { IsErrOf result StoreError.NoMemory
@@ -232,8 +246,10 @@ impl<D: Disk> Log<D> {
         ensures disk { IsErrOf result StoreError.Disk → has_failed self.new ≡ true }
         ensures disk_cause { IsErrOf result StoreError.Disk
             → Rose (D.state (log_disk self.old)).faults (D.state (log_disk self.new)).faults }
-        ensures never_fails { D.calm (log_disk self.old) ≡ true → IsErrOf result StoreError.Disk → ⊥ }
-        ensures faults { (D.state (log_disk self.old)).faults ≤ (D.state (log_disk self.new)).faults }
+        ensures never_fails { D.calm (log_disk self.old) ≡ true → IsErrOf result StoreError.Disk
+            → ⊥ }
+        ensures faults { (D.state (log_disk self.old)).faults
+            ≤ (D.state (log_disk self.new)).faults }
         ensures failed { has_failed self.old ≡ true → IsErrOf result StoreError.Failed }
         ensures failed_same { has_failed self.old ≡ true → IsUnchanged self.old self.new }
         ensures failed_only { IsErrOf result StoreError.Failed → has_failed self.old ≡ true }
@@ -289,13 +305,16 @@ fn found_bytes<D: Disk>(alloc: Global, disk: &mut D) -> Result<Vec<u8>, DiskErro
     ensures bytes { IfOk result (λ bytes. bytes.items ≡ (D.state disk.old).now.seen) }
     ensures seen { OnOk result ((D.state disk.new).now.seen ≡ (D.state disk.old).now.seen) }
     ensures durable { OnOk result (IsDurable (D.state disk.new).now) }
-    ensures any_moment { LeavesOnly (D.state disk.old) (D.state disk.new) (IsImage (D.state disk.old).now) }
+    ensures any_moment { LeavesOnly (D.state disk.old) (D.state disk.new)
+        (IsImage (D.state disk.old).now) }
     ensures calls { OnOk result (HasTold (Synced true ∷ []) (D.state disk.old) (D.state disk.new)) }
     ensures failed { IsErrOf result DiskError.Failed
         → IsCutShort (Synced true ∷ []) (D.state disk.old) (D.state disk.new)
         ⊎ HasTold (Synced true ∷ []) (D.state disk.old) (D.state disk.new) }
-    ensures no_memory { IsErrOf result DiskError.NoMemory → IsFront (Synced true ∷ []) (D.state disk.old) (D.state disk.new) }
-    ensures cause { IsErrOf result DiskError.Failed → Rose (D.state disk.old).faults (D.state disk.new).faults }
+    ensures no_memory { IsErrOf result DiskError.NoMemory
+        → IsFront (Synced true ∷ []) (D.state disk.old) (D.state disk.new) }
+    ensures cause { IsErrOf result DiskError.Failed
+        → Rose (D.state disk.old).faults (D.state disk.new).faults }
     ensures faults { (D.state disk.old).faults ≤ (D.state disk.new).faults }
     ensures never_fails { D.calm disk.old ≡ true → IsErrOf result DiskError.Failed → ⊥ }
     ensures continues { D.continues disk.old disk.new }
@@ -321,15 +340,19 @@ fn bytes_of(alloc: Global, frame: &[u8]) -> Result<Vec<u8>, NoMemory>
 fn write_and_sync<D: Disk>(disk: &mut D, place: u64, bytes: &[u8]) -> Result<(), DiskError>
     requires inside { place ≤ length (D.state disk.old).now.seen }
     requires durable { IsDurable (D.state disk.old).now }
-    ensures written { OnOk result (Holds (D.state disk.old).now.seen place bytes.now (D.state disk.new).now.seen) }
+    ensures written { OnOk result
+        (Holds (D.state disk.old).now.seen place bytes.now (D.state disk.new).now.seen) }
     ensures durable { OnOk result (IsDurable (D.state disk.new).now) }
-    ensures any_moment { LeavesOnly (D.state disk.old) (D.state disk.new) (Torn place (length bytes.now) (D.state disk.old).now.seen) }
-    ensures calls { OnOk result (HasTold (write_then_sync place bytes.now) (D.state disk.old) (D.state disk.new)) }
+    ensures any_moment { LeavesOnly (D.state disk.old) (D.state disk.new)
+        (Torn place (length bytes.now) (D.state disk.old).now.seen) }
+    ensures calls { OnOk result
+        (HasTold (write_then_sync place bytes.now) (D.state disk.old) (D.state disk.new)) }
     ensures failed { IsErrOf result DiskError.Failed
         → IsCutShort (write_then_sync place bytes.now) (D.state disk.old) (D.state disk.new) }
     ensures no_memory { IsErrOf result DiskError.NoMemory
         → IsFront (write_then_sync place bytes.now) (D.state disk.old) (D.state disk.new) }
-    ensures cause { IsErrOf result DiskError.Failed → Rose (D.state disk.old).faults (D.state disk.new).faults }
+    ensures cause { IsErrOf result DiskError.Failed
+        → Rose (D.state disk.old).faults (D.state disk.new).faults }
     ensures faults { (D.state disk.old).faults ≤ (D.state disk.new).faults }
     ensures tried { Rose (D.state disk.old).tries (D.state disk.new).tries }
     ensures never_fails { D.calm disk.old ≡ true → IsErrOf result DiskError.Failed → ⊥ }
@@ -347,18 +370,24 @@ fn add_frame<D: Disk>(disk: &mut D, gate: u64, bytes: &[u8]) -> Result<(), DiskE
     requires fits { gate + 1 < 2 ^ 64 }
     requires durable { IsDurable (D.state disk.old).now }
     ensures ok { OnOk result ((frames : List (List ℕ)) (frame : List ℕ)
-        → IsAtRest frames gate (D.state disk.old).now.seen → bytes.now ≡ body frame ++ 0 ∷ [] → length frame < 2 ^ 64
+        → IsAtRest frames gate (D.state disk.old).now.seen → bytes.now ≡ body frame ++ 0 ∷ []
+        → length frame < 2 ^ 64
         → IsSettled (frames ++ frame ∷ []) (gate + length bytes.now) (D.state disk.new).now) }
     ensures any_moment { (frames : List (List ℕ)) (frame : List ℕ)
-        → IsAtRest frames gate (D.state disk.old).now.seen → bytes.now ≡ body frame ++ 0 ∷ [] → length frame < 2 ^ 64
+        → IsAtRest frames gate (D.state disk.old).now.seen → bytes.now ≡ body frame ++ 0 ∷ []
+        → length frame < 2 ^ 64
         → LeavesOnly (D.state disk.old) (D.state disk.new) (FindsWithOrWithout frames frame) }
     ensures calls { OnOk result
-        (HasTold (write_then_sync (gate + 1) bytes.now ++ write_then_sync gate (1 ∷ [])) (D.state disk.old) (D.state disk.new)) }
+        (HasTold (write_then_sync (gate + 1) bytes.now ++ write_then_sync gate (1 ∷ []))
+        (D.state disk.old) (D.state disk.new)) }
     ensures failed { IsErrOf result DiskError.Failed
-        → IsCutShort (write_then_sync (gate + 1) bytes.now ++ write_then_sync gate (1 ∷ [])) (D.state disk.old) (D.state disk.new) }
+        → IsCutShort (write_then_sync (gate + 1) bytes.now ++ write_then_sync gate (1 ∷ []))
+        (D.state disk.old) (D.state disk.new) }
     ensures no_memory { IsErrOf result DiskError.NoMemory
-        → IsFront (write_then_sync (gate + 1) bytes.now ++ write_then_sync gate (1 ∷ [])) (D.state disk.old) (D.state disk.new) }
-    ensures cause { IsErrOf result DiskError.Failed → Rose (D.state disk.old).faults (D.state disk.new).faults }
+        → IsFront (write_then_sync (gate + 1) bytes.now ++ write_then_sync gate (1 ∷ []))
+        (D.state disk.old) (D.state disk.new) }
+    ensures cause { IsErrOf result DiskError.Failed
+        → Rose (D.state disk.old).faults (D.state disk.new).faults }
     ensures faults { (D.state disk.old).faults ≤ (D.state disk.new).faults }
     ensures tried { Rose (D.state disk.old).tries (D.state disk.new).tries }
     ensures never_fails { D.calm disk.old ≡ true → IsErrOf result DiskError.Failed → ⊥ }
@@ -378,8 +407,13 @@ impl Log<MemoryDisk> {
     /// Arms a stop of the disk, as [`MemoryDisk::stop_at`] does.
     pub fn stop_at(&mut self, call: u64, cut: u64, fill: u8)
         ensures armed { is_stopped (log_disk self.old) ≡ false
-            → log_disk self.new ≡ record (log_disk self.old) { stop = stop_from_now (log_disk self.old) call cut fill } }
-        ensures stopped { is_stopped (log_disk self.old) ≡ true → log_disk self.new ≡ log_disk self.old }
+            → log_disk self.new
+            ≡ record (log_disk self.old) {
+              stop = stop_from_now
+                  (log_disk self.old) call cut fill;
+            } }
+        ensures stopped { is_stopped (log_disk self.old) ≡ true
+            → log_disk self.new ≡ log_disk self.old }
         ensures state { memory_state (log_disk self.new) ≡ memory_state (log_disk self.old) }
         ensures frames { log_frames self.new ≡ log_frames self.old }
         ensures gate { log_gate self.new ≡ log_gate self.old }
@@ -392,7 +426,8 @@ impl Log<MemoryDisk> {
     pub fn disarm(&mut self)
         ensures dropped { is_stopped (log_disk self.old) ≡ false
             → log_disk self.new ≡ record (log_disk self.old) { stop = None } }
-        ensures stopped { is_stopped (log_disk self.old) ≡ true → log_disk self.new ≡ log_disk self.old }
+        ensures stopped { is_stopped (log_disk self.old) ≡ true
+            → log_disk self.new ≡ log_disk self.old }
         ensures state { memory_state (log_disk self.new) ≡ memory_state (log_disk self.old) }
         ensures frames { log_frames self.new ≡ log_frames self.old }
         ensures gate { log_gate self.new ≡ log_gate self.old }

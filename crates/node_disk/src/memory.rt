@@ -2,7 +2,8 @@
 
 ghost use Rattle.std.specs.Prelude.{◌≡◌, ◌+◌, [], ◌∷◌, ◌++◌, length, map, true, false, Some, None};
 ghost use Rattle.node_disk.specs.Images.{IsDurable};
-ghost use Rattle.node_disk.specs.Memory.{memory_state, new_disk, reopened_disk, is_stopped, stop_from_now};
+ghost use Rattle.node_disk.specs.Memory.{memory_state, new_disk, reopened_disk, is_stopped};
+ghost use Rattle.node_disk.specs.Memory.{stop_from_now};
 
 use crate::effects::{add_call, change_by_sync, change_by_write, count_fault, is_done, outcome_of};
 use crate::record::{Action, Call, Pending, Stop};
@@ -54,7 +55,8 @@ impl Model for MemoryDisk {
     } };
 
     ghost invariant = { λ disk.
-        Keeps (held_after (map entry_of disk.calls.items) disk.reopened) disk.bytes.items (map write_of disk.pending.items) };
+        Keeps (held_after (map entry_of disk.calls.items) disk.reopened) disk.bytes.items
+        (map write_of disk.pending.items) };
 }
 
 impl MemoryDisk {
@@ -93,9 +95,9 @@ impl MemoryDisk {
 
     /// Arms a stop at a device call from now, the first being 1, in place of one that is armed. If
     /// that call is a write, the first `cut` bytes of its range are as written and the rest of the
-    /// range is `fill`. If it is a sync, the same is done to the ranges written since the last sync,
-    /// joined in order; writes that failed are left out. A stop at 0 is reached at once. A disk that is
-    /// stopped stays as it is.
+    /// range is `fill`. If it is a sync, the same is done to the ranges written since the last
+    /// sync, joined in order; writes that failed are left out. A stop at 0 is reached at once. A
+    /// disk that is stopped stays as it is.
     pub fn stop_at(&mut self, call: u64, cut: u64, fill: u8)
         ensures armed { is_stopped self.old ≡ false
             → self.new ≡ record self.old { stop = stop_from_now self.old call cut fill } }
@@ -123,8 +125,8 @@ impl MemoryDisk {
         }
     }
 
-    /// The disk after a restart: what a read gives is on the disk, and no stop is armed. It takes no
-    /// memory.
+    /// The disk after a restart: what a read gives is on the disk, and no stop is armed. It takes
+    /// no memory.
     #[tactic(auto, unfolding(crate::specs::Record::held_after), using(crate::proofs::Reopens::reopens))]
     pub fn reopen(self) -> MemoryDisk
         ensures disk { result ≡ reopened_disk self }
@@ -168,10 +170,13 @@ impl Disk for MemoryDisk {
     ghost use Rattle.std.specs.Prelude.{◌≡◌, ◌≤◌, length, true, false, IfOk, OnOk, IsErrOf};
     ghost use Rattle.cw_base.specs.Causes.{Rose};
     ghost use Rattle.cw_base.specs.Memory.{counted};
-    ghost use Rattle.node_disk.specs.Disk.{IsSame, HasWritten, HasFailedToWrite, HasSynced, HasFailedToSync};
+    ghost use Rattle.node_disk.specs.Disk.{IsSame, HasWritten, HasFailedToWrite, HasSynced};
+    ghost use Rattle.node_disk.specs.Disk.{HasFailedToSync};
     ghost use Rattle.node_disk.specs.Record.{Write, Sync};
-    ghost use Rattle.node_disk.specs.Memory.{memory_state, is_calm, is_stopped, next_fails, HasCalled, Continues};
-    ghost use Rattle.node_disk.specs.MemoryLaws.{calm_stays, continues_itself as itself, continues_on as on, seen_is_image as is_image};
+    ghost use Rattle.node_disk.specs.Memory.{memory_state, is_calm, is_stopped, next_fails};
+    ghost use Rattle.node_disk.specs.Memory.{HasCalled, Continues};
+    ghost use Rattle.node_disk.specs.MemoryLaws.{calm_stays, continues_itself as itself};
+    ghost use Rattle.node_disk.specs.MemoryLaws.{continues_on as on, seen_is_image as is_image};
 
     ghost state = { memory_state };
 
@@ -194,13 +199,15 @@ impl Disk for MemoryDisk {
         ensures same { IsSame (memory_state self.old) (memory_state self.new) }
         ensures tries { (memory_state self.new).tries ≡ (memory_state self.old).tries }
         ensures faults { (memory_state self.old).faults ≤ (memory_state self.new).faults }
-        ensures cause { IsErrOf result DiskError.Failed → Rose (memory_state self.old).faults (memory_state self.new).faults }
+        ensures cause { IsErrOf result DiskError.Failed
+            → Rose (memory_state self.old).faults (memory_state self.new).faults }
         ensures never_fails { is_calm self.old ≡ true → IsErrOf result DiskError.Failed → ⊥ }
         ensures continues { Continues self.old self.new }
 
         ensures kept { self.new ≡ record self.old { faults = self.new.faults } }
         ensures calm { IfOk result (λ bytes. self.new.faults ≡ self.old.faults) }
-        ensures fault_counted { IsErrOf result DiskError.Failed → self.new.faults ≡ counted self.old.faults }
+        ensures fault_counted { IsErrOf result DiskError.Failed
+            → self.new.faults ≡ counted self.old.faults }
         ensures no_fault { IsErrOf result DiskError.NoMemory → self.new.faults ≡ self.old.faults }
         ensures stopped { is_stopped self.old ≡ true → IsErrOf result DiskError.Failed }
         ensures only_stopped { IsErrOf result DiskError.Failed → is_stopped self.old ≡ true }
@@ -215,10 +222,12 @@ impl Disk for MemoryDisk {
     #[tactic(auto, using(crate::proofs::Calm::never))]
     fn write_at(&mut self, place: u64, bytes: &[u8]) -> Result<(), DiskError>
         requires { place ≤ length (memory_state self.old).now.seen }
-        ensures ok { OnOk result (HasWritten place bytes.now (memory_state self.old) (memory_state self.new)) }
+        ensures ok { OnOk result
+            (HasWritten place bytes.now (memory_state self.old) (memory_state self.new)) }
         ensures failed { IsErrOf result DiskError.Failed
             → HasFailedToWrite place bytes.now (memory_state self.old) (memory_state self.new) }
-        ensures no_memory { IsErrOf result DiskError.NoMemory → IsSame (memory_state self.old) (memory_state self.new) }
+        ensures no_memory { IsErrOf result DiskError.NoMemory
+            → IsSame (memory_state self.old) (memory_state self.new) }
         ensures tried { Rose (memory_state self.old).tries (memory_state self.new).tries }
         ensures faults { (memory_state self.old).faults ≤ (memory_state self.new).faults }
         ensures never_fails { is_calm self.old ≡ true → IsErrOf result DiskError.Failed → ⊥ }
@@ -228,7 +237,8 @@ impl Disk for MemoryDisk {
         ensures failure_recorded { IsErrOf result DiskError.Failed
             → HasCalled (Write place bytes.now) self.old self.new }
         ensures calm { OnOk result (self.new.faults ≡ self.old.faults) }
-        ensures fault_counted { IsErrOf result DiskError.Failed → self.new.faults ≡ counted self.old.faults }
+        ensures fault_counted { IsErrOf result DiskError.Failed
+            → self.new.faults ≡ counted self.old.faults }
         ensures no_fault { IsErrOf result DiskError.NoMemory → self.new.faults ≡ self.old.faults }
         ensures try_counted { self.new.tries ≡ counted self.old.tries }
         ensures succeeds { OnOk result (next_fails self.old ≡ false) }
@@ -259,17 +269,21 @@ impl Disk for MemoryDisk {
     #[tactic(auto, using(crate::proofs::Calm::never))]
     fn sync(&mut self) -> Result<(), DiskError>
         ensures ok { OnOk result (HasSynced (memory_state self.old) (memory_state self.new)) }
-        ensures failed { IsErrOf result DiskError.Failed → HasFailedToSync (memory_state self.old) (memory_state self.new) }
-        ensures no_memory { IsErrOf result DiskError.NoMemory → IsSame (memory_state self.old) (memory_state self.new) }
+        ensures failed { IsErrOf result DiskError.Failed
+            → HasFailedToSync (memory_state self.old) (memory_state self.new) }
+        ensures no_memory { IsErrOf result DiskError.NoMemory
+            → IsSame (memory_state self.old) (memory_state self.new) }
         ensures tried { Rose (memory_state self.old).tries (memory_state self.new).tries }
         ensures faults { (memory_state self.old).faults ≤ (memory_state self.new).faults }
         ensures never_fails { is_calm self.old ≡ true → IsErrOf result DiskError.Failed → ⊥ }
         ensures continues { Continues self.old self.new }
 
         ensures recorded { OnOk result (HasCalled Sync self.old self.new) }
-        ensures failure_recorded { IsErrOf result DiskError.Failed → HasCalled Sync self.old self.new }
+        ensures failure_recorded { IsErrOf result DiskError.Failed
+            → HasCalled Sync self.old self.new }
         ensures calm { OnOk result (self.new.faults ≡ self.old.faults) }
-        ensures fault_counted { IsErrOf result DiskError.Failed → self.new.faults ≡ counted self.old.faults }
+        ensures fault_counted { IsErrOf result DiskError.Failed
+            → self.new.faults ≡ counted self.old.faults }
         ensures no_fault { IsErrOf result DiskError.NoMemory → self.new.faults ≡ self.old.faults }
         ensures try_counted { self.new.tries ≡ counted self.old.tries }
         ensures succeeds { OnOk result (next_fails self.old ≡ false) }

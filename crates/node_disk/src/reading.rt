@@ -1,6 +1,7 @@
 //! Reading a log's bytes.
 
-ghost use Rattle.std.specs.Prelude.{◌≡◌, ◌+◌, ◌≤◌, ◌<◌, ◌++◌, [], ◌∷◌, ℕ, List, length, IfOk, IsErrOf, Ok, Err, MatchOption, take, drop};
+ghost use Rattle.std.specs.Prelude.{◌≡◌, ◌+◌, ◌≤◌, ◌<◌, ◌++◌, [], ◌∷◌, ℕ, List, length, IfOk};
+ghost use Rattle.std.specs.Prelude.{IsErrOf, Ok, Err, MatchOption, take, drop};
 ghost use Rattle.node_disk.specs.Frames.{count_of, read_log, IsAtRest};
 ghost use Rattle.node_disk.specs.Log.{all_items};
 
@@ -8,11 +9,13 @@ use crate::StoreError;
 use cw_base::{Items, NoMemory};
 use std::alloc::{AllocError, Global};
 
-/// The frames of a log that these bytes are, without a disk: those that a start finds on a disk that
-/// gives them. `Foreign` is the place of an open gate whose frame is cut, in bytes from the start.
+/// The frames of a log that these bytes are, without a disk: those that a start finds on a disk
+/// that gives them. `Foreign` is the place of an open gate whose frame is cut, in bytes from the
+/// start.
 pub fn read_log(alloc: Global, bytes: &[u8]) -> Result<Items<Items<u8>>, StoreError>
     ensures found { IfOk result (λ frames. read_log bytes.now ≡ Ok frames) }
-    ensures foreign { (place : ℕ) → IsErrOf result (StoreError.Foreign place) → read_log bytes.now ≡ Err place }
+    ensures foreign { (place : ℕ) → IsErrOf result (StoreError.Foreign place)
+        → read_log bytes.now ≡ Err place }
     ensures disk { IsErrOf result StoreError.Disk → ⊥ }
     ensures failed { IsErrOf result StoreError.Failed → ⊥ }
 {
@@ -54,7 +57,8 @@ fn read_count(bytes: &[u8]) -> u64
 fn first_frame(alloc: Global, rest: &[u8]) -> Result<Option<Vec<u8>>, AllocError>
     ensures { IfOk result (λ found. MatchOption found
         (length rest.now ≤ 8 + count_of rest.now)
-        (λ frame. (8 + count_of rest.now < length rest.now) × (frame.items ≡ take (count_of rest.now) (drop 8 rest.now)))) }
+        (λ frame. (8 + count_of rest.now < length rest.now)
+        × (frame.items ≡ take (count_of rest.now) (drop 8 rest.now)))) }
 {
     if rest.len() < 8 {
         return Ok(None);
@@ -71,7 +75,8 @@ fn first_frame(alloc: Global, rest: &[u8]) -> Result<Option<Vec<u8>>, AllocError
 pub(crate) fn read_frames(alloc: Global, bytes: &[u8]) -> Result<(Vec<Vec<u8>>, u64), StoreError>
     requires { 2 ≤ length bytes.now }
     ensures found { IfOk result (λ p. IsAtRest (all_items p.0.items) p.1 bytes.now) }
-    ensures foreign { (place : ℕ) → IsErrOf result (StoreError.Foreign place) → read_log bytes.now ≡ Err place }
+    ensures foreign { (place : ℕ) → IsErrOf result (StoreError.Foreign place)
+        → read_log bytes.now ≡ Err place }
     ensures disk { IsErrOf result StoreError.Disk → ⊥ }
     ensures failed { IsErrOf result StoreError.Failed → ⊥ }
 {

@@ -1,7 +1,7 @@
 //! The record of a disk in memory.
 
-/// How a device call of a disk in memory went. Public since the record of its calls, which contracts
-/// speak of, has one for each; no function takes or answers one.
+/// How a device call of a disk in memory went. Public since the record of its calls, which
+/// contracts speak of, has one for each; no function takes or answers one.
 #[derive(Clone, Copy)]
 pub enum Outcome {
     /// It did what it was asked for.
@@ -30,9 +30,9 @@ pub(crate) struct Call {
     pub outcome: Outcome,
 }
 
-/// A stop of a disk in memory, at the device call whose number is the sum of `after`, the calls that
-/// were made before it was armed, and `call`. Public since contracts speak of it; no function takes or
-/// answers one.
+/// A stop of a disk in memory, at the device call whose number is the sum of `after`, the calls
+/// that were made before it was armed, and `call`. Public since contracts speak of it; no function
+/// takes or answers one.
 #[derive(Clone, Copy)]
 pub struct Stop {
     pub after: u64,

@@ -1,6 +1,7 @@
 //! Heights: those that are given up, pruned and acknowledged, those that are pending, and the next.
 
-ghost use Rattle.std.specs.Prelude.{◌≡◌, ◌+◌, ◌<◌, ◌-◌, ◌^◌, ◌&&◌, IfSome, None, Some, filter, filter_map, length, max, nat_le, nat_lt};
+ghost use Rattle.std.specs.Prelude.{◌≡◌, ◌+◌, ◌<◌, ◌-◌, ◌^◌, ◌&&◌, IfSome, None, Some, filter};
+ghost use Rattle.std.specs.Prelude.{filter_map, length, max, nat_le, nat_lt};
 ghost use Rattle.std.specs.List.{AllByRecursion, fold, last_or, list_all, list_any};
 ghost use Rattle.std.specs.Option.{is_some};
 ghost use Rattle.cw_rules.specs.Direct.{least};

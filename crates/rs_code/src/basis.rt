@@ -2,7 +2,8 @@
 
 ghost use Rattle.std.specs.Prelude.{◌≡◌, ◌≢◌, ℕ, ◌<◌, bit_xor, length, slice_index, IfOk};
 ghost use Rattle.rs_code.specs.Codeword.{ArePoints};
-ghost use Rattle.rs_code.specs.Coefficients.{weight, distance, AreWeights, AreCoefficients, AreInverses};
+ghost use Rattle.rs_code.specs.Coefficients.{weight, distance, AreWeights, AreCoefficients};
+ghost use Rattle.rs_code.specs.Coefficients.{AreInverses};
 ghost use Rattle.rs_code.specs.Field.{times, inverse};
 
 use crate::gf16;
@@ -12,8 +13,8 @@ use std::marker::Model;
 
 /// Points of the field, no two of which are equal, each with its weight.
 ///
-/// The weight of a point is 1 over the product of its differences to the others. The weights, and the
-/// inverses of the first elements of the field, are made once and serve for all targets.
+/// The weight of a point is 1 over the product of its differences to the others. The weights, and
+/// the inverses of the first elements of the field, are made once and serve for all targets.
 #[derive(Drop)]
 pub struct Basis {
     points: Vec<u16>,
@@ -31,13 +32,14 @@ impl Model for Basis {
     ghost view = { λ b. b.points.items };
 
     ghost invariant = { λ b.
-        ArePoints (length b.points.items) (λ s. slice_index b.points.items s) × AreWeights b.points.items b.weights.items
+        ArePoints (length b.points.items) (λ s. slice_index b.points.items s)
+        × AreWeights b.points.items b.weights.items
         × AreInverses b.inverses.items };
 }
 
 impl Basis {
-    /// The basis of these points, for targets below `total`: the difference of a target and a point is
-    /// then below the next power of two.
+    /// The basis of these points, for targets below `total`: the difference of a target and a point
+    /// is then below the next power of two.
     pub fn new(alloc: Global, points: Vec<u16>, total: u32) -> Result<Basis, AllocError>
         requires { ArePoints (length points.items) (λ s. slice_index points.items s) }
         ensures { IfOk result (λ b. b ≡ points.items) }
@@ -86,7 +88,8 @@ fn weights_of(alloc: Global, points: &[u16]) -> Result<Vec<u16>, AllocError>
 // The weights of eight points: 1 over the product of the differences to the other points.
 fn weights_at(points: &[u16], xs: &Eight) -> Eight
     requires { ArePoints (length points.now) (λ u. slice_index points.now u) }
-    ensures { (l s : ℕ) → l < 8 → s < length points.now → slice_index xs.now l ≡ slice_index points.now s →
+    ensures { (l s : ℕ) → l < 8 → s < length points.now
+        → slice_index xs.now l ≡ slice_index points.now s →
         slice_index result l ≡ weight (length points.now) (λ u. slice_index points.now u) s }
 {
     let mut product = [1u16; 8];
@@ -99,7 +102,8 @@ fn weights_at(points: &[u16], xs: &Eight) -> Eight
 
 // The inverse in each lane, and 0 at 0.
 fn inverses(xs: &Eight) -> Eight
-    ensures { (l : ℕ) → l < 8 → slice_index xs.now l ≢ 0 → slice_index result l ≡ inverse (slice_index xs.now l) }
+    ensures { (l : ℕ) → l < 8 → slice_index xs.now l ≢ 0
+        → slice_index result l ≡ inverse (slice_index xs.now l) }
 {
     [
         inverse_or_zero(xs[0]),
@@ -145,7 +149,9 @@ fn inverse_of(inverses: &[u16], element: u16) -> u16
 
 // The product of each lane's differences to all points.
 fn distances_of(points: &[u16], xs: &Eight) -> Eight
-    ensures { (l : ℕ) → l < 8 → slice_index result l ≡ distance (length points.now) (λ u. slice_index points.now u) (slice_index xs.now l) }
+    ensures { (l : ℕ) → l < 8
+        → slice_index result l ≡ distance (length points.now) (λ u. slice_index points.now u)
+        (slice_index xs.now l) }
 {
     let mut product = [1u16; 8];
     for point in points {
@@ -186,7 +192,8 @@ fn coefficients_at(
     requires { AreInverses inverses.now }
     ensures here { (l : ℕ) → l < 8 → slice_index xs.now l ≡ point → slice_index result l ≡ 1 }
     ensures away { (l : ℕ) → l < 8 → slice_index xs.now l ≢ point →
-        slice_index result l ≡ times (slice_index distances.now l) (times weight (inverse (bit_xor (slice_index xs.now l) point))) }
+        slice_index result l ≡ times (slice_index distances.now l)
+        (times weight (inverse (bit_xor (slice_index xs.now l) point))) }
 {
     let inverted = inverses_of(inverses, &differences(xs, point));
     let weighed = products(&[weight; 8], &inverted);
@@ -197,7 +204,8 @@ fn coefficients_at(
 // The inverse in each lane.
 fn inverses_of(inverses: &[u16], xs: &Eight) -> Eight
     requires { AreInverses inverses.now }
-    ensures { (l : ℕ) → l < 8 → slice_index xs.now l ≢ 0 → slice_index result l ≡ inverse (slice_index xs.now l) }
+    ensures { (l : ℕ) → l < 8 → slice_index xs.now l ≢ 0
+        → slice_index result l ≡ inverse (slice_index xs.now l) }
 {
     [
         inverse_of(inverses, xs[0]),
@@ -214,7 +222,8 @@ fn inverses_of(inverses: &[u16], xs: &Eight) -> Eight
 // 1 in the lanes of this element, and the values in the others.
 fn one_where_equal(xs: &Eight, element: u16, values: &Eight) -> Eight
     ensures here { (l : ℕ) → l < 8 → slice_index xs.now l ≡ element → slice_index result l ≡ 1 }
-    ensures away { (l : ℕ) → l < 8 → slice_index xs.now l ≢ element → slice_index result l ≡ slice_index values.now l }
+    ensures away { (l : ℕ) → l < 8 → slice_index xs.now l ≢ element
+        → slice_index result l ≡ slice_index values.now l }
 {
     [
         one_if_equal(xs[0], element, values[0]),

@@ -1,7 +1,8 @@
-//! Sums of rows for eight targets at once: each entry of a table has eight factors' products side by
-//! side, so that one look-up serves eight targets.
+//! Sums of rows for eight targets at once: each entry of a table has eight factors' products side
+//! by side, so that one look-up serves eight targets.
 
-ghost use Rattle.std.specs.Prelude.{◌≡◌, ℕ, ◌<◌, ◌≤◌, ◌+◌, ◌*◌, ◌^◌, bit_xor, length, slice_index, IfOk};
+ghost use Rattle.std.specs.Prelude.{◌≡◌, ℕ, ◌<◌, ◌≤◌, ◌+◌, ◌*◌, ◌/◌, ◌^◌, bit_xor, length};
+ghost use Rattle.std.specs.Prelude.{slice_index, IfOk, OnOk};
 ghost use Rattle.rs_code.specs.Codeword.{sum_below};
 ghost use Rattle.rs_code.specs.Coefficients.{lane, AreTables};
 ghost use Rattle.rs_code.specs.Field.{times};
@@ -17,7 +18,8 @@ fn double(table: &mut [Eight], count: usize, step: &Eight)
     requires { 2 * count ≤ length table.old }
     ensures count { length table.new ≡ length table.old }
     ensures first { (b l : ℕ) → b < count → l < 8 → lane table.new b l ≡ lane table.old b l }
-    ensures second { (b l : ℕ) → b < count → l < 8 → lane table.new (count + b) l ≡ bit_xor (lane table.old b l) (slice_index step.now l) }
+    ensures second { (b l : ℕ) → b < count → l < 8
+        → lane table.new (count + b) l ≡ bit_xor (lane table.old b l) (slice_index step.now l) }
 {
     for place in 0..count {
         table[count + place] = sum_of_two(&table[place], step);
@@ -32,7 +34,8 @@ fn double_products(table: &mut [Eight], count: usize, factors: &Eight, step: &Ei
     ensures each { (n : ℕ) → count ≡ 2 ^ n → count ≤ 128 →
         ((l : ℕ) → l < 8 → slice_index step.now l ≡ times (slice_index factors.now l) count) →
         ((b l : ℕ) → b < count → l < 8 → lane table.old b l ≡ times (slice_index factors.now l) b) →
-        (b l : ℕ) → b < 2 * count → l < 8 → lane table.new b l ≡ times (slice_index factors.now l) b }
+        (b l : ℕ) → b < 2 * count → l < 8
+        → lane table.new b l ≡ times (slice_index factors.now l) b }
 {
     double(table, count, step);
 }
@@ -71,7 +74,8 @@ fn add_by_tables(
     requires low { length low.now ≡ 256 }
     requires high { length high.now ≡ 256 }
     ensures count { length sums.new ≡ length sums.old }
-    ensures each { (j l : ℕ) → j < length sums.old → l < 8 → lane sums.new j l ≡ bit_xor (lane sums.old j l)
+    ensures each { (j l : ℕ) → j < length sums.old → l < 8
+        → lane sums.new j l ≡ bit_xor (lane sums.old j l)
         (bit_xor (lane high.now (slice_index rows.now (row * width + 2 * (first + j))) l)
         (lane low.now (slice_index rows.now (row * width + 2 * (first + j) + 1)) l)) }
 {
@@ -101,15 +105,175 @@ fn add_row(
     ensures low { length low.new ≡ 256 }
     ensures high { length high.new ≡ 256 }
     ensures each { (j l : ℕ) → j < length sums.old → l < 8 → lane sums.new j l
-        ≡ bit_xor (lane sums.old j l) (times (symbol rows.now width row (first + j)) (slice_index factors.now l)) }
+        ≡ bit_xor (lane sums.old j l)
+        (times (symbol rows.now width row (first + j)) (slice_index factors.now l)) }
 {
     spread(low, factors);
     spread(high, &each_by_256(factors));
     add_by_tables(sums, low, high, rows, width, row, first);
 }
 
-/// For each of eight targets, one in a lane, the sums over the rows of a row's symbol times its factor
-/// for the target, in `count` columns from the column `first` on.
+// Adds to the sums the products of eight factors with the row's symbols and of eight others with
+// the next row's, from a first column on. The tables of the next row's are `next_low` and
+// `next_high`.
+fn add_two_by_tables(
+    sums: &mut [Eight],
+    low: &[Eight],
+    high: &[Eight],
+    next_low: &[Eight],
+    next_high: &[Eight],
+    rows: &[u8],
+    width: usize,
+    row: usize,
+    first: usize,
+)
+    requires room { (row + 1) * width + 2 * (first + length sums.old) ≤ length rows.now }
+    requires low { length low.now ≡ 256 }
+    requires high { length high.now ≡ 256 }
+    requires next_low { length next_low.now ≡ 256 }
+    requires next_high { length next_high.now ≡ 256 }
+    ensures count { length sums.new ≡ length sums.old }
+    ensures each { (j l : ℕ) → j < length sums.old → l < 8
+        → lane sums.new j l ≡ bit_xor (lane sums.old j l)
+        (bit_xor
+        (bit_xor (lane high.now (slice_index rows.now (row * width + 2 * (first + j))) l)
+        (lane low.now (slice_index rows.now (row * width + 2 * (first + j) + 1)) l))
+        (bit_xor
+        (lane next_high.now (slice_index rows.now (row * width + 2 * (first + j) + width)) l)
+        (lane next_low.now (slice_index rows.now (row * width + 2 * (first + j) + width + 1)) l))) }
+{
+    for column in 0..sums.len() {
+        let place = row * width + 2 * (first + column);
+        let next = place + width;
+        let upper = &high[usize::from(rows[place])];
+        let lower = &low[usize::from(rows[place + 1])];
+        let next_upper = &next_high[usize::from(rows[next])];
+        let next_lower = &next_low[usize::from(rows[next + 1])];
+        let own = sum_of_two(upper, lower);
+        let others = sum_of_two(next_upper, next_lower);
+        sums[column] = sum_of_three(&sums[column], &own, &others);
+    }
+}
+
+// Adds to the sums the products of eight factors with the row's symbols and of eight others with
+// the next row's, from a first column on.
+fn add_two_rows(
+    sums: &mut [Eight],
+    low: &mut [Eight],
+    high: &mut [Eight],
+    next_low: &mut [Eight],
+    next_high: &mut [Eight],
+    factors: &Eight,
+    next_factors: &Eight,
+    rows: &[u8],
+    width: usize,
+    row: usize,
+    first: usize,
+)
+    requires room { (row + 1) * width + 2 * (first + length sums.old) ≤ length rows.now }
+    requires low { length low.old ≡ 256 }
+    requires high { length high.old ≡ 256 }
+    requires next_low { length next_low.old ≡ 256 }
+    requires next_high { length next_high.old ≡ 256 }
+    ensures count { length sums.new ≡ length sums.old }
+    ensures low { length low.new ≡ 256 }
+    ensures high { length high.new ≡ 256 }
+    ensures next_low { length next_low.new ≡ 256 }
+    ensures next_high { length next_high.new ≡ 256 }
+    ensures each { (j l : ℕ) → j < length sums.old → l < 8
+        → lane sums.new j l ≡ bit_xor (lane sums.old j l)
+        (bit_xor (times (symbol rows.now width row (first + j)) (slice_index factors.now l))
+        (times (symbol rows.now width (row + 1) (first + j)) (slice_index next_factors.now l))) }
+{
+    spread(low, factors);
+    spread(high, &each_by_256(factors));
+    spread(next_low, next_factors);
+    spread(next_high, &each_by_256(next_factors));
+    add_two_by_tables(
+        sums, low, high, next_low, next_high, rows, width, row, first,
+    );
+}
+
+// Adds to the sums the products of each row's factors with its symbols, of two rows at a time, for
+// all rows but the last of an odd number of them.
+fn add_row_pairs(
+    alloc: Global,
+    sums: &mut [Eight],
+    factors: &[Eight],
+    rows: &[u8],
+    width: usize,
+    first: usize,
+) -> Result<(), AllocError>
+    requires rows { length rows.now ≡ length factors.now * width }
+    requires columns { 2 * (first + length sums.old) ≤ width }
+    ensures count { length sums.new ≡ length sums.old }
+    ensures each { OnOk result (((j l : ℕ) → j < length sums.old → l < 8 → lane sums.old j l ≡ 0) →
+        (j l : ℕ) → j < length sums.old → l < 8 → lane sums.new j l
+        ≡ sum_below (2 * (length factors.now / 2))
+        (λ s. times (symbol rows.now width s (first + j)) (lane factors.now s l))) }
+{
+    let mut low = vec![in alloc; [0u16; 8]; 256]?;
+    let mut high = vec![in alloc; [0u16; 8]; 256]?;
+    let mut next_low = vec![in alloc; [0u16; 8]; 256]?;
+    let mut next_high = vec![in alloc; [0u16; 8]; 256]?;
+    for pair in 0..factors.len() / 2 {
+        add_two_rows(
+            sums,
+            &mut low,
+            &mut high,
+            &mut next_low,
+            &mut next_high,
+            &factors[2 * pair],
+            &factors[2 * pair + 1],
+            rows,
+            width,
+            2 * pair,
+            first,
+        );
+    }
+    Ok(())
+}
+
+// Adds to the sums the products of the last row's factors with its symbols, where the number of
+// rows is odd.
+fn add_odd_row(
+    alloc: Global,
+    sums: &mut [Eight],
+    factors: &[Eight],
+    rows: &[u8],
+    width: usize,
+    first: usize,
+) -> Result<(), AllocError>
+    requires rows { length rows.now ≡ length factors.now * width }
+    requires columns { 2 * (first + length sums.old) ≤ width }
+    ensures count { length sums.new ≡ length sums.old }
+    ensures each { OnOk result ((j l : ℕ) → j < length sums.old → l < 8 → lane sums.old j l
+        ≡ sum_below (2 * (length factors.now / 2))
+        (λ s. times (symbol rows.now width s (first + j)) (lane factors.now s l)) →
+        lane sums.new j l
+        ≡ sum_below (length factors.now)
+        (λ s. times (symbol rows.now width s (first + j)) (lane factors.now s l))) }
+{
+    if factors.len() % 2 == 1 {
+        let row = factors.len() - 1;
+        let mut low = vec![in alloc; [0u16; 8]; 256]?;
+        let mut high = vec![in alloc; [0u16; 8]; 256]?;
+        add_row(
+            sums,
+            &mut low,
+            &mut high,
+            &factors[row],
+            rows,
+            width,
+            row,
+            first,
+        );
+    }
+    Ok(())
+}
+
+/// For each of eight targets, one in a lane, the sums over the rows of a row's symbol times its
+/// factor for the target, in `count` columns from the column `first` on.
 pub fn group_sums(
     alloc: Global,
     factors: &[Eight],
@@ -122,23 +286,12 @@ pub fn group_sums(
     requires columns { 2 * (first + count) ≤ width }
     ensures count { IfOk result (λ v. length v.items ≡ count) }
     ensures each { IfOk result (λ v. (j l : ℕ) → j < count → l < 8 → lane v.items j l
-        ≡ sum_below (length factors.now) (λ s. times (symbol rows.now width s (first + j)) (lane factors.now s l))) }
+        ≡ sum_below (length factors.now)
+        (λ s. times (symbol rows.now width s (first + j)) (lane factors.now s l))) }
 {
     let mut sums = vec![in alloc; [0u16; 8]; count]?;
-    let mut low = vec![in alloc; [0u16; 8]; 256]?;
-    let mut high = vec![in alloc; [0u16; 8]; 256]?;
-    for row in 0..factors.len() {
-        add_row(
-            &mut sums,
-            &mut low,
-            &mut high,
-            &factors[row],
-            rows,
-            width,
-            row,
-            first,
-        );
-    }
+    add_row_pairs(alloc, &mut sums, factors, rows, width, first)?;
+    add_odd_row(alloc, &mut sums, factors, rows, width, first)?;
     Ok(sums)
 }
 
@@ -155,8 +308,10 @@ pub fn fill_lane(
     requires columns { 2 * (first + length sums.now) ≤ width }
     requires place { place < 8 }
     ensures count { length rows.new ≡ length rows.old }
-    ensures written { (j : ℕ) → j < length sums.now → symbol rows.new width row (first + j) ≡ lane sums.now j place }
-    ensures others { (i j : ℕ) → 2 * (j + 1) ≤ width → (i ≡ row → first ≤ j → j < first + length sums.now → ⊥) →
+    ensures written { (j : ℕ) → j < length sums.now
+        → symbol rows.new width row (first + j) ≡ lane sums.now j place }
+    ensures others { (i j : ℕ) → 2 * (j + 1) ≤ width
+        → (i ≡ row → first ≤ j → j < first + length sums.now → ⊥) →
         symbol rows.new width i j ≡ symbol rows.old width i j }
 {
     for column in 0..sums.len() {

@@ -1,5 +1,5 @@
-//! Elements in eight lanes, one for each of eight targets. What is done to all lanes alike is written
-//! out lane by lane: the compiler then does it to all of them at once.
+//! Elements in eight lanes, one for each of eight targets. What is done to all lanes alike is
+//! written out lane by lane: the compiler then does it to all of them at once.
 
 ghost use Rattle.std.specs.Prelude.{◌≡◌, ℕ, ◌+◌, ◌<◌, ◌/◌, ◌%◌, bit_xor, length, slice_index};
 ghost use Rattle.rs_code.specs.Field.{times};
@@ -11,7 +11,8 @@ pub type Eight = [u16; 8];
 
 /// The sum of two in each lane.
 pub fn sum_of_two(a: &Eight, b: &Eight) -> Eight
-    ensures { (l : ℕ) → l < 8 → slice_index result l ≡ bit_xor (slice_index a.now l) (slice_index b.now l) }
+    ensures { (l : ℕ) → l < 8
+        → slice_index result l ≡ bit_xor (slice_index a.now l) (slice_index b.now l) }
 {
     [
         a[0] ^ b[0],
@@ -28,7 +29,8 @@ pub fn sum_of_two(a: &Eight, b: &Eight) -> Eight
 /// The sum of three in each lane.
 pub fn sum_of_three(a: &Eight, b: &Eight, c: &Eight) -> Eight
     ensures { (l : ℕ) → l < 8 →
-        slice_index result l ≡ bit_xor (slice_index a.now l) (bit_xor (slice_index b.now l) (slice_index c.now l)) }
+        slice_index result l ≡ bit_xor (slice_index a.now l)
+        (bit_xor (slice_index b.now l) (slice_index c.now l)) }
 {
     [
         a[0] ^ (b[0] ^ c[0]),
@@ -61,7 +63,8 @@ pub fn differences(a: &Eight, b: u16) -> Eight
 /// The next eight elements. Where fewer are left, the other lanes have 0.
 pub fn next_eight(elements: &[u16], done: usize) -> Eight
     requires { done < length elements.now }
-    ensures { (l : ℕ) → l < 8 → done + l < length elements.now → slice_index result l ≡ slice_index elements.now (done + l) }
+    ensures { (l : ℕ) → l < 8 → done + l < length elements.now
+        → slice_index result l ≡ slice_index elements.now (done + l) }
 {
     [
         element_in(elements, done, 0),
@@ -93,7 +96,8 @@ pub fn put_eight(elements: &mut [u16], done: usize, own: &Eight)
     requires { done < length elements.old }
     ensures count { length elements.new ≡ length elements.old }
     ensures before { (i : ℕ) → i < done → slice_index elements.new i ≡ slice_index elements.old i }
-    ensures own { (l : ℕ) → l < 8 → done + l < length elements.old → slice_index elements.new (done + l) ≡ slice_index own.now l }
+    ensures own { (l : ℕ) → l < 8 → done + l < length elements.old
+        → slice_index elements.new (done + l) ≡ slice_index own.now l }
 {
     for lane in 0..(elements.len() - done).min(8) {
         elements[done + lane] = own[lane];
@@ -102,7 +106,8 @@ pub fn put_eight(elements: &mut [u16], done: usize, own: &Eight)
 
 /// The product in each lane, by the halves of the second factor.
 pub fn products(a: &Eight, b: &Eight) -> Eight
-    ensures { (l : ℕ) → l < 8 → slice_index result l ≡ times (slice_index a.now l) (slice_index b.now l) }
+    ensures { (l : ℕ) → l < 8
+        → slice_index result l ≡ times (slice_index a.now l) (slice_index b.now l) }
 {
     let step = each_by_256(a);
     let low = low_parts(b, 256);
@@ -112,7 +117,8 @@ pub fn products(a: &Eight, b: &Eight) -> Eight
 
 // The product with elements of eight bits.
 fn by_eight_bits(a: &Eight, b: &Eight) -> Eight
-    ensures { (l : ℕ) → l < 8 → slice_index b.now l < 256 → slice_index result l ≡ times (slice_index a.now l) (slice_index b.now l) }
+    ensures { (l : ℕ) → l < 8 → slice_index b.now l < 256
+        → slice_index result l ≡ times (slice_index a.now l) (slice_index b.now l) }
 {
     let step = each_by_16(a);
     let low = low_parts(b, 16);
@@ -122,7 +128,8 @@ fn by_eight_bits(a: &Eight, b: &Eight) -> Eight
 
 // The product with elements of four bits.
 fn by_four_bits(a: &Eight, b: &Eight) -> Eight
-    ensures { (l : ℕ) → l < 8 → slice_index b.now l < 16 → slice_index result l ≡ times (slice_index a.now l) (slice_index b.now l) }
+    ensures { (l : ℕ) → l < 8 → slice_index b.now l < 16
+        → slice_index result l ≡ times (slice_index a.now l) (slice_index b.now l) }
 {
     let step = each_by_4(a);
     let low = low_parts(b, 4);
@@ -132,7 +139,8 @@ fn by_four_bits(a: &Eight, b: &Eight) -> Eight
 
 // The product with elements of two bits.
 fn by_two_bits(a: &Eight, b: &Eight) -> Eight
-    ensures { (l : ℕ) → l < 8 → slice_index b.now l < 4 → slice_index result l ≡ times (slice_index a.now l) (slice_index b.now l) }
+    ensures { (l : ℕ) → l < 8 → slice_index b.now l < 4
+        → slice_index result l ≡ times (slice_index a.now l) (slice_index b.now l) }
 {
     let step = each_by_2(a);
     let low = low_parts(b, 2);
@@ -142,7 +150,8 @@ fn by_two_bits(a: &Eight, b: &Eight) -> Eight
 
 // The product with 0 or 1 in each lane.
 fn by_bits(a: &Eight, b: &Eight) -> Eight
-    ensures { (l : ℕ) → l < 8 → slice_index b.now l < 2 → slice_index result l ≡ times (slice_index a.now l) (slice_index b.now l) }
+    ensures { (l : ℕ) → l < 8 → slice_index b.now l < 2
+        → slice_index result l ≡ times (slice_index a.now l) (slice_index b.now l) }
 {
     [
         by_bit(a[0], b[0]),

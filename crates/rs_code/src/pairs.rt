@@ -1,6 +1,7 @@
 //! Sums of rows for two targets at once, where no more are left.
 
-ghost use Rattle.std.specs.Prelude.{◌≡◌, ℕ, ◌<◌, ◌≤◌, ◌+◌, ◌*◌, bit_xor, length, slice_index, IfOk, OnOk};
+ghost use Rattle.std.specs.Prelude.{◌≡◌, ℕ, ◌<◌, ◌≤◌, ◌+◌, ◌*◌, ◌/◌, bit_xor, length, slice_index};
+ghost use Rattle.std.specs.Prelude.{IfOk, OnOk};
 ghost use Rattle.rs_code.specs.Codeword.{sum_below};
 ghost use Rattle.rs_code.specs.Coefficients.{lane};
 ghost use Rattle.rs_code.specs.Field.{times};
@@ -13,9 +14,9 @@ use std::alloc::{AllocError, Global};
 /// An element for each of two targets.
 pub type Pair = [u16; 2];
 
-/// For each of two targets, one in a lane, the sums over the rows of a row's symbol times its factor
-/// for the target, in `count` columns from the column `first` on. The factors of the other lanes are
-/// not used.
+/// For each of two targets, one in a lane, the sums over the rows of a row's symbol times its
+/// factor for the target, in `count` columns from the column `first` on. The factors of the other
+/// lanes are not used.
 pub fn pair_sums(
     alloc: Global,
     factors: &[Eight],
@@ -28,13 +29,103 @@ pub fn pair_sums(
     requires columns { 2 * (first + count) ≤ width }
     ensures count { IfOk result (λ v. length v.items ≡ count) }
     ensures each { IfOk result (λ v. (j l : ℕ) → j < count → l < 2 → lane v.items j l
-        ≡ sum_below (length factors.now) (λ s. times (symbol rows.now width s (first + j)) (lane factors.now s l))) }
+        ≡ sum_below (length factors.now)
+        (λ s. times (symbol rows.now width s (first + j)) (lane factors.now s l))) }
 {
     let mut sums = vec![in alloc; [0u16; 2]; count]?;
-    for row in 0..factors.len() {
-        add_row(alloc, &mut sums, &factors[row], rows, width, row, first)?;
-    }
+    add_row_pairs(alloc, &mut sums, factors, rows, width, first)?;
+    add_odd_row(alloc, &mut sums, factors, rows, width, first)?;
     Ok(sums)
+}
+
+// Adds to the sums the products of each row's factors with its symbols, of two rows at a time, for
+// all rows but the last of an odd number of them.
+fn add_row_pairs(
+    alloc: Global,
+    sums: &mut [Pair],
+    factors: &[Eight],
+    rows: &[u8],
+    width: usize,
+    first: usize,
+) -> Result<(), AllocError>
+    requires rows { length rows.now ≡ length factors.now * width }
+    requires columns { 2 * (first + length sums.old) ≤ width }
+    ensures count { length sums.new ≡ length sums.old }
+    ensures each { OnOk result (((j l : ℕ) → j < length sums.old → l < 2 → lane sums.old j l ≡ 0) →
+        (j l : ℕ) → j < length sums.old → l < 2 → lane sums.new j l
+        ≡ sum_below (2 * (length factors.now / 2))
+        (λ s. times (symbol rows.now width s (first + j)) (lane factors.now s l))) }
+{
+    for pair in 0..factors.len() / 2 {
+        let row = 2 * pair;
+        add_two_rows(
+            alloc,
+            sums,
+            &factors[row],
+            &factors[row + 1],
+            rows,
+            width,
+            row,
+            first,
+        )?;
+    }
+    Ok(())
+}
+
+// Adds to the sums the products of the last row's factors with its symbols, where the number of
+// rows is odd.
+fn add_odd_row(
+    alloc: Global,
+    sums: &mut [Pair],
+    factors: &[Eight],
+    rows: &[u8],
+    width: usize,
+    first: usize,
+) -> Result<(), AllocError>
+    requires rows { length rows.now ≡ length factors.now * width }
+    requires columns { 2 * (first + length sums.old) ≤ width }
+    ensures count { length sums.new ≡ length sums.old }
+    ensures each { OnOk result ((j l : ℕ) → j < length sums.old → l < 2 → lane sums.old j l
+        ≡ sum_below (2 * (length factors.now / 2))
+        (λ s. times (symbol rows.now width s (first + j)) (lane factors.now s l)) →
+        lane sums.new j l
+        ≡ sum_below (length factors.now)
+        (λ s. times (symbol rows.now width s (first + j)) (lane factors.now s l))) }
+{
+    if factors.len() % 2 == 1 {
+        let row = factors.len() - 1;
+        add_row(alloc, sums, &factors[row], rows, width, row, first)?;
+    }
+    Ok(())
+}
+
+// Adds to the sums the products of two factors with the row's symbols and of two others with the
+// next row's, from a first column on.
+fn add_two_rows(
+    alloc: Global,
+    sums: &mut [Pair],
+    factors: &Eight,
+    next_factors: &Eight,
+    rows: &[u8],
+    width: usize,
+    row: usize,
+    first: usize,
+) -> Result<(), AllocError>
+    requires room { (row + 1) * width + 2 * (first + length sums.old) ≤ length rows.now }
+    ensures count { length sums.new ≡ length sums.old }
+    ensures each { OnOk result ((j l : ℕ) → j < length sums.old → l < 2
+        → lane sums.new j l ≡ bit_xor (lane sums.old j l)
+        (bit_xor (times (symbol rows.now width row (first + j)) (slice_index factors.now l))
+        (times (symbol rows.now width (row + 1) (first + j)) (slice_index next_factors.now l)))) }
+{
+    let low = pair_table(alloc, factors)?;
+    let high = pair_table(alloc, &each_by_256(factors))?;
+    let next_low = pair_table(alloc, next_factors)?;
+    let next_high = pair_table(alloc, &each_by_256(next_factors))?;
+    add_two_by_tables(
+        sums, &low, &high, &next_low, &next_high, rows, width, row, first,
+    );
+    Ok(())
 }
 
 // Adds to the sums the products of two factors with the row's symbols, from a first column on.
@@ -50,7 +141,8 @@ fn add_row(
     requires room { row * width + 2 * (first + length sums.old) ≤ length rows.now }
     ensures count { length sums.new ≡ length sums.old }
     ensures each { OnOk result ((j l : ℕ) → j < length sums.old → l < 2 → lane sums.new j l
-        ≡ bit_xor (lane sums.old j l) (times (symbol rows.now width row (first + j)) (slice_index factors.now l))) }
+        ≡ bit_xor (lane sums.old j l)
+        (times (symbol rows.now width row (first + j)) (slice_index factors.now l))) }
 {
     let low = pair_table(alloc, factors)?;
     let high = pair_table(alloc, &each_by_256(factors))?;
@@ -61,7 +153,8 @@ fn add_row(
 // The products of the first two of eight factors with each byte.
 fn pair_table(alloc: Global, factors: &Eight) -> Result<Vec<Pair>, AllocError>
     ensures count { IfOk result (λ v. length v.items ≡ 256) }
-    ensures each { IfOk result (λ v. (b l : ℕ) → b < 256 → l < 2 → lane v.items b l ≡ times (slice_index factors.now l) b) }
+    ensures each { IfOk result (λ v. (b l : ℕ) → b < 256 → l < 2
+        → lane v.items b l ≡ times (slice_index factors.now l) b) }
 {
     let mut table = vec![in alloc; [0u16; 8]; 256]?;
     spread(&mut table, factors);
@@ -72,7 +165,8 @@ fn pair_table(alloc: Global, factors: &Eight) -> Result<Vec<Pair>, AllocError>
 // The first two lanes of each entry.
 fn first_lanes(alloc: Global, table: &[Eight]) -> Result<Vec<Pair>, AllocError>
     ensures count { IfOk result (λ v. length v.items ≡ length table.now) }
-    ensures each { IfOk result (λ v. (b l : ℕ) → b < length table.now → l < 2 → lane v.items b l ≡ lane table.now b l) }
+    ensures each { IfOk result (λ v. (b l : ℕ) → b < length table.now → l < 2
+        → lane v.items b l ≡ lane table.now b l) }
 {
     let mut pairs = Vec::with_capacity(alloc, table.len())?;
     for place in 0..table.len() {
@@ -88,10 +182,19 @@ fn first_two(eight: &Eight) -> Pair
     [eight[0], eight[1]]
 }
 
+// The sum of two in each lane.
+fn sum_of_two(a: &Pair, b: &Pair) -> Pair
+    ensures { (l : ℕ) → l < 2
+        → slice_index result l ≡ bit_xor (slice_index a.now l) (slice_index b.now l) }
+{
+    [a[0] ^ b[0], a[1] ^ b[1]]
+}
+
 // The sum of three in each lane.
 fn sum_of_three(a: &Pair, b: &Pair, c: &Pair) -> Pair
     ensures { (l : ℕ) → l < 2 →
-        slice_index result l ≡ bit_xor (slice_index a.now l) (bit_xor (slice_index b.now l) (slice_index c.now l)) }
+        slice_index result l ≡ bit_xor (slice_index a.now l)
+        (bit_xor (slice_index b.now l) (slice_index c.now l)) }
 {
     [a[0] ^ (b[0] ^ c[0]), a[1] ^ (b[1] ^ c[1])]
 }
@@ -111,7 +214,8 @@ fn add_by_tables(
     requires low { length low.now ≡ 256 }
     requires high { length high.now ≡ 256 }
     ensures count { length sums.new ≡ length sums.old }
-    ensures each { (j l : ℕ) → j < length sums.old → l < 2 → lane sums.new j l ≡ bit_xor (lane sums.old j l)
+    ensures each { (j l : ℕ) → j < length sums.old → l < 2
+        → lane sums.new j l ≡ bit_xor (lane sums.old j l)
         (bit_xor (lane high.now (slice_index rows.now (row * width + 2 * (first + j))) l)
         (lane low.now (slice_index rows.now (row * width + 2 * (first + j) + 1)) l)) }
 {
@@ -120,6 +224,47 @@ fn add_by_tables(
         let upper = &high[usize::from(rows[place])];
         let lower = &low[usize::from(rows[place + 1])];
         sums[column] = sum_of_three(&sums[column], upper, lower);
+    }
+}
+
+// Adds to the sums the products of two factors with the row's symbols and of two others with the
+// next row's, from a first column on. The tables of the next row's are `next_low` and `next_high`.
+fn add_two_by_tables(
+    sums: &mut [Pair],
+    low: &[Pair],
+    high: &[Pair],
+    next_low: &[Pair],
+    next_high: &[Pair],
+    rows: &[u8],
+    width: usize,
+    row: usize,
+    first: usize,
+)
+    requires room { (row + 1) * width + 2 * (first + length sums.old) ≤ length rows.now }
+    requires low { length low.now ≡ 256 }
+    requires high { length high.now ≡ 256 }
+    requires next_low { length next_low.now ≡ 256 }
+    requires next_high { length next_high.now ≡ 256 }
+    ensures count { length sums.new ≡ length sums.old }
+    ensures each { (j l : ℕ) → j < length sums.old → l < 2
+        → lane sums.new j l ≡ bit_xor (lane sums.old j l)
+        (bit_xor
+        (bit_xor (lane high.now (slice_index rows.now (row * width + 2 * (first + j))) l)
+        (lane low.now (slice_index rows.now (row * width + 2 * (first + j) + 1)) l))
+        (bit_xor
+        (lane next_high.now (slice_index rows.now (row * width + 2 * (first + j) + width)) l)
+        (lane next_low.now (slice_index rows.now (row * width + 2 * (first + j) + width + 1)) l))) }
+{
+    for column in 0..sums.len() {
+        let place = row * width + 2 * (first + column);
+        let next = place + width;
+        let upper = &high[usize::from(rows[place])];
+        let lower = &low[usize::from(rows[place + 1])];
+        let next_upper = &next_high[usize::from(rows[next])];
+        let next_lower = &next_low[usize::from(rows[next + 1])];
+        let own = sum_of_two(upper, lower);
+        let others = sum_of_two(next_upper, next_lower);
+        sums[column] = sum_of_three(&sums[column], &own, &others);
     }
 }
 
@@ -136,8 +281,10 @@ pub fn fill_pair_lane(
     requires columns { 2 * (first + length sums.now) ≤ width }
     requires place { place < 2 }
     ensures count { length rows.new ≡ length rows.old }
-    ensures written { (j : ℕ) → j < length sums.now → symbol rows.new width row (first + j) ≡ lane sums.now j place }
-    ensures others { (i j : ℕ) → 2 * (j + 1) ≤ width → (i ≡ row → first ≤ j → j < first + length sums.now → ⊥) →
+    ensures written { (j : ℕ) → j < length sums.now
+        → symbol rows.new width row (first + j) ≡ lane sums.now j place }
+    ensures others { (i j : ℕ) → 2 * (j + 1) ≤ width
+        → (i ≡ row → first ≤ j → j < first + length sums.now → ⊥) →
         symbol rows.new width i j ≡ symbol rows.old width i j }
 {
     for column in 0..sums.len() {

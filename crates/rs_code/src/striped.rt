@@ -1,6 +1,8 @@
 //! Rows by sums of given rows, one stripe of columns beside the other.
 
-ghost use Rattle.std.specs.Prelude.{◌≡◌, ℕ, ◌<◌, ◌≤◌, ◌+◌, ◌-◌, ◌*◌, ◌/◌, ◌%◌, ◌^◌, ◌++◌, take, drop, length, slice_index, slice_index_or, IfOk, OnOk, List, Result, Vec, Ok};
+ghost use Rattle.std.specs.Prelude.{◌≡◌, ℕ, ◌<◌, ◌≤◌, ◌+◌, ◌-◌, ◌*◌, ◌/◌, ◌%◌, ◌^◌, ◌++◌, take};
+ghost use Rattle.std.specs.Prelude.{drop, length, slice_index, slice_index_or, IfOk, OnOk, List};
+ghost use Rattle.std.specs.Prelude.{Result, Vec, Ok};
 ghost use Rattle.std.specs.declared.alloc.Global.{Global};
 ghost use Rattle.std.specs.declared.alloc.AllocError.{AllocError};
 ghost use Rattle.rs_code.specs.Codeword.{sum_below};
@@ -19,7 +21,7 @@ use std::alloc::{AllocError, Global};
 use std::thread::Threads;
 
 // How many columns are worked on at once: their sums stay in the caches near the processor.
-const BLOCK: usize = 4096;
+const BLOCK: usize = 8192;
 
 /// The rows at the targets, of the polynomials through the rows at the points of a basis.
 ///
@@ -37,7 +39,8 @@ pub fn rows_at<R: Threads + Sync, S: Strategy>(
     requires even { width % 2 ≡ 0 }
     requires room { length targets.now * width < 2 ^ 63 }
     ensures { IfOk result (λ v. v.items ≡ joined (length targets.now)
-        (λ i. row_through (length basis.now) (λ s. slice_index basis.now s) rows.now width (slice_index targets.now i))) }
+        (λ i. row_through (length basis.now) (λ s. slice_index basis.now s) rows.now width
+        (slice_index targets.now i))) }
 {
     let count = stripe_count(width, strategy.pieces());
     let pieces = run_stripes(rt, alloc, basis, rows, width, targets, count, strategy)?;
@@ -74,7 +77,8 @@ fn run_stripes<R: Threads + Sync, S: Strategy>(
         requires index { index.now < count }
         ensures { IfOk result (λ v. v.items ≡ joined (length targets.entry.now)
             (λ i. stripe_bytes width count index.now
-            (λ j. symbol_through basis.entry.now rows.entry.now width (slice_index targets.entry.now i) j))) }
+            (λ j. symbol_through basis.entry.now rows.entry.now width
+            (slice_index targets.entry.now i) j))) }
     { stripe_rows(alloc, basis, rows, width, targets, count, *index) };
     let pieces = strategy.map(rt, alloc, &indices, &work)?;
     Ok(pieces)
@@ -95,7 +99,8 @@ fn stripe_rows(
     requires room { length targets.now * width < 2 ^ 63 }
     requires index { index < count }
     ensures { IfOk result (λ v. v.items ≡ joined (length targets.now)
-        (λ i. stripe_bytes width count index (λ j. symbol_through basis.now rows.now width (slice_index targets.now i) j))) }
+        (λ i. stripe_bytes width count index
+        (λ j. symbol_through basis.now rows.now width (slice_index targets.now i) j))) }
 {
     let (first, last) = stripe(width, count, index);
     let wide = last - first;
@@ -135,10 +140,13 @@ fn fill_group(
     requires out { length out.old ≡ length targets.now * wide }
     requires done { done < length targets.now }
     ensures count { length out.new ≡ length out.old }
-    ensures before { (i j : ℕ) → i < done → j < wide / 2 → symbol out.new wide i j ≡ symbol out.old wide i j }
+    ensures before { (i j : ℕ) → i < done → j < wide / 2
+        → symbol out.new wide i j ≡ symbol out.old wide i j }
     ensures bytes { OnOk result ((i : ℕ) → slice_index out.new i < 256) }
-    ensures group { OnOk result ((i j : ℕ) → done ≤ i → i < done + 8 → i < length targets.now → j < wide / 2 →
-        symbol out.new wide i j ≡ symbol_through basis.now rows.now width (slice_index targets.now i) (first + j)) }
+    ensures group { OnOk result ((i j : ℕ) → done ≤ i → i < done + 8 → i < length targets.now
+        → j < wide / 2 →
+        symbol out.new wide i j ≡ symbol_through basis.now rows.now width
+        (slice_index targets.now i) (first + j)) }
 {
     let lanes = (targets.len() - done).min(8);
     let factors = basis.coefficients(alloc, &next_eight(targets, done))?;
@@ -153,8 +161,8 @@ fn fill_group(
     Ok(())
 }
 
-// Writes the symbols of some lanes in a block of columns, from `start` on: the sums of the rows' symbols
-// from the column `first + start` on, each times its factor in the lane.
+// Writes the symbols of some lanes in a block of columns, from `start` on: the sums of the rows'
+// symbols from the column `first + start` on, each times its factor in the lane.
 fn fill_block(
     alloc: Global,
     out: &mut [u8],
@@ -175,10 +183,13 @@ fn fill_block(
     requires lanes { lanes ≤ 8 }
     requires fits { done + lanes < 2 ^ 64 }
     ensures count { length out.new ≡ length out.old }
-    ensures others { (i j : ℕ) → 2 * (j + 1) ≤ wide → (done ≤ i → start ≤ j → j < start + count → ⊥) →
+    ensures others { (i j : ℕ) → 2 * (j + 1) ≤ wide
+        → (done ≤ i → start ≤ j → j < start + count → ⊥) →
         symbol out.new wide i j ≡ symbol out.old wide i j }
-    ensures written { OnOk result ((l j : ℕ) → l < lanes → j < count → symbol out.new wide (done + l) (start + j)
-        ≡ sum_below (length factors.now) (λ s. times (symbol rows.now width s (first + (start + j))) (lane factors.now s l))) }
+    ensures written { OnOk result ((l j : ℕ) → l < lanes → j < count
+        → symbol out.new wide (done + l) (start + j)
+        ≡ sum_below (length factors.now)
+        (λ s. times (symbol rows.now width s (first + (start + j))) (lane factors.now s l))) }
 {
     if lanes <= 2 {
         return fill_pairs(
@@ -211,10 +222,13 @@ fn fill_eights(
     requires lanes { lanes ≤ 8 }
     requires fits { done + lanes < 2 ^ 64 }
     ensures count { length out.new ≡ length out.old }
-    ensures others { (i j : ℕ) → 2 * (j + 1) ≤ wide → (done ≤ i → start ≤ j → j < start + count → ⊥) →
+    ensures others { (i j : ℕ) → 2 * (j + 1) ≤ wide
+        → (done ≤ i → start ≤ j → j < start + count → ⊥) →
         symbol out.new wide i j ≡ symbol out.old wide i j }
-    ensures written { OnOk result ((l j : ℕ) → l < lanes → j < count → symbol out.new wide (done + l) (start + j)
-        ≡ sum_below (length factors.now) (λ s. times (symbol rows.now width s (first + (start + j))) (lane factors.now s l))) }
+    ensures written { OnOk result ((l j : ℕ) → l < lanes → j < count
+        → symbol out.new wide (done + l) (start + j)
+        ≡ sum_below (length factors.now)
+        (λ s. times (symbol rows.now width s (first + (start + j))) (lane factors.now s l))) }
 {
     let sums = group_sums(alloc, factors, rows, width, first + start, count)?;
     for place in 0..lanes {
@@ -244,10 +258,13 @@ fn fill_pairs(
     requires lanes { lanes ≤ 2 }
     requires fits { done + lanes < 2 ^ 64 }
     ensures count { length out.new ≡ length out.old }
-    ensures others { (i j : ℕ) → 2 * (j + 1) ≤ wide → (done ≤ i → start ≤ j → j < start + count → ⊥) →
+    ensures others { (i j : ℕ) → 2 * (j + 1) ≤ wide
+        → (done ≤ i → start ≤ j → j < start + count → ⊥) →
         symbol out.new wide i j ≡ symbol out.old wide i j }
-    ensures written { OnOk result ((l j : ℕ) → l < lanes → j < count → symbol out.new wide (done + l) (start + j)
-        ≡ sum_below (length factors.now) (λ s. times (symbol rows.now width s (first + (start + j))) (lane factors.now s l))) }
+    ensures written { OnOk result ((l j : ℕ) → l < lanes → j < count
+        → symbol out.new wide (done + l) (start + j)
+        ≡ sum_below (length factors.now)
+        (λ s. times (symbol rows.now width s (first + (start + j))) (lane factors.now s l))) }
 {
     let sums = pair_sums(alloc, factors, rows, width, first + start, count)?;
     for place in 0..lanes {
@@ -265,11 +282,15 @@ fn rows_of_stripes(
 ) -> Result<Vec<u8>, NoMemory>
     requires some { 1 ≤ length pieces.items }
     requires even { width % 2 ≡ 0 }
-    requires long { (index : ℕ) (r : Result (Vec ℕ Global) AllocError) → index < length pieces.items →
+    requires long { (index : ℕ) (r : Result (Vec ℕ Global) AllocError)
+        → index < length pieces.items →
         IfOk (slice_index_or pieces.items index r) (λ bytes. length bytes.items
-        ≡ targets * (stripe_start width (length pieces.items) (index + 1) - stripe_start width (length pieces.items) index)) }
+        ≡ targets *
+        (stripe_start width (length pieces.items) (index + 1) - stripe_start width
+        (length pieces.items) index)) }
     ensures { (value : ℕ → ℕ → ℕ) → AreStripes width targets value pieces.items →
-        IfOk result (λ v. v.items ≡ joined targets (λ i. symbol_bytes (width / 2) (λ j. value i j))) }
+        IfOk result
+        (λ v. v.items ≡ joined targets (λ i. symbol_bytes (width / 2) (λ j. value i j))) }
 {
     if pieces.len() == 1 {
         return only_piece(pieces);
@@ -280,7 +301,8 @@ fn rows_of_stripes(
 // The piece of a list of one.
 fn only_piece(mut pieces: Vec<Result<Vec<u8>, AllocError>>) -> Result<Vec<u8>, NoMemory>
     requires { length pieces.items ≡ 1 }
-    ensures { (r : Result (Vec ℕ Global) AllocError) → IfOk result (λ v. slice_index_or pieces.items 0 r ≡ Ok v) }
+    ensures { (r : Result (Vec ℕ Global) AllocError)
+        → IfOk result (λ v. slice_index_or pieces.items 0 r ≡ Ok v) }
 {
     match pieces.pop() {
         Some(Ok(bytes)) => Ok(bytes),
@@ -299,9 +321,12 @@ fn rows_of_several(
     requires even { width % 2 ≡ 0 }
     requires long { (index : ℕ) (r : Result (Vec ℕ Global) AllocError) → index < length pieces.now →
         IfOk (slice_index_or pieces.now index r) (λ bytes. length bytes.items
-        ≡ targets * (stripe_start width (length pieces.now) (index + 1) - stripe_start width (length pieces.now) index)) }
+        ≡ targets *
+        (stripe_start width (length pieces.now) (index + 1) - stripe_start width
+        (length pieces.now) index)) }
     ensures { (value : ℕ → ℕ → ℕ) → AreStripes width targets value pieces.now →
-        IfOk result (λ v. v.items ≡ joined targets (λ i. symbol_bytes (width / 2) (λ j. value i j))) }
+        IfOk result
+        (λ v. v.items ≡ joined targets (λ i. symbol_bytes (width / 2) (λ j. value i j))) }
 {
     let mut out = Vec::with_capacity(alloc, targets.saturating_mul(width))?;
     for place in 0..targets {
@@ -319,11 +344,13 @@ fn push_row(
 ) -> Result<(), NoMemory>
     requires { (index : ℕ) (r : Result (Vec ℕ Global) AllocError) → index < length pieces.now →
         IfOk (slice_index_or pieces.now index r) (λ bytes. (place + 1)
-        * (stripe_start width (length pieces.now) (index + 1) - stripe_start width (length pieces.now) index) ≤ length bytes.items) }
+        * (stripe_start width (length pieces.now) (index + 1) - stripe_start width
+        (length pieces.now) index) ≤ length bytes.items) }
     ensures { (part : ℕ → List ℕ) →
         ((index : ℕ) (r : Result (Vec ℕ Global) AllocError) → index < length pieces.now →
         IfOk (slice_index_or pieces.now index r) (λ bytes.
-        let wide = stripe_start width (length pieces.now) (index + 1) - stripe_start width (length pieces.now) index in
+        let wide = stripe_start width (length pieces.now) (index + 1) - stripe_start width
+        (length pieces.now) index in
         take wide (drop (place * wide) bytes.items) ≡ part index)) →
         OnOk result (out.new.items ≡ out.old.items ++ joined (length pieces.now) part) }
 {

@@ -4,7 +4,7 @@ use Rattle.std.specs.List.{AllByRecursion, filter, list_any}
 use Rattle.std.specs.Option.{option_and_then}
 use Rattle.std.proofs.lemmas.Bool.{and_parts, cases_Bool, cond-false, cond-true}
 use Rattle.std.proofs.lemmas.List.{length-map}
-use Rattle.cw_base.specs.Config.{same_shards}
+use Rattle.cw_base.specs.Config.{same_counts}
 use Rattle.cw_base.specs.declared.hash.Digest32.{Digest32}
 use Rattle.cw_types.specs.Block.{Block}
 use Rattle.cw_types.specs.Epochs.{Epochs}
@@ -12,7 +12,8 @@ use Rattle.cw_types.specs.Same.{same_commitment}
 use Rattle.cw_types.specs.declared.commitment.Commitment.{Commitment}
 use Rattle.cw_rules.specs.Accepted.{is_chunk_of}
 use Rattle.cw_rules.specs.Held.{if_committed}
-use Rattle.cw_rules.specs.Rules.{Chunk, Rules, block_of, config_for, is_under, total_of}
+use Rattle.cw_rules.specs.Rules.{Chunk, Rules, block_of, is_under, total_of}
+use Rattle.cw_types.specs.Numbers.{config_for}
 use Rattle.shards.specs.Enough.{AreEnough, AreUnder}
 use Rattle.shards.specs.Kept.{AreKept, chunks_of, is_known, rules_of, with_chunk}
 use Rattle.shards.specs.Verdicts.{kept_verdict, of_shown, verdict}
@@ -36,7 +37,7 @@ counted c kept = length-map (filter (λ (k : KeptChunk). same_commitment c k.com
 all_under : (hash : List ℕ → Digest32) (epochs : Epochs) (c : Commitment) (xs : List Chunk) → AllByRecursion (λ x. IsTrue (is_chunk_of (rules_of hash epochs) c x)) xs → AreUnder hash c xs
 all_under hash epochs c [] a = tt
 all_under hash epochs c (x ∷ xs) a =
-    ((and_parts (list_any (λ (list : List ℕ). same_shards c.config (config_for (length list))) epochs.lists) (is_under (rules_of hash epochs) c x) a.0).1, all_under hash epochs c xs a.1)
+    ((and_parts (list_any (λ (list : List ℕ). same_counts c.config (config_for (length list))) epochs.lists) (is_under (rules_of hash epochs) c x) a.0).1, all_under hash epochs c xs a.1)
 
 -- k chunks that are kept are enough
 pub enough_kept : (hash : List ℕ → Digest32) (epochs : Epochs) (kept : List KeptChunk) (c : Commitment) (x : Chunk) → AreKept (rules_of hash epochs) kept → is_known kept c x ≡ false

@@ -4,9 +4,9 @@ use Rattle.std.specs.Option.{option_and_then, option_map_or}
 use Rattle.std.proofs.lemmas.Bool.{cases_Bool}
 use Rattle.std.proofs.lemmas.List.{length-map}
 use Rattle.std.proofs.lemmas.Option.{same_Some}
-use Rattle.cw_base.specs.Config.{same_shards}
+use Rattle.cw_base.specs.Config.{same_counts}
 use Rattle.cw_base.specs.Rows.{length-listed, map-listed}
-use Rattle.cw_base.specs.Shards.{Shards}
+use Rattle.cw_base.specs.Counts.{Counts}
 use Rattle.cw_base.specs.declared.hash.Digest32.{Digest32}
 use Rattle.cw_coding.specs.Layout.{row_at, row_digests}
 use Rattle.cw_tree.specs.Tree.{path_of, root_by, root_of}
@@ -24,7 +24,7 @@ use Rattle.shards.specs.Enough.{AreOfText}
 use Rattle.shards.specs.Kept.{rules_of}
 use Rattle.cw_types.specs.Reading.{block_in}
 use Rattle.shards.proofs.Decoded.{listed_at}
-use Rattle.cw_types.proofs.Same.{same_commitment-true, same_digest-true, same_digest_self, same_shards-true}
+use Rattle.cw_types.proofs.Same.{same_commitment-true, same_digest-true, same_digest_self, same_counts-true}
 
 get-mapped : {X Y : Type 0} (f : X → Y) (xs : List X) (i : ℕ) (x : X) (d : Y) → slice_get xs i ≡ Some x → get_or (map f xs) i d ≡ f x
 get-mapped f [] i x d h = cc
@@ -33,7 +33,7 @@ get-mapped f (y ∷ ys) (suc i) x d h = get-mapped f ys i x d h
 
 module _ (hash : List ℕ → Digest32) (epochs : Epochs) where
   -- the root over the rows of a text
-  pub root_there : (x : Shards) (text : List ℕ) → IsCoder (rules_of hash epochs) → 0 < x.minimum
+  pub root_there : (x : Counts) (text : List ℕ) → IsCoder (rules_of hash epochs) → 0 < x.minimum
       → root_of hash digest_bytes (row_digests hash x.minimum x.extra text) ≡ Some (root_over hash (map hash (code_rows text x.minimum x.extra)))
   root_there x text coder pos =
       ap (root_of hash digest_bytes) (sym (map-listed (x.minimum + x.extra) (row_at x.minimum text) hash)) ∙ there (root_of hash digest_bytes ds) refl
@@ -77,7 +77,7 @@ module _ (hash : List ℕ → Digest32) (epochs : Epochs) where
   committed_root c b coder pos e =
       let configs : config (rules_of hash epochs) b.context.epoch ≡ c.config = ap (λ (d : Commitment). d.config) e in
       let roots : root_over hash (map hash (code_rows (block_bytes b) (config (rules_of hash epochs) b.context.epoch).minimum (config (rules_of hash epochs) b.context.epoch).extra)) ≡ c.root = ap (λ (d : Commitment). d.root) e in
-      root_there c.config (block_bytes b) coder pos ∙ ap Some (ap (λ (x : Shards). root_over hash (map hash (code_rows (block_bytes b) x.minimum x.extra))) (sym configs) ∙ roots)
+      root_there c.config (block_bytes b) coder pos ∙ ap Some (ap (λ (x : Counts). root_over hash (map hash (code_rows (block_bytes b) x.minimum x.extra))) (sym configs) ∙ roots)
 
   -- chunks of no text show nothing
   pub shows_none : (c : Commitment) (chunks : List Chunk) → IsCoder (rules_of hash epochs) → 0 < c.config.minimum → ((text : List ℕ) → AreOfText hash c chunks text → ⊥)
@@ -102,11 +102,11 @@ module _ (hash : List ℕ → Digest32) (epochs : Epochs) where
   -- a block whose bytes have that root is committed to so where the digests and the config are those
   pub committed_by : (c : Commitment) (b : Block) (text : List ℕ) → IsCoder (rules_of hash epochs) → 0 < c.config.minimum → block_bytes b ≡ text
       → root_of hash digest_bytes (row_digests hash c.config.minimum c.config.extra text) ≡ Some c.root
-      → (same_digest (hash text) c.block && (same_digest (hash (context_bytes b.context)) c.context && same_shards (config (rules_of hash epochs) b.context.epoch) c.config)) ≡ same_commitment (commit (rules_of hash epochs) b) c
+      → (same_digest (hash text) c.block && (same_digest (hash (context_bytes b.context)) c.context && same_counts (config (rules_of hash epochs) b.context.epoch) c.config)) ≡ same_commitment (commit (rules_of hash epochs) b) c
   unfolding same_commitment
-  committed_by c b text coder pos is rooted = go (cases_Bool (same_shards (config (rules_of hash epochs) b.context.epoch) c.config))
+  committed_by c b text coder pos is rooted = go (cases_Bool (same_counts (config (rules_of hash epochs) b.context.epoch) c.config))
     where
-      own : Shards
+      own : Counts
       own = config (rules_of hash epochs) b.context.epoch
 
       root : Digest32
@@ -122,25 +122,25 @@ module _ (hash : List ℕ → Digest32) (epochs : Epochs) where
       block : same_digest (hash text) c.block ≡ same_digest (hash (block_bytes b)) c.block
       block = ap (λ t. same_digest (hash t) c.block) (sym is)
 
-      go : (same_shards own c.config ≡ true) ⊎ (same_shards own c.config ≡ false)
-          → (same_digest (hash text) c.block && (same_digest (hash (context_bytes b.context)) c.context && same_shards own c.config))
-          ≡ (same_digest (hash (block_bytes b)) c.block && (same_digest root c.root && (same_digest (hash (context_bytes b.context)) c.context && same_shards own c.config)))
+      go : (same_counts own c.config ≡ true) ⊎ (same_counts own c.config ≡ false)
+          → (same_digest (hash text) c.block && (same_digest (hash (context_bytes b.context)) c.context && same_counts own c.config))
+          ≡ (same_digest (hash (block_bytes b)) c.block && (same_digest root c.root && (same_digest (hash (context_bytes b.context)) c.context && same_counts own c.config)))
       go (inl t) =
-          let configs : own ≡ c.config = same_shards-true own c.config t in
+          let configs : own ≡ c.config = same_counts-true own c.config t in
           let same : root ≡ c.root = same_Some root c.root
-          (sym (subst (λ (x : Shards). root_of hash digest_bytes (row_digests hash x.minimum x.extra (block_bytes b)) ≡ Some root) configs (root_there own (block_bytes b) coder (subst (λ (x : Shards). 0 < x.minimum) (sym configs) pos)))
+          (sym (subst (λ (x : Counts). root_of hash digest_bytes (row_digests hash x.minimum x.extra (block_bytes b)) ≡ Some root) configs (root_there own (block_bytes b) coder (subst (λ (x : Counts). 0 < x.minimum) (sym configs) pos)))
           ∙ (subst (λ t. root_of hash digest_bytes (row_digests hash c.config.minimum c.config.extra t) ≡ Some c.root) (sym is) rooted)) in
           let yes : same_digest root c.root ≡ true = subst (λ d. same_digest root d ≡ true) same (same_digest_self root) in
-          rw yes (ap (λ p. p && (same_digest (hash (context_bytes b.context)) c.context && same_shards own c.config)) block)
+          rw yes (ap (λ p. p && (same_digest (hash (context_bytes b.context)) c.context && same_counts own c.config)) block)
       go (inr f) = rw f (ap (λ p. p && (same_digest (hash (context_bytes b.context)) c.context && false)) block ∙ rest (same_digest (hash (block_bytes b)) c.block) (same_digest (hash (context_bytes b.context)) c.context) (same_digest root c.root))
 
   -- the same, of values that are equal to those
-  pub committed_with : (c : Commitment) (b : Block) (text : List ℕ) (d e : Digest32) (x : Shards) → IsCoder (rules_of hash epochs) → 0 < c.config.minimum → block_bytes b ≡ text
+  pub committed_with : (c : Commitment) (b : Block) (text : List ℕ) (d e : Digest32) (x : Counts) → IsCoder (rules_of hash epochs) → 0 < c.config.minimum → block_bytes b ≡ text
       → root_of hash digest_bytes (row_digests hash c.config.minimum c.config.extra text) ≡ Some c.root
       → d ≡ hash text → e ≡ hash (context_bytes b.context) → x ≡ config (rules_of hash epochs) b.context.epoch
-      → (same_digest d c.block && (same_digest e c.context && same_shards x c.config)) ≡ same_commitment (commit (rules_of hash epochs) b) c
+      → (same_digest d c.block && (same_digest e c.context && same_counts x c.config)) ≡ same_commitment (commit (rules_of hash epochs) b) c
   committed_with c b text d e x coder pos is rooted isd ise isx =
-      ap (λ y. same_digest y c.block && (same_digest e c.context && same_shards x c.config)) isd
-      ∙ (ap (λ y. same_digest (hash text) c.block && (same_digest y c.context && same_shards x c.config)) ise
-      ∙ (ap (λ (y : Shards). same_digest (hash text) c.block && (same_digest (hash (context_bytes b.context)) c.context && same_shards y c.config)) isx
+      ap (λ y. same_digest y c.block && (same_digest e c.context && same_counts x c.config)) isd
+      ∙ (ap (λ y. same_digest (hash text) c.block && (same_digest y c.context && same_counts x c.config)) ise
+      ∙ (ap (λ (y : Counts). same_digest (hash text) c.block && (same_digest (hash (context_bytes b.context)) c.context && same_counts y c.config)) isx
       ∙ committed_by c b text coder pos is rooted))

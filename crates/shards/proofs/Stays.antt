@@ -3,7 +3,7 @@ use Rattle.std.proofs.Common.{◌≡◌, ℕ, zero, suc, ◌+◌, ◌≤◌, Boo
 use Rattle.std.specs.Option.{option_or}
 use Rattle.std.proofs.lemmas.Bool.{cases_Bool, cases_lt}
 use Rattle.std.proofs.lemmas.List.{take_all}
-use Rattle.cw_base.specs.Shards.{Shards}
+use Rattle.cw_base.specs.Counts.{Counts}
 use Rattle.cw_base.specs.declared.hash.Digest32.{Digest32}
 use Rattle.cw_types.specs.Block.{Block}
 use Rattle.cw_types.specs.Same.{same_commitment}
@@ -107,7 +107,7 @@ module _ (r : Rules) (kept more : List KeptChunk) (c : Commitment) (x : Chunk) w
 -- ---- of a chunk that shows no block
 
 -- fewer than k chunks show nothing
-few_are_none : (r : Rules) → IsCoder r → (x : Shards) (chunks : List Chunk) → length chunks < x.minimum → block_of r x chunks ≡ None
+few_are_none : (r : Rules) → IsCoder r → (x : Counts) (chunks : List Chunk) → length chunks < x.minimum → block_of r x chunks ≡ None
 few_are_none r coder x chunks few = go (r.text_of x chunks) refl
   where
     go : (o : Option (List ℕ)) → r.text_of x chunks ≡ o → option_and_then r.read_block (r.text_of x chunks) ≡ None

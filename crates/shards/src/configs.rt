@@ -2,8 +2,9 @@
 
 ghost use Rattle.std.specs.Prelude.{◌≡◌, ◌≤◌, IsTrue, length};
 ghost use Rattle.std.specs.List.{list_any};
-ghost use Rattle.cw_base.specs.Config.{same_shards};
-ghost use Rattle.cw_rules.specs.Rules.{config_for, total_of};
+ghost use Rattle.cw_base.specs.Config.{same_counts};
+ghost use Rattle.cw_rules.specs.Rules.{total_of};
+ghost use Rattle.cw_types.specs.Numbers.{config_for};
 
 use cw_base::Config;
 use cw_types::Committees;
@@ -19,7 +20,7 @@ pub(crate) fn minimum(config: &Config) -> u16
 /// Whether a config is that of some epoch.
 pub(crate) fn has_config(committees: &Committees, config: &Config) -> bool
     ensures value { result
-        ≡ list_any (λ list. same_shards config.now (config_for (length list)))
+        ≡ list_any (λ list. same_counts config.now (config_for (length list)))
         committees.now.lists }
     ensures some { IsTrue result → 2 ≤ config.now.minimum }
     ensures few { IsTrue result → total_of config.now ≤ 65535 }

@@ -1,7 +1,8 @@
 //! What holds of the rules over the real codeword, and of the chunks that are kept for a member of
 //! them.
 
-ghost use Rattle.std.specs.Prelude.{◌++◌, ◌≡◌, ◌≤◌, ◌↔◌, [], Bool, IsFalse, IsTrue, List, None, Some, filter_map, length, option_and_then, take, ℕ};
+ghost use Rattle.std.specs.Prelude.{◌++◌, ◌≡◌, ◌≤◌, ◌↔◌, [], Bool, IsFalse, IsTrue, List, None};
+ghost use Rattle.std.specs.Prelude.{Some, filter_map, length, option_and_then, take, ℕ};
 ghost use Rattle.std.specs.List.{list_any};
 ghost use Rattle.cw_base.specs.declared.hash.Digest32.{Digest32};
 ghost use Rattle.cw_types.specs.Block.{Block};

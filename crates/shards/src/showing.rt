@@ -1,7 +1,8 @@
 //! The block that chunks show.
 
-ghost use Rattle.std.specs.Prelude.{◌&&◌, ◌≡◌, ◌≢◌, ◌≤◌, IfNone, IfOk, IfSome, IsNone, List, false, ℕ, map, option_and_then, true};
-ghost use Rattle.cw_base.specs.Config.{same_shards};
+ghost use Rattle.std.specs.Prelude.{◌&&◌, ◌≡◌, ◌≢◌, ◌≤◌, IfNone, IfOk, IfSome, IsNone, List, false};
+ghost use Rattle.std.specs.Prelude.{ℕ, map, option_and_then, true};
+ghost use Rattle.cw_base.specs.Config.{same_counts};
 ghost use Rattle.cw_rules.specs.Accepted.{is_chunk_of};
 ghost use Rattle.cw_rules.specs.Held.{if_committed};
 ghost use Rattle.cw_rules.specs.Rules.{block_of, commit, total_of};
@@ -89,7 +90,7 @@ fn is_committed<H: Hasher<Digest = Digest32>>(
 fn has_parts(commitment: &Commitment, block: &Digest32, context: &Digest32, config: &Config) -> bool
     ensures { result ≡ (same_digest block.now commitment.now.block
         && (same_digest context.now commitment.now.context
-        && same_shards config.now commitment.now.config)) }
+        && same_counts config.now commitment.now.config)) }
 {
     *block == commitment.block
         && *context == commitment.context

@@ -1,6 +1,7 @@
 //! The certificate that a member owes.
 
-ghost use Rattle.std.specs.Prelude.{◌≡◌, ◌≤◌, ◌&&◌, ◌||◌, IfOk, IfSome, IsTrue, filter, find, length, nat_le, not, option_map, unwrap_or};
+ghost use Rattle.std.specs.Prelude.{◌≡◌, ◌≤◌, ◌&&◌, ◌||◌, IfOk, IfSome, IsTrue, filter, find};
+ghost use Rattle.std.specs.Prelude.{length, nat_le, not, option_map, unwrap_or};
 ghost use Rattle.std.specs.List.{list_any};
 ghost use Rattle.std.specs.Option.{is_some};
 ghost use Rattle.cw_rules.specs.Notes.{has_cert};

@@ -1,6 +1,7 @@
 //! What a tally tells of the rules.
 
-ghost use Rattle.std.specs.Prelude.{[], IsTrue, List, None, Some, find, option_map, true, ◌<◌, ◌≡◌, ◌∷◌, ℕ};
+ghost use Rattle.std.specs.Prelude.{[], IsTrue, List, None, Some, find, option_map, true, ◌<◌, ◌≡◌};
+ghost use Rattle.std.specs.Prelude.{◌∷◌, ℕ};
 ghost use Rattle.std.specs.List.{list_all};
 ghost use Rattle.cw_base.specs.declared.hash.Digest32.{Digest32};
 ghost use Rattle.cw_types.specs.Block.{Block};
@@ -11,7 +12,8 @@ ghost use Rattle.cw_types.specs.declared.commitment.Commitment.{Commitment};
 ghost use Rattle.cw_types.specs.declared.event.Handed.{Handed};
 ghost use Rattle.cw_types.specs.declared.note.Note.{Note};
 ghost use Rattle.cw_types.specs.declared.vote.Proposal.{Proposal};
-ghost use Rattle.cw_rules.specs.Accepted.{Ballot, Row, State, Whole, add_wish, first_some, take_ballot, take_part};
+ghost use Rattle.cw_rules.specs.Accepted.{Ballot, Row, State, Whole, add_wish, first_some};
+ghost use Rattle.cw_rules.specs.Accepted.{take_ballot, take_part};
 ghost use Rattle.cw_rules.specs.Direct.{best_parent};
 ghost use Rattle.cw_rules.specs.Fits.{block_fits};
 ghost use Rattle.cw_rules.specs.Held.{held};

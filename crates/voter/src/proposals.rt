@@ -1,6 +1,7 @@
 //! The proposals that a member may certify.
 
-ghost use Rattle.std.specs.Prelude.{◌≡◌, ◌==◌, IfSome, IsTrue, filter, filter_map, find, length, option_and_then, option_map, slice_get, take};
+ghost use Rattle.std.specs.Prelude.{◌≡◌, ◌==◌, IfSome, IsTrue, filter, filter_map, find, length};
+ghost use Rattle.std.specs.Prelude.{option_and_then, option_map, slice_get, take};
 ghost use Rattle.std.specs.List.{enumerate_from, list_any};
 ghost use Rattle.std.specs.Option.{is_some};
 ghost use Rattle.cw_rules.specs.Owed as rule;

@@ -1,9 +1,11 @@
 //! The vote that a member owes.
 
-ghost use Rattle.std.specs.Prelude.{◌≡◌, ◌==◌, ◌&&◌, ◌<◌, ◌-◌, ◌^◌, IfSome, IsTrue, None, Some, false, find, if◌then◌else◌, nat_lt, not, option_and_then, option_map};
+ghost use Rattle.std.specs.Prelude.{◌≡◌, ◌==◌, ◌&&◌, ◌<◌, ◌-◌, ◌^◌, IfSome, IsTrue, None, Some};
+ghost use Rattle.std.specs.Prelude.{false, find, if◌then◌else◌, nat_lt, not, option_and_then};
+ghost use Rattle.std.specs.Prelude.{option_map};
 ghost use Rattle.std.specs.List.{list_any};
 ghost use Rattle.std.specs.Option.{option_map_or};
-ghost use Rattle.cw_base.specs.Config.{same_shards};
+ghost use Rattle.cw_base.specs.Config.{same_counts};
 ghost use Rattle.cw_rules.specs.Accepted.{first_some};
 ghost use Rattle.cw_rules.specs.Held.{greatest_prune, held, noted_block_of};
 ghost use Rattle.cw_rules.specs.Notes as notes_rule;
@@ -82,7 +84,7 @@ impl<H> Tally<H> {
 
     // Whether blocks of that epoch are cut so.
     fn is_config_of(&self, config: &Config, epoch: u64) -> bool
-        ensures { result ≡ same_shards config.now (config_in self.now.epochs epoch) }
+        ensures { result ≡ same_counts config.now (config_in self.now.epochs epoch) }
     {
         config.is_same(&self.committees.config(epoch))
     }

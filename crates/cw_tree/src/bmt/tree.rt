@@ -1,7 +1,9 @@
 //! A tree as it is built, and the way up from each of its leaves.
 
-ghost use Rattle.std.specs.Prelude.{◌≡◌, ℕ, ◌+◌, ◌-◌, ◌*◌, ◌/◌, ◌^◌, ◌<◌, ◌≤◌, [], ◌∷◌, ◌++◌, length, IfOk, OnOk, OnErr, Some, take, drop};
-ghost use Rattle.cw_tree.specs.Tree.{AreLevels, beside, leaves_from, paired, top_within, root_of, path_of};
+ghost use Rattle.std.specs.Prelude.{◌≡◌, ℕ, ◌+◌, ◌-◌, ◌*◌, ◌/◌, ◌^◌, ◌<◌, ◌≤◌, [], ◌∷◌, ◌++◌};
+ghost use Rattle.std.specs.Prelude.{length, IfOk, OnOk, OnErr, Some, take, drop};
+ghost use Rattle.cw_tree.specs.Tree.{AreLevels, beside, leaves_from, paired, top_within, root_of};
+ghost use Rattle.cw_tree.specs.Tree.{path_of};
 
 use crate::bmt::node::{above_of, leaf_of, rooted_of};
 use crate::bmt::proof::Proof;
@@ -92,7 +94,8 @@ impl<H: Hasher> Model for Tree<H> {
     ghost view = { λ t. t.digests };
 
     ghost invariant = { λ t. (root_of H.digest_of H.Digest.content t.digests ≡ Some t.root)
-        × (AreLevels H.digest_of H.Digest.content (leaves_from H.digest_of H.Digest.content 0 t.digests) t.levels)
+        × (AreLevels H.digest_of H.Digest.content
+        (leaves_from H.digest_of H.Digest.content 0 t.digests) t.levels)
         × (length t.digests ≤ 2 ^ 32 - 1) };
 }
 
@@ -108,7 +111,8 @@ impl<H: Hasher> Tree<H> {
     pub fn proof(&self, alloc: Global, index: u32) -> Result<Proof<H::Digest>, NoMemory>
         requires within { index < length self.now }
         ensures leaf_count { IfOk result (λ p. p.leaf_count ≡ length self.now) }
-        ensures siblings { IfOk result (λ p. p.siblings ≡ path_of H.digest_of H.Digest.content index self.now) }
+        ensures siblings { IfOk result
+            (λ p. p.siblings ≡ path_of H.digest_of H.Digest.content index self.now) }
     {
         let leaf_count = self.digests.len() as u32;
         let mut siblings = Items::new(alloc);
@@ -127,7 +131,8 @@ impl<H: Hasher> Tree<H> {
 // The leaves of these digests.
 fn leaves_of<H: Hasher>(alloc: Global, digests: &[H::Digest]) -> Result<Items<H::Digest>, NoMemory>
     requires few { length digests.now ≤ 2 ^ 32 - 1 }
-    ensures { IfOk result (λ leaves. leaves ≡ leaves_from H.digest_of H.Digest.content 0 digests.now) }
+    ensures { IfOk result
+        (λ leaves. leaves ≡ leaves_from H.digest_of H.Digest.content 0 digests.now) }
 {
     let mut leaves = Items::new(alloc);
     for i in 0..digests.len() {
@@ -161,7 +166,8 @@ fn levels_over<H: Hasher>(
 ) -> Result<(Items<Items<H::Digest>>, H::Digest), NoMemory>
     requires some { 0 < length leaves }
     ensures levels { IfOk result (λ r. AreLevels H.digest_of H.Digest.content leaves r.0) }
-    ensures top { IfOk result (λ r. top_within H.digest_of H.Digest.content (length leaves) leaves ≡ Some r.1) }
+    ensures top { IfOk result
+        (λ r. top_within H.digest_of H.Digest.content (length leaves) leaves ≡ Some r.1) }
 {
     let mut levels = Items::new(alloc);
     let mut level = leaves;

@@ -1,6 +1,7 @@
 //! The way up from a leaf, as it is checked.
 
-ghost use Rattle.std.specs.Prelude.{◌≡◌, ℕ, ◌+◌, ◌/◌, ◌<◌, ◌≤◌, ◌↔◌, length, IfSome, IsTrue, Some, None, drop, MatchOption};
+ghost use Rattle.std.specs.Prelude.{◌≡◌, ℕ, ◌+◌, ◌/◌, ◌<◌, ◌≤◌, ◌↔◌, length, IfSome, IsTrue, Some};
+ghost use Rattle.std.specs.Prelude.{None, drop, MatchOption};
 ghost use Rattle.cw_tree.specs.Tree.{climb, root_by};
 
 use crate::bmt::node::{above_of, leaf_of, rooted_of};
@@ -17,7 +18,9 @@ impl<D> Proof<D> {
         index: u32,
         root: &D,
     ) -> bool
-        ensures { IsTrue result ↔ (root_by H.digest_of D.content self.now.leaf_count self.now.siblings index digest.now ≡ Some root.now) }
+        ensures { IsTrue result ↔
+            (root_by H.digest_of D.content self.now.leaf_count self.now.siblings index digest.now
+            ≡ Some root.now) }
     {
         is_under::<H>(
             self.leaf_count,
@@ -38,7 +41,8 @@ fn is_under<H: Hasher>(
     index: u32,
     root: &H::Digest,
 ) -> bool
-    ensures { IsTrue result ↔ (root_by H.digest_of H.Digest.content count siblings.now index digest.now ≡ Some root.now) }
+    ensures { IsTrue result ↔
+        (root_by H.digest_of H.Digest.content count siblings.now index digest.now ≡ Some root.now) }
 {
     if index >= count {
         return false;
@@ -62,9 +66,13 @@ fn step_up<H: Hasher>(
     requires within { used ≤ length siblings.now }
     ensures within { IfSome result (λ up. up.1 ≤ length siblings.now) }
     ensures value { MatchOption result
-        ((n : ℕ) → climb H.digest_of H.Digest.content (n + 1) width at node.now (drop used siblings.now) ≡ None)
-        (λ up. (n : ℕ) → climb H.digest_of H.Digest.content (n + 1) width at node.now (drop used siblings.now)
-        ≡ climb H.digest_of H.Digest.content n ((width + 1) / 2) (at / 2) up.0 (drop up.1 siblings.now)) }
+        ((n : ℕ)
+        → climb H.digest_of H.Digest.content (n + 1) width at node.now (drop used siblings.now)
+        ≡ None)
+        (λ up. (n : ℕ)
+        → climb H.digest_of H.Digest.content (n + 1) width at node.now (drop used siblings.now)
+        ≡ climb H.digest_of H.Digest.content n ((width + 1) / 2) (at / 2) up.0
+        (drop up.1 siblings.now)) }
 {
     if at % 2 == 0 && u64::from(at) + 1 == u64::from(width) {
         return Some((above_of::<H>(node, node), used));

@@ -10,7 +10,7 @@ use Rattle.rs_code.proofs.striped.fill_group.Goals as goal
 pub loop-block-preserved : goal.loop-block-preserved
 loop-block-preserved c =
     let wide : ℕ = c.args.wide in
-    let start : ℕ = 4096 * c.loop-block.block in
+    let start : ℕ = 8192 * c.loop-block.block in
     let news : List ℕ = c.fill_block.new.out in
     let value : List (List ℕ) → ℕ → ℕ → ℕ = λ entries p j.
     sum_below (length entries) (λ s. times (symbol c.args.rows.now c.args.width s (c.args.first + j)) (lane entries s p)) in

@@ -1,7 +1,7 @@
 use Rattle.std.proofs.Common.{◌≡◌, ℕ, ◌%◌, ◌^◌, List, length, ap, ◌∙◌, arith}
 use Rattle.std.specs.List.{flat_map}
 use Rattle.cw_base.specs.Bytes.{varint}
-use Rattle.cw_tree.specs.Sizes.{length-chunk_bytes}
+use Rattle.cw_tree.proofs.Bounds.{length-chunk_bytes}
 use Rattle.cw_tree.proofs.chunk.Chunk.encode_size.Goals as goal
 
 pub returns : goal.returns

@@ -11,4 +11,4 @@ pub invariant_of-result : goal.invariant_of-result
 invariant_of-result c =
     let all : c.loop-member.member ≡ c.args.n = omega arith in
     let members : c.from_vec.result ≡ range_with_len 0 c.args.n = c.from_vec.ensures ∙ (c.loop-member.invariant ∙ ap (range_with_len 0) all) in
-    rw (c.in_ok-push-2.ensures.ok, c.new-lists.ensures, members) (single_sound c.args.n c.requires)
+    rw (c.in_ok-new.ensures.ok, c.in_ok-push-2.ensures.ok, c.new-lists.ensures, members) (single_sound c.args.n c.requires)

@@ -1,0 +1,6 @@
+mod Disks
+mod Paths
+mod Searching
+mod Showing
+mod Tables
+mod Telling
