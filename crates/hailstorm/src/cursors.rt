@@ -1,6 +1,8 @@
 //! Where each lane of a script stands: the place of its next event, and the end of its events.
 
-ghost use Rattle.std.specs.Prelude.{◌≡◌, ◌<◌, ◌≤◌, ◌∷◌, ℕ, [], List, None, Some, drop, flat_map, length, map, slice_get, slice_index, take, IfOk, IfSome, IsTrue};
+ghost use Rattle.std.specs.Prelude.{◌≡◌, ◌<◌, ◌≤◌, ◌∷◌, ℕ, [], List, None, Some, drop, flat_map};
+ghost use Rattle.std.specs.Prelude.{length, map, slice_get, slice_index, take, IfOk, IfSome};
+ghost use Rattle.std.specs.Prelude.{IsTrue};
 ghost use Rattle.cw_rules.specs.World.{Line};
 ghost use Rattle.hail_script.specs.Lanes.{cut};
 ghost use Rattle.hailstorm.specs.Lanes.{lane_at};
@@ -16,7 +18,8 @@ pub(crate) fn cursors_of(
     count: usize,
 ) -> Result<(usize, Vec<(usize, usize)>), NoMemory>
     ensures within { IfOk result (λ r. r.0 ≤ count) }
-    ensures before { (rows : List (ℕ × Line)) → length rows ≡ count → IfOk result (λ r. cut sizes.now rows ≡ take r.0 rows ∷ map (between rows) r.1.items) }
+    ensures before { (rows : List (ℕ × Line)) → length rows ≡ count
+        → IfOk result (λ r. cut sizes.now rows ≡ take r.0 rows ∷ map (between rows) r.1.items) }
 {
     match sizes {
         [] => Ok((count, Vec::new(alloc))),
@@ -32,8 +35,10 @@ fn end_of(from: usize, size: u64, count: usize) -> usize
     requires { from ≤ count }
     ensures within { result ≤ count }
     ensures behind { from ≤ result }
-    ensures run { (rows : List (ℕ × Line)) → length rows ≡ count → between rows (from, result) ≡ take size (drop from rows) }
-    ensures rest { (rows : List (ℕ × Line)) → length rows ≡ count → drop result rows ≡ drop size (drop from rows) }
+    ensures run { (rows : List (ℕ × Line)) → length rows ≡ count
+        → between rows (from, result) ≡ take size (drop from rows) }
+    ensures rest { (rows : List (ℕ × Line)) → length rows ≡ count
+        → drop result rows ≡ drop size (drop from rows) }
 {
     let left = count - from;
     if size as usize >= left {
@@ -50,7 +55,8 @@ fn runs_from(
     count: usize,
 ) -> Result<Vec<(usize, usize)>, NoMemory>
     requires { from ≤ count }
-    ensures { (rows : List (ℕ × Line)) → length rows ≡ count → IfOk result (λ runs. map (between rows) runs.items ≡ cut sizes.now (drop from rows)) }
+    ensures { (rows : List (ℕ × Line)) → length rows ≡ count
+        → IfOk result (λ runs. map (between rows) runs.items ≡ cut sizes.now (drop from rows)) }
 {
     let mut runs = Vec::new(alloc);
     let mut from = from;
@@ -69,9 +75,11 @@ pub(crate) fn cursor_at(
     lane: u64,
     count: usize,
 ) -> Option<(usize, usize)>
-    ensures some { IfSome result (λ next. (slice_get cursors.now lane ≡ Some next) × (next.0 < next.1) × (next.0 < count)) }
+    ensures some { IfSome result (λ next. (slice_get cursors.now lane ≡ Some next)
+        × (next.0 < next.1) × (next.0 < count)) }
     ensures known { IfSome result (λ _. lane < length cursors.now) }
-    ensures none { result ≡ None → (rows : List (ℕ × Line)) → length rows ≡ count → lane_at (map (between rows) cursors.now) lane ≡ [] }
+    ensures none { result ≡ None → (rows : List (ℕ × Line)) → length rows ≡ count
+        → lane_at (map (between rows) cursors.now) lane ≡ [] }
 {
     match cursors.get(lane as usize) {
         None => None,
@@ -86,8 +94,10 @@ pub(crate) fn cursor_at(
 
 /// The first lane that has an event left, of so many events in all.
 pub(crate) fn first_left(cursors: &[(usize, usize)], count: usize) -> Option<u64>
-    ensures some { IfSome result (λ lane. (rows : List (ℕ × Line)) → length rows ≡ count → 0 < length (lane_at (map (between rows) cursors.now) lane)) }
-    ensures none { result ≡ None → (rows : List (ℕ × Line)) → length rows ≡ count → flat_map (λ lane. lane) (map (between rows) cursors.now) ≡ [] }
+    ensures some { IfSome result (λ lane. (rows : List (ℕ × Line)) → length rows ≡ count
+        → 0 < length (lane_at (map (between rows) cursors.now) lane)) }
+    ensures none { result ≡ None → (rows : List (ℕ × Line)) → length rows ≡ count
+        → flat_map (λ lane. lane) (map (between rows) cursors.now) ≡ [] }
 {
     for (lane, cursor) in cursors.iter().enumerate() {
         if cursor.0 < cursor.1 && cursor.0 < count {

@@ -1,6 +1,7 @@
 //! The lanes program: from the bytes that come in to the bytes that go out.
 
-ghost use Rattle.std.specs.Prelude.{◌≡◌, ◌≢◌, ◌++◌, [], List, ℕ, Some, IfOk, OnOk, flat_map, codes, string_bytes};
+ghost use Rattle.std.specs.Prelude.{◌≡◌, ◌≢◌, ◌++◌, [], List, ℕ, Some, IfOk, OnOk, flat_map, codes};
+ghost use Rattle.std.specs.Prelude.{string_bytes};
 ghost use Rattle.std.specs.Fmt.{decimal};
 ghost use Rattle.hail_script.specs.declared.error.RunError.TheVariants as error;
 ghost use Rattle.hail_script.specs.Lanes.{laned_of};
@@ -42,16 +43,21 @@ pub fn lanes_program<
     gate: &G,
 ) -> Exit<(Items<u64>, Report<H>)>
     // With words nothing is read, and the usage is written.
-    ensures usage { words.now ≢ [] → (input.new ≡ input.old) × UsageOf spec.lanes_usage_line (O.held output.old) (O.held output.new) result }
+    ensures usage { words.now ≢ []
+        → (input.new ≡ input.old)
+        × UsageOf spec.lanes_usage_line (O.held output.old) (O.held output.new) result }
 
     // Without words each answer has its meaning for the bytes that the source had left.
     ensures answer { (text : List ℕ) → words.now ≡ [] → I.left input.old ≡ Some text
-        → LanesMeans H.digest_of text (I.left input.new) (O.held output.old) (O.held output.new) result }
+        → LanesMeans H.digest_of text (I.left input.new) (O.held output.old)
+        (O.held output.new) result }
 
     // A fault is told only where the source or the sink has failed in this call.
-    ensures fault { HasFault (I.faults input.old) (I.faults input.new) (O.faults output.old) (O.faults output.new) result }
+    ensures fault { HasFault (I.faults input.old) (I.faults input.new) (O.faults output.old)
+        (O.faults output.new) result }
 
-    // Where the source failed, or memory is short, nothing is written, whether or not the source tells its bytes.
+    // Where the source failed, or memory is short, nothing is written, whether or not the source
+    // tells its bytes.
     ensures silent { IsSilent (O.held output.old) (O.held output.new) result }
 {
     if !words.is_empty() {
@@ -74,7 +80,8 @@ fn run_whole<H: Hasher<Digest = Digest32>, R: Threads + Wait + Sync, O: Sink, S:
     strategy: &S,
     gate: &G,
 ) -> Exit<(Items<u64>, Report<H>)>
-    ensures answer { spec.LanesAnswers H.digest_of text.now (O.held output.old) (O.held output.new) (O.faults output.old) (O.faults output.new) result }
+    ensures answer { spec.LanesAnswers H.digest_of text.now (O.held output.old) (O.held output.new)
+        (O.faults output.old) (O.faults output.new) result }
 {
     match World::run_lanes::<H, R, S, G>(rt, alloc, text, strategy, gate) {
         Ok((order, report)) => match lanes_text::<H>(alloc, order.as_slice(), &report) {
@@ -92,7 +99,8 @@ fn end_with<X: Drop, O: Sink>(
     order: &[u64],
     error: RunError,
 ) -> Exit<X>
-    ensures { spec.EndsLanes (O.held output.old) (O.held output.new) (O.faults output.old) (O.faults output.new) order.now error result }
+    ensures { spec.EndsLanes (O.held output.old) (O.held output.new) (O.faults output.old)
+        (O.faults output.new) order.now error result }
 {
     match error {
         RunError::HashClash(earlier, later) => {
@@ -117,7 +125,8 @@ fn order_text(alloc: Global, order: &[u64]) -> Result<String, NoMemory>
 }
 
 fn put_lanes(out: &mut String, lanes: &[u64]) -> Result<(), NoMemory>
-    ensures { OnOk result (string_bytes out.new ≡ string_bytes out.old ++ flat_map spec.lane_word lanes.now) }
+    ensures { OnOk result
+        (string_bytes out.new ≡ string_bytes out.old ++ flat_map spec.lane_word lanes.now) }
 {
     for lane in lanes {
         put_lane(out, *lane)?;

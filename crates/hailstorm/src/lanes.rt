@@ -36,13 +36,13 @@ impl<H: Hasher<Digest = Digest32>> Turn for Turning<H> {
 const PARTS: u64 = u64::MAX;
 
 impl World {
-    /// Runs a script with lanes, each lane on a thread of its own over one locked cluster. The lines
-    /// before all lanes are played first. Each lane passes the gate with its number, counted from 0,
-    /// before its first line, and its lines have their turns in order, whoever comes first.
+    /// Runs a script with lanes, each lane on a thread of its own over one locked cluster. The
+    /// lines before all lanes are played first. Each lane passes the gate with its number, counted
+    /// from 0, before its first line, and its lines have their turns in order, whoever comes first.
     ///
-    /// The list has the lanes in the order of their turns. With a clash its last turn met that clash,
-    /// and where it has none a line before all lanes did; with any other error it has none. Where no
-    /// thread or no memory for one is there, the lanes are played one behind the other.
+    /// The list has the lanes in the order of their turns. With a clash its last turn met that
+    /// clash, and where it has none a line before all lanes did; with any other error it has none.
+    /// Where no thread or no memory for one is there, the lanes are played one behind the other.
     pub fn run_lanes<H: Hasher<Digest = Digest32>, R: Threads + Wait + Sync, S: Strategy, G: Gate>(
         rt: &R,
         alloc: Global,
@@ -95,8 +95,10 @@ fn end_of<H: Hasher<Digest = Digest32>, R: Threads + Sync, S: Strategy>(
     turning: Turning<H>,
     strategy: &S,
 ) -> Result<(Items<u64>, Report<H>), (Items<u64>, RunError)>
-    ensures ok { (text : List ℕ) → laned_of text ≡ Ok turning.laned → IfOk result (λ done. IsLanesReport H.digest_of text done.0 done.1) }
-    ensures err { (text : List ℕ) → laned_of text ≡ Ok turning.laned → IfErr result (λ done. IsLanesCause H.digest_of text done.0 done.1) }
+    ensures ok { (text : List ℕ) → laned_of text ≡ Ok turning.laned
+        → IfOk result (λ done. IsLanesReport H.digest_of text done.0 done.1) }
+    ensures err { (text : List ℕ) → laned_of text ≡ Ok turning.laned
+        → IfErr result (λ done. IsLanesCause H.digest_of text done.0 done.1) }
 {
     let mut turning = turning;
     'lanes: while let Some(lane) = turning.next_lane() {

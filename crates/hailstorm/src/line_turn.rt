@@ -1,6 +1,7 @@
 //! The turn of one line, until a clash.
 
-ghost use Rattle.std.specs.Prelude.{◌≡◌, ◌<◌, ◌^◌, ◌++◌, ◌∷◌, ℕ, [], List, Some, false, length, slice_get, IfOk, IfErr, IsTrue};
+ghost use Rattle.std.specs.Prelude.{◌≡◌, ◌<◌, ◌^◌, ◌++◌, ◌∷◌, ℕ, [], List, Some, false, length};
+ghost use Rattle.std.specs.Prelude.{slice_get, IfOk, IfErr, IsTrue};
 ghost use Rattle.cw_rules.specs.Report.{entry_of};
 ghost use Rattle.cw_rules.specs.World.{Line, World as RulesWorld, run};
 ghost use Rattle.hail_script.specs.Admission as admission;
@@ -42,13 +43,25 @@ pub(crate) fn turn_line<H: Hasher<Digest = Digest32>, R: Threads + Sync, S: Stra
     requires sound { AreSound (rules_of H.digest_of script.now) 0 places.old }
     requires short { names_oversize (line_of line.now) ≡ false }
     requires later { IsTrue (is_later (line_of line.now)) }
-    ensures played { (w : RulesWorld) (rows : List (ℕ × Line)) → Begin (rules_of H.digest_of script.now) w (lines_of rows ++ line_of line.now ∷ []) → HavePlayed (rules_of H.digest_of script.now) w rows pool.now places.old faulty.now
-        → IfOk result (λ entry. HavePlayed (rules_of H.digest_of script.now) w (rows ++ (number, line_of line.now) ∷ []) (pool.now ++ entry ∷ []) places.new faulty.now) }
-    ensures gives { (w : RulesWorld) (rows : List (ℕ × Line)) → HavePlayed (rules_of H.digest_of script.now) w rows pool.now places.old faulty.now
-        → IfOk result (λ entry. entry ≡ entry_of (rules_of H.digest_of script.now) (run (rules_of H.digest_of script.now) w (lines_of rows)) number (line_of line.now)) }
+    ensures played { (w : RulesWorld) (rows : List (ℕ × Line))
+        → Begin (rules_of H.digest_of script.now) w (lines_of rows ++ line_of line.now ∷ [])
+        → HavePlayed (rules_of H.digest_of script.now) w rows pool.now places.old faulty.now
+        → IfOk result
+        (λ entry. HavePlayed (rules_of H.digest_of script.now) w
+        (rows ++ (number, line_of line.now) ∷ [])
+        (pool.now ++ entry ∷ []) places.new faulty.now) }
+    ensures gives { (w : RulesWorld) (rows : List (ℕ × Line))
+        → HavePlayed (rules_of H.digest_of script.now) w rows pool.now places.old faulty.now
+        → IfOk result
+        (λ entry. entry ≡ entry_of (rules_of H.digest_of script.now)
+        (run (rules_of H.digest_of script.now) w (lines_of rows)) number (line_of line.now)) }
     ensures sound { IfOk result (λ _. AreSound (rules_of H.digest_of script.now) 0 places.new) }
-    ensures err { (w : RulesWorld) (rows : List (ℕ × Line)) → Begin (rules_of H.digest_of script.now) w (lines_of rows ++ line_of line.now ∷ []) → HavePlayed (rules_of H.digest_of script.now) w rows pool.now places.old faulty.now
-        → IfErr result (λ e. IsStopped (rules_of H.digest_of script.now) w (lines_of rows ++ line_of line.now ∷ []) e) }
+    ensures err { (w : RulesWorld) (rows : List (ℕ × Line))
+        → Begin (rules_of H.digest_of script.now) w (lines_of rows ++ line_of line.now ∷ [])
+        → HavePlayed (rules_of H.digest_of script.now) w rows pool.now places.old faulty.now
+        → IfErr result
+        (λ e. IsStopped (rules_of H.digest_of script.now) w
+        (lines_of rows ++ line_of line.now ∷ []) e) }
 {
     cluster_laws();
     let id = member_of(line) as usize;

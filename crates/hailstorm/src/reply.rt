@@ -9,8 +9,8 @@ use cw_base::{Items, NoMemory};
 use hail_script::RunError;
 use std::alloc::Global;
 
-/// What a lane's turn gave: the entry of its line, or none where no line was left; or why no further
-/// line is played.
+/// What a lane's turn gave: the entry of its line, or none where no line was left; or why no
+/// further line is played.
 pub(crate) type Reply = Result<Option<Entry>, RunError>;
 
 fn copy_sent(alloc: Global, sent: &[Sent]) -> Result<Items<Sent>, NoMemory>

@@ -1,15 +1,19 @@
 //! The cluster of a script with lanes: any lane may have the next turn.
 
-ghost use Rattle.std.specs.Prelude.{◌≡◌, ◌<◌, ◌≤◌, ◌⊎◌, ◌^◌, ◌++◌, ◌∷◌, [], ℕ, List, None, Some, flat_map, is_none, length, map, slice_get, take, true, IfOk, IfErr, IfSome, OnOk, vec_len};
+ghost use Rattle.std.specs.Prelude.{◌≡◌, ◌<◌, ◌≤◌, ◌⊎◌, ◌^◌, ◌++◌, ◌∷◌, [], ℕ, List, None, Some};
+ghost use Rattle.std.specs.Prelude.{flat_map, is_none, length, map, slice_get, take, true, IfOk};
+ghost use Rattle.std.specs.Prelude.{IfErr, IfSome, OnOk, vec_len};
 ghost use Rattle.cw_rules.specs.Report.{entry_of, opening_entries};
 ghost use Rattle.cw_rules.specs.Rules.{Rules};
 ghost use Rattle.cw_rules.specs.World.{Line, World as RulesWorld, run};
 ghost use Rattle.hail_script.specs.declared.error.RunError.TheVariants as cause;
 ghost use Rattle.hail_script.specs.Lanes.{Laned, laned_of, lanes as lanes_in, prefix, rows};
-ghost use Rattle.hailstorm.specs.Lanes.{IsLanesCause, IsLanesReport, lane_at, left, lines_of, played};
+ghost use Rattle.hailstorm.specs.Lanes.{IsLanesCause, IsLanesReport, lane_at, left, lines_of};
+ghost use Rattle.hailstorm.specs.Lanes.{played};
 ghost use Rattle.hailstorm.specs.Places.{AreMembers, AreSound, rules_of};
 ghost use Rattle.hailstorm.specs.Runs.{GoesBy, IsStopped, opened};
-ghost use Rattle.hailstorm.specs.Turns.{HasAdvanced, HavePlayed, IsBetween, IsOver, IsReportOf, IsTurnOf, told_order};
+ghost use Rattle.hailstorm.specs.Turns.{HasAdvanced, HavePlayed, IsBetween, IsOver, IsReportOf};
+ghost use Rattle.hailstorm.specs.Turns.{IsTurnOf, told_order};
 
 use crate::chain::chain_of;
 use crate::cursors::{cursor_at, cursors_of, first_left, number_of};
@@ -52,7 +56,8 @@ impl<H: Hasher<Digest = Digest32>> Model for Turning<H> {
 
     ghost view = { λ t. record { laned = t.script; order = t.order; stopped = t.stopped } };
 
-    ghost invariant = { λ t. IsTurning H.digest_of t.script t.order t.stopped t.opening t.cursors.items t.pool t.places.items t.faulty.items };
+    ghost invariant = { λ t. IsTurning H.digest_of t.script t.order t.stopped t.opening
+        t.cursors.items t.pool t.places.items t.faulty.items };
 }
 
 impl<H: Hasher<Digest = Digest32>> Turning<H> {
@@ -64,7 +69,9 @@ impl<H: Hasher<Digest = Digest32>> Turning<H> {
         strategy: &S,
     ) -> Result<Turning<H>, RunError>
         ensures ok { IfOk result (λ t. t ≡ record { laned = script; order = []; stopped = None }) }
-        ensures err { IfErr result (λ e. IsStopped (rules_of H.digest_of script.script) (opened H.digest_of script.script) (lines_of (prefix script)) e) }
+        ensures err { IfErr result
+            (λ e. IsStopped (rules_of H.digest_of script.script) (opened H.digest_of script.script)
+            (lines_of (prefix script)) e) }
     {
         let plain = script.script();
         let count = plain.lines().len();
@@ -104,7 +111,8 @@ impl<H: Hasher<Digest = Digest32>> Turning<H> {
         strategy: &S,
     ) -> (Reply, Reply)
         ensures lawful { IsTurnOf H.digest_of self.old lane result.0 self.new }
-        ensures equal { ⟦<Result<Option<Entry>, RunError> as PartialEq>⟧.eq result.0 result.1 ≡ true }
+        ensures equal { ⟦<Result<Option<Entry>, RunError> as PartialEq>⟧.eq result.0 result.1
+            ≡ true }
     {
         let (first, second) = self.answer_twice(rt, alloc, lane, strategy);
         law_of_equality(&first);
@@ -160,8 +168,10 @@ impl<H: Hasher<Digest = Digest32>> Turning<H> {
 
     /// The first lane that has a line left, where lines are played yet.
     pub(crate) fn next_lane(&self) -> Option<u64>
-        ensures some { IfSome result (λ lane. (self.now.stopped ≡ None) × (0 < length (lane_at (left (lanes_in self.now.laned) self.now.order) lane))) }
-        ensures none { result ≡ None → self.now.stopped ≡ None → flat_map (λ lane. lane) (left (lanes_in self.now.laned) self.now.order) ≡ [] }
+        ensures some { IfSome result (λ lane. (self.now.stopped ≡ None)
+            × (0 < length (lane_at (left (lanes_in self.now.laned) self.now.order) lane))) }
+        ensures none { result ≡ None → self.now.stopped ≡ None
+            → flat_map (λ lane. lane) (left (lanes_in self.now.laned) self.now.order) ≡ [] }
     {
         let count = self.script.script().lines().len();
         if self.stopped.is_some() {
@@ -184,9 +194,12 @@ impl<H: Hasher<Digest = Digest32>> Turning<H> {
         self,
         alloc: Global,
     ) -> Result<(Items<u64>, Report<H>), (Items<u64>, RunError)>
-        requires { self.stopped ≡ None → flat_map (λ lane. lane) (left (lanes_in self.laned) self.order) ≡ [] }
-        ensures ok { (text : List ℕ) → laned_of text ≡ Ok self.laned → IfOk result (λ done. IsLanesReport H.digest_of text done.0 done.1) }
-        ensures err { (text : List ℕ) → laned_of text ≡ Ok self.laned → IfErr result (λ done. IsLanesCause H.digest_of text done.0 done.1) }
+        requires { self.stopped ≡ None
+            → flat_map (λ lane. lane) (left (lanes_in self.laned) self.order) ≡ [] }
+        ensures ok { (text : List ℕ) → laned_of text ≡ Ok self.laned
+            → IfOk result (λ done. IsLanesReport H.digest_of text done.0 done.1) }
+        ensures err { (text : List ℕ) → laned_of text ≡ Ok self.laned
+            → IfErr result (λ done. IsLanesCause H.digest_of text done.0 done.1) }
     {
         report_laws();
         clash_laws();
@@ -249,9 +262,14 @@ fn play_before<H: Hasher<Digest = Digest32>, R: Threads + Sync, S: Strategy>(
     requires flags { faulty.now ≡ map is_none (opened H.digest_of script.now.script).members }
     requires sound { AreSound (rules_of H.digest_of script.now.script) 0 places.old }
     requires count { length places.old ≡ script.now.script.committees.total }
-    ensures ok { IfOk result (λ pool. HavePlayed (rules_of H.digest_of script.now.script) (opened H.digest_of script.now.script) (take before (rows script.now)) pool places.new faulty.now) }
+    ensures ok { IfOk result
+        (λ pool. HavePlayed (rules_of H.digest_of script.now.script)
+        (opened H.digest_of script.now.script)
+        (take before (rows script.now)) pool places.new faulty.now) }
     ensures sound { OnOk result (AreSound (rules_of H.digest_of script.now.script) 0 places.new) }
-    ensures err { IfErr result (λ e. IsStopped (rules_of H.digest_of script.now.script) (opened H.digest_of script.now.script) (lines_of (take before (rows script.now))) e) }
+    ensures err { IfErr result
+        (λ e. IsStopped (rules_of H.digest_of script.now.script)
+        (opened H.digest_of script.now.script) (lines_of (take before (rows script.now))) e) }
 {
     let plain = script.script();
     plain.is_cluster();
@@ -297,8 +315,11 @@ fn advance<H: Hasher<Digest = Digest32>, R: Threads + Sync, S: Strategy>(
     requires known { lane < length cursors.old }
     requires some { from < end }
     requires within { from < length script.now.script.lines }
-    requires between { IsBetween H.digest_of script.now order.old cursors.old pool.old places.old faulty.now }
-    ensures ok { IfOk result (λ r. HasAdvanced H.digest_of script.now order.old lane r.0 × IsBetween H.digest_of script.now (order.old ++ lane ∷ []) cursors.new pool.new places.new faulty.now) }
+    requires between { IsBetween H.digest_of script.now order.old cursors.old pool.old places.old
+        faulty.now }
+    ensures ok { IfOk result (λ r. HasAdvanced H.digest_of script.now order.old lane r.0
+        × IsBetween H.digest_of script.now
+        (order.old ++ lane ∷ []) cursors.new pool.new places.new faulty.now) }
     ensures order { OnOk result (order.new ≡ order.old ++ lane ∷ []) }
     ensures twice { IfOk result (λ r. r.0 ≡ r.1) }
     ensures err { IfErr result (λ e. IsOver H.digest_of script.now order.new e) }
@@ -338,7 +359,8 @@ fn report_of<H: Hasher<Digest = Digest32>>(
     pool: Pool,
 ) -> Result<Report<H>, NoMemory>
     requires { length places.items < 2 ^ 16 }
-    ensures { (r : Rules) (w : RulesWorld) → GoesBy H.digest_of r → AreSound r 0 places.items → AreMembers places.items w.members
+    ensures { (r : Rules) (w : RulesWorld) → GoesBy H.digest_of r → AreSound r 0 places.items
+        → AreMembers places.items w.members
         → IfOk result (λ report. IsReportOf r w opening pool report) }
 {
     let steps = pool.into_entries();
