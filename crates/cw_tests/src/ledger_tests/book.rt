@@ -39,8 +39,6 @@ pub(crate) struct Book {
 }
 
 impl Model for Book {
-    ghost use Rattle.std.specs.Prelude.{Unit, tt};
-
     ghost Value = { Unit {0} };
 
     ghost view = { λ _. tt };

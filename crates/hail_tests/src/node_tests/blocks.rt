@@ -35,8 +35,6 @@ pub(crate) struct Scene {
 }
 
 impl Model for Scene {
-    ghost use Rattle.std.specs.Prelude.{Unit, tt};
-
     ghost Value = { Unit {0} };
 
     ghost view = { λ _. tt };

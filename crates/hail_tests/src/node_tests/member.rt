@@ -23,8 +23,6 @@ pub(crate) struct Member {
 }
 
 impl Model for Member {
-    ghost use Rattle.std.specs.Prelude.{Unit, tt};
-
     ghost Value = { Unit {0} };
 
     ghost view = { λ _. tt };
