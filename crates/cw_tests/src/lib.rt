@@ -10,6 +10,10 @@ mod disk_tests;
 #[cfg(test)]
 mod gate;
 #[cfg(test)]
+mod ledger_tests;
+#[cfg(test)]
+mod light_tests;
+#[cfg(test)]
 mod shards_tests;
 #[cfg(test)]
 mod types_tests;

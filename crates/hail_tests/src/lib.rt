@@ -8,3 +8,7 @@ mod damage_tests;
 mod disks;
 #[cfg(test)]
 mod marshal_tests;
+#[cfg(test)]
+mod node_tests;
+#[cfg(test)]
+mod seat_tests;
