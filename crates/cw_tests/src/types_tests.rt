@@ -91,8 +91,8 @@ fn nullify(epoch: u64, view: u64) -> Vote {
 fn a_block_is_written_in_its_bytes(rt: HostRuntime) -> Result<(), Fail> {
     let mut out = Vec::new(rt.alloc());
     first_block(rt.alloc())?.write(&mut out)?;
-    // epoch, view, leader and the parent's view; the parent's commitment; its digest; the height, the
-    // number of the payload's bytes, and the payload
+    // epoch, view, leader and the parent's view; the parent's commitment; its digest; the height,
+    // the number of the payload's bytes, and the payload
     let mut want = Vec::new(rt.alloc());
     want.extend_from_slice(&[0, 0, 0, 0, 0, 0, 0, 0, 0, 0, 0, 0, 0, 0, 0, 1, 0, 1])?;
     want.extend_from_slice(&[0; 8])?;

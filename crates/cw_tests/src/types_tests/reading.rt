@@ -179,7 +179,8 @@ fn cuts_are_refused(alloc: Global, format: Format, bytes: &[u8]) -> bool {
     true
 }
 
-// whether these bytes, one of them changed, are refused; where they aren't, they are written as read
+// whether these bytes, one of them changed, are refused; where they aren't, they are written as
+// read
 fn is_refused(alloc: Global, format: Format, bytes: &[u8], place: usize) -> Result<bool, Fail> {
     let mut changed = bytes.to_vec(alloc)?;
     if let Some(byte) = changed.get_mut(place) {
@@ -219,10 +220,10 @@ fn is_told(
     )
 }
 
-// Each format: the front of the example and the part behind it, how many bytes it has, and where the
-// lowest bit of a byte can't be changed. A commitment ends in two numbers that aren't 0. Of a block the
-// length of the payload can't be 3, of a vote to notarize the tag can't be that to nullify, of a
-// certificate neither the tag can be that to notarize nor the count another.
+// Each format: the front of the example and the part behind it, how many bytes it has, and where
+// the lowest bit of a byte can't be changed. A commitment ends in two numbers that aren't 0. Of a
+// block the length of the payload can't be 3, of a vote to notarize the tag can't be that to
+// nullify, of a certificate neither the tag can be that to notarize nor the count another.
 const VALUES: [(Format, &[u8], Part, usize, &[usize]); 11] = [
     (Format::Commitment, &[], Part::Commitment, 100, &[97, 99]),
     (Format::Context, &[], Part::Context, 126, &[123, 125]),
@@ -270,9 +271,9 @@ fn values_are_read_whole_and_in_one_spelling(rt: HostRuntime) -> Result<(), Fail
     Ok(())
 }
 
-// The same of each note. The notes of a floor and of a prune differ in their tag alone, so it can be the
-// other's. An epoch behind a later tag can't be 0, and a proposal or a vote can't stand over a view that
-// isn't earlier, so none but the last byte of its parent's view can be changed.
+// The same of each note. The notes of a floor and of a prune differ in their tag alone, so it can
+// be the other's. An epoch behind a later tag can't be 0, and a proposal or a vote can't stand over
+// a view that isn't earlier, so none but the last byte of its parent's view can be changed.
 const NOTES: [(&[u8], Part, usize, &[usize]); 11] = [
     (&[0], Part::NotedBlock, 270, &[0, 98, 100, 224, 226, 267]),
     (
@@ -326,8 +327,8 @@ fn notes_are_read_whole_and_in_one_spelling(rt: HostRuntime) -> Result<(), Fail>
     Ok(())
 }
 
-// The same of each message: cut or changed at these places it is junk. A chunk is known by its length and
-// by its number of siblings; a vote may be ill-formed here.
+// The same of each message: cut or changed at these places it is junk. A chunk is known by its
+// length and by its number of siblings; a vote may be ill-formed here.
 const MESSAGES: [(&[u8], Part, usize, &[usize]); 6] = [
     (&[0], Part::Shard, 110, &[0, 98, 100, 101, 109]),
     (&[1, 0, 3], Part::Vote, 120, &[0, 3, 117, 119]),
