@@ -1,10 +1,8 @@
-//! Tests of a replica of the ledger: worked transfers, damaged disks, and a stop at each device call.
+//! Tests of a replica of the ledger: worked transfers, damaged disks, a stop at each device call.
 
 mod book;
 
-use book::LedgerCall::{
-    Balance, Bytes, Disarm, Empty, Height, Holdings, Pass, Restart, StopAt,
-};
+use book::LedgerCall::{Balance, Bytes, Disarm, Empty, Height, Holdings, Pass, Restart, StopAt};
 use book::{Book, LedgerCall, transfer};
 use cw_ledger::{Replica, transfers_of};
 use node_disk::{Disk, MemoryDisk, StoreError};
@@ -166,8 +164,11 @@ fn found(alloc: Global, frames: &[&[u8]]) -> Result<Result<Option<u64>, StoreErr
 }
 
 const SHORT: &[u8] = &[0; 7];
+
 const ZERO: &[u8] = &[0; 8];
+
 const ONE: &[u8] = &[0, 0, 0, 0, 0, 0, 0, 1, 9];
+
 const TWO: &[u8] = &[0, 0, 0, 0, 0, 0, 0, 2];
 
 #[test]

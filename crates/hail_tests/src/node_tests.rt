@@ -1,4 +1,4 @@
-//! Tests of a member alone: what it answers to each event, by a table of the votes that were signed.
+//! Tests of a member alone: what it answers to each event, by a table of votes that were signed.
 
 mod blocks;
 mod calls;
@@ -112,7 +112,10 @@ fn a_start_sends_again_what_the_last_whole_step_sent(rt: HostRuntime) -> Result<
     let alloc = rt.alloc();
     let scene = one_epoch(&rt, alloc)?;
     for table in [CUT_AWAY, CUT_BEHIND] {
-        assert_eq!(rt; first_wrong(&rt, alloc, &scene, 2, &THIRD[..5], table)?, None);
+        assert_eq!(rt;
+            first_wrong(&rt, alloc, &scene, 2, &THIRD[..5], table)?,
+            None
+        );
     }
     Ok(())
 }
@@ -291,15 +294,9 @@ const PROPOSED_AGAIN: Table = &[
     (Notes, "9"),
 ];
 
-const VOTED_AGAIN_BY_0: Table = &[(
-    Notarize(2, 1, 2),
-    "all vote 0 notarize 1 in 0/2 over 1",
-)];
+const VOTED_AGAIN_BY_0: Table = &[(Notarize(2, 1, 2), "all vote 0 notarize 1 in 0/2 over 1")];
 
-const VOTED_AGAIN_BY_1: Table = &[(
-    Notarize(2, 1, 2),
-    "all vote 1 notarize 1 in 0/2 over 1",
-)];
+const VOTED_AGAIN_BY_1: Table = &[(Notarize(2, 1, 2), "all vote 1 notarize 1 in 0/2 over 1")];
 
 #[test]
 fn the_last_block_of_an_epoch_is_proposed_again(rt: HostRuntime) -> Result<(), Fail> {
@@ -358,6 +355,9 @@ fn the_next_epoch_has_a_leader_of_its_own(rt: HostRuntime) -> Result<(), Fail> {
     let alloc = rt.alloc();
     let scene = two_epochs(&rt, alloc)?;
     let before = &THIRD[..5];
-    assert_eq!(rt; first_wrong(&rt, alloc, &scene, 2, before, NEXT_EPOCH)?, None);
+    assert_eq!(rt;
+        first_wrong(&rt, alloc, &scene, 2, before, NEXT_EPOCH)?,
+        None
+    );
     Ok(())
 }

@@ -86,9 +86,10 @@ impl Member {
         call: NodeCall,
     ) -> Result<Result<StepOut, NodeError>, Fail> {
         let event = event_of(alloc, scene, call)?;
-        Ok(self
-            .node
-            .step(rt, alloc, &event, scene.signed(), &Sequential))
+        Ok(
+            self.node
+                .step(rt, alloc, &event, scene.signed(), &Sequential),
+        )
     }
 
     // The text of what it answers to an event.

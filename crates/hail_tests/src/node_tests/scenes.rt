@@ -18,8 +18,8 @@ pub(crate) fn short_epochs<R: Threads + Sync>(rt: &R, alloc: Global) -> Result<S
     of_two_blocks(rt, alloc, Committees::new(alloc, 4, 1, &lists)?, (0, 2, 2))
 }
 
-/// Epochs of one height each, the first of members 0 to 3, the others of members 1 to 4, and a block
-/// of each of the first two. Member 2 leads the first view of the second.
+/// Epochs of one height each, the first of members 0 to 3, the others of members 1 to 4, and a
+/// block of each of the first two. Member 2 leads the first view of the second.
 pub(crate) fn two_epochs<R: Threads + Sync>(rt: &R, alloc: Global) -> Result<Scene, Fail> {
     let mut lists = Vec::new(alloc);
     lists.push([0u16, 1, 2, 3].to_vec(alloc)?)?;
