@@ -49,31 +49,131 @@ fn first_of_four<R: Threads + Sync>(rt: &R, alloc: Global) -> Result<Sitting, Fa
     }
 }
 
-// What came of a session in which genesis was acknowledged: the place that was answered, whether a
-// close was refused while a mailbox wasn't joined, how many entries there are, whether the first is
-// the own call, and the height that was acknowledged last.
+type Reply = Result<StepOut, NodeError>;
+
+// What came of a session in which genesis was acknowledged: the place that was answered, how many
+// entries there are, whether the first is the own call, and the height that was acknowledged last.
 #[derive(Debug, Drop, PartialEq)]
 struct Outcome {
     place: u64,
-    was_open: bool,
     entries: usize,
     is_own: bool,
     processed: Option<u64>,
 }
 
-// The own call at place 0, copied: its event and its reply.
+fn reply_of(alloc: Global, reply: &Reply) -> Result<Reply, Fail> {
+    match reply {
+        Ok(out) => Ok(Ok(out.copy(alloc)?)),
+        Err(error) => Ok(Err(*error)),
+    }
+}
+
+// The first own call, copied: its place, its event and its reply.
 fn first_call<L: Session<Sitting>>(
     alloc: Global,
     mailbox: &Mailbox<Sitting, L>,
-) -> Result<(u64, Event, Result<StepOut, NodeError>), Fail> {
-    let Some(call) = mailbox.own().first() else {
-        return Err("an own call".into());
-    };
-    let reply = match &call.reply {
-        Ok(out) => Ok(out.copy(alloc)?),
-        Err(error) => Err(*error),
-    };
-    Ok((call.place, call.event.copy(alloc)?, reply))
+) -> Result<(u64, Event, Reply), Fail> {
+    match mailbox.own().first() {
+        Some(call) => Ok((
+            call.place,
+            call.event.copy(alloc)?,
+            reply_of(alloc, &call.reply)?,
+        )),
+        None => Err("an own call".into()),
+    }
+}
+
+// Two mailboxes of a session over the seat.
+fn two_mailboxes<L: Session<Sitting>>(
+    alloc: Global,
+    blank: Blank,
+    seat: Sitting,
+) -> Result<(Mailbox<Sitting, L>, Mailbox<Sitting, L>), Fail>
+    requires name { blank.name ≡ L.name }
+    requires blank { blank.parts ≡ L.parts }
+    requires agreed { L.all ≡ L.parts }
+    requires parts { L.all ≡ 2 }
+    requires opening { L.opening ≡ Some seat }
+{
+    let mut mailbox: Mailbox<Sitting, L> = Mailbox::new(2, alloc, blank, seat)?;
+    let other = mailbox.split(alloc)?;
+    Ok((mailbox, other))
+}
+
+// The mailbox, whose close is refused since another isn't joined.
+fn refused_open<L: Session<Sitting>, R: Threads + Wait + Sync>(
+    rt: &R,
+    mailbox: Mailbox<Sitting, L>,
+) -> Result<Mailbox<Sitting, L>, Fail> {
+    match mailbox.close(rt) {
+        Err(CloseError::Open(mailbox)) => Ok(mailbox),
+        _ => Err("a close with a mailbox left out".into()),
+    }
+}
+
+fn joined<L: Session<Sitting>>(
+    alloc: Global,
+    mut mailbox: Mailbox<Sitting, L>,
+    other: Mailbox<Sitting, L>,
+) -> Result<Mailbox<Sitting, L>, Fail> {
+    match mailbox.join(alloc, other) {
+        Ok(()) => Ok(mailbox),
+        Err(_) => Err(NoMemory.into()),
+    }
+}
+
+// What a close with all mailboxes gives.
+fn closed<L: Session<Sitting>, R: Threads + Wait + Sync>(
+    rt: &R,
+    mailbox: Mailbox<Sitting, L>,
+) -> Result<(Sitting, Vec<(Event, Reply)>), Fail> {
+    match mailbox.close(rt) {
+        Ok(closed) => Ok(closed),
+        Err(_) => Err("a close with all mailboxes".into()),
+    }
+}
+
+// Whether the first entry of a history is that call, at place 0, and wasn't refused.
+fn is_first(history: &[(Event, Reply)], (place, event, reply): &(u64, Event, Reply)) -> bool {
+    match history.first() {
+        Some(entry) => *place == 0 && entry.0 == *event && entry.1 == *reply && reply.is_ok(),
+        None => false,
+    }
+}
+
+fn processed(seat: &Sitting) -> Option<u64> {
+    match seat.node().marshal().get_processed() {
+        Some(height) => Some(height.get()),
+        None => None,
+    }
+}
+
+// The acknowledgement of genesis in the first of two mailboxes; its place, and the call.
+fn stepped<L: Session<Sitting>, R: Threads + Wait + Sync>(
+    rt: &R,
+    alloc: Global,
+    mailbox: &mut Mailbox<Sitting, L>,
+) -> Result<(u64, (u64, Event, Reply)), Fail> {
+    let place = step_seat(rt, alloc, mailbox, Event::Ack)?;
+    Ok((place, first_call(alloc, mailbox)?))
+}
+
+fn played<L: Session<Sitting>, R: Threads + Wait + Sync>(
+    rt: &R,
+    alloc: Global,
+    mut mailbox: Mailbox<Sitting, L>,
+    other: Mailbox<Sitting, L>,
+) -> Result<Outcome, Fail> {
+    let (place, call) = stepped(rt, alloc, &mut mailbox)?;
+    let mailbox = refused_open(rt, mailbox)?;
+    let mailbox = joined(alloc, mailbox, other)?;
+    let (seat, history) = closed(rt, mailbox)?;
+    Ok(Outcome {
+        place,
+        entries: history.len(),
+        is_own: is_first(&history, &call),
+        processed: processed(&seat),
+    })
 }
 
 fn acknowledged<L: Session<Sitting>, R: Threads + Wait + Sync>(
@@ -88,35 +188,8 @@ fn acknowledged<L: Session<Sitting>, R: Threads + Wait + Sync>(
     requires parts { L.all ≡ 2 }
     requires opening { L.opening ≡ Some seat }
 {
-    let mut mailbox: Mailbox<Sitting, L> = Mailbox::new(2, alloc, blank, seat)?;
-    let other = mailbox.split(alloc)?;
-    let place = step_seat(rt, alloc, &mut mailbox, Event::Ack)?;
-    let (own_place, event, reply) = first_call(alloc, &mailbox)?;
-    let (mut mailbox, was_open) = match mailbox.close(rt) {
-        Err(CloseError::Open(mailbox)) => (mailbox, true),
-        _ => return Err("a close with a mailbox left out".into()),
-    };
-    if mailbox.join(alloc, other).is_err() {
-        return Err(NoMemory.into());
-    }
-    let Ok((seat, history)) = mailbox.close(rt) else {
-        return Err("a close with all mailboxes".into());
-    };
-    let is_own = match history.first() {
-        Some(entry) => own_place == 0 && entry.0 == event && entry.1 == reply && reply.is_ok(),
-        None => false,
-    };
-    Ok(Outcome {
-        place,
-        was_open,
-        entries: history.len(),
-        is_own,
-        processed: seat
-            .node()
-            .marshal()
-            .get_processed()
-            .map(|height| height.get()),
-    })
+    let (mailbox, other) = two_mailboxes::<L>(alloc, blank, seat)?;
+    played(rt, alloc, mailbox, other)
 }
 
 fn session<R: Threads + Wait + Sync>(
@@ -132,7 +205,6 @@ fn genesis_is_acknowledged_in_a_mailbox(rt: HostRuntime) -> Result<(), Fail> {
     let seat = first_of_four(&rt, rt.alloc())?;
     let wanted = Outcome {
         place: 0,
-        was_open: true,
         entries: 1,
         is_own: true,
         processed: Some(0),
