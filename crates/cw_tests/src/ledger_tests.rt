@@ -1,4 +1,5 @@
-//! Tests of a replica of the ledger: worked transfers, damaged disks, a stop at each device call.
+//! Tests of a replica of the ledger: worked transfers, damaged disks, and a stop at each device
+//! call.
 
 mod book;
 
