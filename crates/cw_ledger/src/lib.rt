@@ -13,6 +13,3 @@ mod transfer;
 pub use balances::Holding;
 pub use replica::{Applied, Replica};
 pub use transfer::{Transfer, transfers_of};
-
-#[cfg(test)]
-mod tests;
