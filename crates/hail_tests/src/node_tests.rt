@@ -1,5 +1,4 @@
-//! Tests of a member alone: what it answers to each event, by a table of the votes that were
-//! signed.
+//! Tests of a member alone: what it answers to each event, by a table of votes that were signed.
 
 mod blocks;
 mod calls;

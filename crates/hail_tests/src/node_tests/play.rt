@@ -119,6 +119,24 @@ fn twice<R: Threads + Sync>(
     Ok((member, is_same))
 }
 
+// The first event of a table at which the member does something else where each comes twice.
+fn changed_at<R: Threads + Sync>(
+    rt: &R,
+    alloc: Global,
+    scene: &Scene,
+    mut member: Member,
+    table: &[(NodeCall, &str)],
+) -> Result<(Member, Option<usize>), Fail> {
+    for (place, (call, want)) in table.iter().enumerate() {
+        let (next, is_same) = twice(rt, alloc, scene, member, *call, want)?;
+        member = next;
+        if !is_same {
+            return Ok((member, Some(place)));
+        }
+    }
+    Ok((member, None))
+}
+
 /// The place of the first event of a table at which a new member does something else where each
 /// comes twice; none where it never does.
 pub(crate) fn first_changed<R: Threads + Sync>(
@@ -128,13 +146,7 @@ pub(crate) fn first_changed<R: Threads + Sync>(
     id: u16,
     table: &[(NodeCall, &str)],
 ) -> Result<Option<usize>, Fail> {
-    let mut member = Member::new(rt, alloc, scene, id)?;
-    for (place, (call, want)) in table.iter().enumerate() {
-        let (next, is_same) = twice(rt, alloc, scene, member, *call, want)?;
-        member = next;
-        if !is_same {
-            return Ok(Some(place));
-        }
-    }
-    Ok(None)
+    let member = Member::new(rt, alloc, scene, id)?;
+    let (_, place) = changed_at(rt, alloc, scene, member, table)?;
+    Ok(place)
 }

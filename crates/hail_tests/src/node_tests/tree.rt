@@ -11,6 +11,7 @@ use cw_types::{AcceptAll, Commitment, Committees, Event, Message};
 use node::Node;
 use node_disk::MemoryDisk;
 use std::alloc::Global;
+use std::marker::Model;
 use std::num::NonZeroU16;
 use std::test::Fail;
 use std::thread::Threads;
@@ -73,29 +74,55 @@ fn all_coming(alloc: Global, rows: &[u16]) -> Result<Vec<Event>, Fail> {
     Ok(events)
 }
 
-type ShaNode = Node<Sha256, MemoryDisk, AcceptAll>;
+/// Member 0 of four. What contracts see of it says nothing.
+#[derive(Drop)]
+struct First {
+    node: Node<Sha256, MemoryDisk, AcceptAll>,
+}
 
-// Member 0 of four on a new disk.
-fn first_of_four<R: Threads + Sync>(rt: &R, alloc: Global) -> Result<ShaNode, Fail> {
-    let disk = MemoryDisk::new(alloc, Vec::new(alloc));
-    match start(rt, alloc, 0, Committees::single(alloc, 4)?, disk)? {
-        Ok((node, _)) => Ok(node),
-        Err((_, error)) => Err(Fail::from(error)),
+impl Model for First {
+    ghost Value = { Unit {0} };
+
+    ghost view = { λ _. tt };
+}
+
+impl First {
+    // Started on a new disk.
+    fn new<R: Threads + Sync>(rt: &R, alloc: Global) -> Result<First, Fail> {
+        let disk = MemoryDisk::new(alloc, Vec::new(alloc));
+        match start(rt, alloc, 0, Committees::single(alloc, 4)?, disk)? {
+            Ok((node, _)) => Ok(First { node }),
+            Err((_, error)) => Err(Fail::from(error)),
+        }
+    }
+
+    // How many messages it sends at an event.
+    fn count_sent<R: Threads + Sync>(
+        &mut self,
+        rt: &R,
+        alloc: Global,
+        event: &Event,
+    ) -> Result<usize, Fail> {
+        let out = self.node.step(rt, alloc, event, &Nobody, &Sequential)?;
+        Ok(out.sent.len())
+    }
+
+    fn notes(&self) -> usize {
+        self.node.notes().len()
     }
 }
 
-// How many messages it sends.
-fn count_sent<R: Threads + Sync>(
+fn all_sent<R: Threads + Sync>(
     rt: &R,
     alloc: Global,
-    node: &mut ShaNode,
-    event: &Event,
-) -> Result<usize, Fail> {
-    Ok(
-        node.step(rt, alloc, event, &Nobody, &Sequential)?
-            .sent
-            .len(),
-    )
+    member: &mut First,
+    events: &[Event],
+) -> Result<Vec<usize>, Fail> {
+    let mut sent = Vec::new(alloc);
+    for event in events {
+        sent.push(member.count_sent(rt, alloc, event)?)?;
+    }
+    Ok(sent)
 }
 
 /// How many messages member 0 of four sends as each of these rows comes, and how many notes it has
@@ -106,10 +133,7 @@ pub(crate) fn sent_for_rows<R: Threads + Sync>(
     rows: &[u16],
 ) -> Result<(Vec<usize>, usize), Fail> {
     let events = all_coming(alloc, rows)?;
-    let mut node = first_of_four(rt, alloc)?;
-    let mut sent = Vec::new(alloc);
-    for event in &events {
-        sent.push(count_sent(rt, alloc, &mut node, event)?)?;
-    }
-    Ok((sent, node.notes().len()))
+    let mut member = First::new(rt, alloc)?;
+    let sent = all_sent(rt, alloc, &mut member, &events)?;
+    Ok((sent, member.notes()))
 }
