@@ -1,5 +1,6 @@
-//! Tables of runs. A line `== STATUS NAME` begins a run, lines of its script follow, then a line `--`
-//! and the text that is written. There `*` and two digits stand for the digest of that byte, 32 times.
+//! Tables of runs. A line `== STATUS NAME` begins a run, lines of its script follow, then a line
+//! `--` and the text that is written. There `*` and two digits stand for the digest of that byte,
+//! 32 times.
 
 use std::alloc::Global;
 use std::test::Fail;

@@ -51,8 +51,8 @@ fn empty_ones(ended: &Ended) -> Result<u64, Fail> {
     Ok(count)
 }
 
-// A script, lines by which a faulty member sends each message of its run in each form, and lines that
-// deliver these.
+// A script, lines by which a faulty member sends each message of its run in each form, and lines
+// that deliver these.
 fn fuzzed(alloc: Global, script: &str, ended: &Ended) -> Result<String, Fail> {
     let mut lines = String::from_str(alloc, script)?;
     for entry in ended.report()?.steps.as_slice() {
@@ -81,8 +81,8 @@ fn put_entry(alloc: Global, lines: &mut String, entry: &Entry) -> Result<(), Fai
     Ok(())
 }
 
-// A message with another tag, with another last byte, with a byte cut off, and with a byte added. None
-// is a message that a member takes.
+// A message with another tag, with another last byte, with a byte cut off, and with a byte added.
+// None is a message that a member takes.
 fn put_forms(alloc: Global, lines: &mut String, message: &Message) -> Result<(), Fail> {
     let mut bytes = Vec::new(alloc);
     message.write(&mut bytes)?;

@@ -1,5 +1,5 @@
-//! Tests of the program over text tables: worked runs, what is refused, what fails, and hostile use.
-//! There is nothing here but tests.
+//! Tests of the program over text tables: worked runs, what is refused, what fails, and hostile
+//! use. There is nothing here but tests.
 #![tactic(auto)]
 
 #[cfg(test)]

@@ -49,8 +49,8 @@ fn words_ask_for_a_storm_or_are_told_the_usage(rt: HostRuntime) -> Result<(), Fa
     Ok(())
 }
 
-// The header has twelve bytes: the pieces of 3 are read by calls 1 to 4, the one piece by call 1, and
-// the next call finds the end.
+// The header has twelve bytes: the pieces of 3 are read by calls 1 to 4, the one piece by call 1,
+// and the next call finds the end.
 #[test]
 fn a_source_that_fails_ends_the_run_with_nothing_written(rt: HostRuntime) -> Result<(), Fail> {
     let alloc = rt.alloc();

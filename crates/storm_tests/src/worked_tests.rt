@@ -16,7 +16,8 @@ fn runs_end_with_the_texts_of_the_tables(rt: HostRuntime) -> Result<(), Fail> {
     Ok(())
 }
 
-// The name of the first run of a table that ends otherwise, and what it wrote; empty where all end so.
+// The name of the first run of a table that ends otherwise, and what it wrote; empty where all end
+// so.
 fn first_wrong<R: Threads + Sync>(rt: &R, alloc: Global, table: &str) -> Result<String, Fail> {
     for case in cases(alloc, table)? {
         let ended = run(rt, alloc, case.script)?;
