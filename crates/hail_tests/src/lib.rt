@@ -10,5 +10,3 @@ mod disks;
 mod marshal_tests;
 #[cfg(test)]
 mod node_tests;
-#[cfg(test)]
-mod seat_tests;

@@ -4,7 +4,7 @@ ghost use Rattle.std.specs.Prelude.{◌≡◌, Some};
 
 use cw_base::{NoMemory, Sequential, SumHasher};
 use cw_types::{AcceptAll, Committees, Event, StepOut, Verifier, Vote};
-use node::mailbox::{CloseError, Mailbox, Session};
+use node::mailbox::{CloseError, Mailbox, Session, Turn};
 use node::{Node, NodeError, Seat, step_seat};
 use node_disk::MemoryDisk;
 use std::alloc::Global;
@@ -51,6 +51,9 @@ fn first_of_four<R: Threads + Sync>(rt: &R, alloc: Global) -> Result<Sitting, Fa
 
 type Reply = Result<StepOut, NodeError>;
 
+// The place, the event and the reply of a call.
+type Call = (u64, Event, Reply);
+
 // What came of a session in which genesis was acknowledged: the place that was answered, how many
 // entries there are, whether the first is the own call, and the height that was acknowledged last.
 #[derive(Debug, Drop, PartialEq)]
@@ -72,7 +75,7 @@ fn reply_of(alloc: Global, reply: &Reply) -> Result<Reply, Fail> {
 fn first_call<L: Session<Sitting>>(
     alloc: Global,
     mailbox: &Mailbox<Sitting, L>,
-) -> Result<(u64, Event, Reply), Fail> {
+) -> Result<Call, Fail> {
     match mailbox.own().first() {
         Some(call) => Ok((
             call.place,
@@ -83,39 +86,39 @@ fn first_call<L: Session<Sitting>>(
     }
 }
 
-// Two mailboxes of a session over the seat.
-fn two_mailboxes<L: Session<Sitting>>(
+// Two mailboxes of a session.
+fn two_mailboxes<T: Turn, L: Session<T>>(
     alloc: Global,
     blank: Blank,
-    seat: Sitting,
-) -> Result<(Mailbox<Sitting, L>, Mailbox<Sitting, L>), Fail>
+    state: T,
+) -> Result<(Mailbox<T, L>, Mailbox<T, L>), Fail>
     requires name { blank.name ≡ L.name }
     requires blank { blank.parts ≡ L.parts }
     requires agreed { L.all ≡ L.parts }
     requires parts { L.all ≡ 2 }
-    requires opening { L.opening ≡ Some seat }
+    requires opening { L.opening ≡ Some state }
 {
-    let mut mailbox: Mailbox<Sitting, L> = Mailbox::new(2, alloc, blank, seat)?;
+    let mut mailbox: Mailbox<T, L> = Mailbox::new(2, alloc, blank, state)?;
     let other = mailbox.split(alloc)?;
     Ok((mailbox, other))
 }
 
 // The mailbox, whose close is refused since another isn't joined.
-fn refused_open<L: Session<Sitting>, R: Threads + Wait + Sync>(
+fn refused_open<T: Turn, L: Session<T>, R: Wait>(
     rt: &R,
-    mailbox: Mailbox<Sitting, L>,
-) -> Result<Mailbox<Sitting, L>, Fail> {
+    mailbox: Mailbox<T, L>,
+) -> Result<Mailbox<T, L>, Fail> {
     match mailbox.close(rt) {
         Err(CloseError::Open(mailbox)) => Ok(mailbox),
         _ => Err("a close with a mailbox left out".into()),
     }
 }
 
-fn joined<L: Session<Sitting>>(
+fn joined<T: Turn, L: Session<T>>(
     alloc: Global,
-    mut mailbox: Mailbox<Sitting, L>,
-    other: Mailbox<Sitting, L>,
-) -> Result<Mailbox<Sitting, L>, Fail> {
+    mut mailbox: Mailbox<T, L>,
+    other: Mailbox<T, L>,
+) -> Result<Mailbox<T, L>, Fail> {
     match mailbox.join(alloc, other) {
         Ok(()) => Ok(mailbox),
         Err(_) => Err(NoMemory.into()),
@@ -123,18 +126,34 @@ fn joined<L: Session<Sitting>>(
 }
 
 // What a close with all mailboxes gives.
-fn closed<L: Session<Sitting>, R: Threads + Wait + Sync>(
+fn closed<T: Turn, L: Session<T>, R: Wait>(
     rt: &R,
-    mailbox: Mailbox<Sitting, L>,
-) -> Result<(Sitting, Vec<(Event, Reply)>), Fail> {
+    mailbox: Mailbox<T, L>,
+) -> Result<(T, Vec<(T::Event, T::Reply)>), Fail> {
     match mailbox.close(rt) {
         Ok(closed) => Ok(closed),
         Err(_) => Err("a close with all mailboxes".into()),
     }
 }
 
+// The end of a session of two mailboxes, whose close is refused before the second is joined: the
+// state and the history, and what was kept of it before.
+fn ended<T: Turn, L: Session<T>, R: Wait, K: Drop>(
+    rt: &R,
+    alloc: Global,
+    mailbox: Mailbox<T, L>,
+    other: Mailbox<T, L>,
+    kept: Result<K, Fail>,
+) -> Result<(T, Vec<(T::Event, T::Reply)>, K), Fail> {
+    let kept = kept?;
+    let mailbox = refused_open(rt, mailbox)?;
+    let mailbox = joined(alloc, mailbox, other)?;
+    let (state, history) = closed(rt, mailbox)?;
+    Ok((state, history, kept))
+}
+
 // Whether the first entry of a history is that call, at place 0, and wasn't refused.
-fn is_first(history: &[(Event, Reply)], (place, event, reply): &(u64, Event, Reply)) -> bool {
+fn is_first(history: &[(Event, Reply)], (place, event, reply): &Call) -> bool {
     match history.first() {
         Some(entry) => *place == 0 && entry.0 == *event && entry.1 == *reply && reply.is_ok(),
         None => false,
@@ -148,32 +167,26 @@ fn processed(seat: &Sitting) -> Option<u64> {
     }
 }
 
-// The acknowledgement of genesis in the first of two mailboxes; its place, and the call.
+// The acknowledgement of genesis in a mailbox: its place, and the call.
 fn stepped<L: Session<Sitting>, R: Threads + Wait + Sync>(
     rt: &R,
     alloc: Global,
     mailbox: &mut Mailbox<Sitting, L>,
-) -> Result<(u64, (u64, Event, Reply)), Fail> {
+) -> Result<(u64, Call), Fail> {
     let place = step_seat(rt, alloc, mailbox, Event::Ack)?;
     Ok((place, first_call(alloc, mailbox)?))
 }
 
-fn played<L: Session<Sitting>, R: Threads + Wait + Sync>(
-    rt: &R,
-    alloc: Global,
-    mut mailbox: Mailbox<Sitting, L>,
-    other: Mailbox<Sitting, L>,
-) -> Result<Outcome, Fail> {
-    let (place, call) = stepped(rt, alloc, &mut mailbox)?;
-    let mailbox = refused_open(rt, mailbox)?;
-    let mailbox = joined(alloc, mailbox, other)?;
-    let (seat, history) = closed(rt, mailbox)?;
-    Ok(Outcome {
-        place,
+type Ended = (Sitting, Vec<(Event, Reply)>, (u64, Call));
+
+// What came of it.
+fn told((seat, history, (place, call)): &Ended) -> Outcome {
+    Outcome {
+        place: *place,
         entries: history.len(),
-        is_own: is_first(&history, &call),
-        processed: processed(&seat),
-    })
+        is_own: is_first(history, call),
+        processed: processed(seat),
+    }
 }
 
 fn acknowledged<L: Session<Sitting>, R: Threads + Wait + Sync>(
@@ -181,15 +194,16 @@ fn acknowledged<L: Session<Sitting>, R: Threads + Wait + Sync>(
     alloc: Global,
     blank: Blank,
     seat: Sitting,
-) -> Result<Outcome, Fail>
+) -> Result<Ended, Fail>
     requires name { blank.name ≡ L.name }
     requires blank { blank.parts ≡ L.parts }
     requires agreed { L.all ≡ L.parts }
     requires parts { L.all ≡ 2 }
     requires opening { L.opening ≡ Some seat }
 {
-    let (mailbox, other) = two_mailboxes::<L>(alloc, blank, seat)?;
-    played(rt, alloc, mailbox, other)
+    let (mut mailbox, other) = two_mailboxes::<Sitting, L>(alloc, blank, seat)?;
+    let kept = stepped(rt, alloc, &mut mailbox);
+    ended(rt, alloc, mailbox, other, kept)
 }
 
 fn session<R: Threads + Wait + Sync>(
@@ -197,7 +211,8 @@ fn session<R: Threads + Wait + Sync>(
     alloc: Global,
     seat: Sitting,
 ) -> Result<Outcome, Fail> {
-    acknowledged::<Brand, R>(rt, alloc, Blank::new(2), seat)
+    let ended = acknowledged::<Brand, R>(rt, alloc, Blank::new(2), seat)?;
+    Ok(told(&ended))
 }
 
 #[test]
