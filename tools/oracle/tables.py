@@ -1,0 +1,39 @@
+#!/usr/bin/env python3
+"""Plays the scripts in the tables of storm_tests and compares how they end with what stands there.
+usage: tables.py"""
+import re
+import sys
+from pathlib import Path
+
+from coding import byte_sum
+from oracle import answer
+
+TABLES = Path(__file__).resolve().parents[2] / "crates/storm_tests/src/tables"
+
+
+def runs():
+    """The status, the name, the script and the text of each run, its digests written out."""
+    for path in sorted(TABLES.glob("*.rt")):
+        for table in re.findall(r'"(== [^"]*)"', path.read_text()):
+            for part in table.split("== ")[1:]:
+                head, rest = part.split("\n", 1)
+                status, name = head.split(" ", 1)
+                script, text = rest.split("--\n", 1)
+                long = re.sub(r"\*(..)", lambda digest: digest[1] * 32, text)
+                for stop in name.split(",") if "STOP" in script else [""]:
+                    yield int(status), name, script.replace("STOP", stop), long
+
+
+def main():
+    count, wrong = 0, 0
+    for status, name, script, text in runs():
+        count += 1
+        if answer(script.encode(), byte_sum)[:2] != (status, text):
+            wrong += 1
+            print("differs:", name)
+    print("%d runs, %d differ" % (count, wrong))
+    return 1 if wrong else 0
+
+
+if __name__ == "__main__":
+    sys.exit(main())
