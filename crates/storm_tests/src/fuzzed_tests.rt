@@ -1,0 +1,102 @@
+//! Tests of messages that are changed on their way, as a fuzzer would.
+
+use crate::cases::{cases, two};
+use crate::runs::run;
+use crate::tables::WORKED;
+use cw_base::SumHasher;
+use cw_types::Message;
+use hailstorm::{Entry, Report};
+use std::alloc::Global;
+use std::test::Fail;
+
+// How the run ends, changed messages or not.
+const END: &str = "live acked none notes 5
+member 1 live acked none notes 6
+member 2 live acked none notes 6
+chain 0 0202020202020202020202020202020202020202020202020202020202020202
+chain 1 d8d8d8d8d8d8d8d8d8d8d8d8d8d8d8d8d8d8d8d8d8d8d8d8d8d8d8d8d8d8d8d8
+done 352
+";
+
+// 17 messages come in four forms each, to four members each. Two of the run's own twelve lines do
+// nothing, and none of the deliveries does anything.
+#[test]
+fn changed_messages_change_nothing(rt: HostRuntime) -> Result<(), Fail> {
+    let alloc = rt.alloc();
+    let script = third_script(alloc)?;
+    let clean = run(&rt, alloc, &script)?;
+    let fuzzed = fuzzed(alloc, &script, clean.report()?)?;
+    let ended = run(&rt, alloc, &fuzzed)?;
+    assert_eq!(rt; empty_ones(ended.report()?.steps.as_slice()), 274);
+    let (_, end) = two(&ended.text, "member 0 ")?;
+    assert_eq!(rt; end, END);
+    Ok(())
+}
+
+// The script of the run in which a block is handed out.
+fn third_script(alloc: Global) -> Result<String, Fail> {
+    match cases(alloc, WORKED)?.get(2) {
+        Some(case) => Ok(String::from_str(alloc, case.script)?),
+        None => Err("a third run".into()),
+    }
+}
+
+// In how many entries nothing was sent or handed out.
+fn empty_ones(entries: &[Entry]) -> u64 {
+    let mut count = 0u64;
+    for entry in entries {
+        if entry.sent.is_empty() && entry.handed.is_empty() {
+            count = count.saturating_add(1);
+        }
+    }
+    count
+}
+
+// A script, lines by which a faulty member sends each message of its run in each form, and lines that
+// deliver these.
+fn fuzzed(alloc: Global, script: &str, report: &Report<SumHasher>) -> Result<String, Fail> {
+    let mut lines = String::from_str(alloc, script)?;
+    for entry in report.steps.as_slice() {
+        put_entry(alloc, &mut lines, entry)?;
+    }
+    for place in 0..272u64 {
+        let number = 17 + place / 4;
+        let member = place % 4;
+        put_line(&mut lines, &format!(in alloc; "deliver {number} {member}\n")?)?;
+    }
+    Ok(lines)
+}
+
+fn put_line(lines: &mut String, line: &str) -> Result<(), Fail> {
+    lines.push_str(line)?;
+    Ok(())
+}
+
+fn put_entry(alloc: Global, lines: &mut String, entry: &Entry) -> Result<(), Fail> {
+    for sent in entry.sent.as_slice() {
+        put_forms(alloc, lines, &sent.message)?;
+    }
+    Ok(())
+}
+
+// A message with another tag, with another last byte, with a byte cut off, and with a byte added. None
+// is a message that a member takes.
+fn put_forms(alloc: Global, lines: &mut String, message: &Message) -> Result<(), Fail> {
+    let mut bytes = Vec::new(alloc);
+    message.write(&mut bytes)?;
+    if let Some((tag, rest)) = bytes.split_first() {
+        put_raw(alloc, lines, &[*tag ^ 128], rest)?;
+    }
+    if let Some((last, front)) = bytes.split_last() {
+        put_raw(alloc, lines, front, &[*last ^ 4])?;
+        put_raw(alloc, lines, front, &[])?;
+    }
+    put_raw(alloc, lines, &bytes, &[0])
+}
+
+// The line by which a faulty member sends these bytes.
+fn put_raw(alloc: Global, lines: &mut String, front: &[u8], back: &[u8]) -> Result<(), Fail> {
+    let front = hex::encode(alloc, front)?;
+    let back = hex::encode(alloc, back)?;
+    put_line(lines, &format!(in alloc; "faulty 3 raw {front}{back}\n")?)
+}

@@ -1,0 +1,76 @@
+//! Runs of the program on a text in memory.
+
+use cw_base::{MemorySink, MemorySource, Sequential, SumHasher};
+use hailstorm::{Exit, Report, run_program};
+use std::alloc::Global;
+use std::test::Fail;
+use std::thread::Threads;
+
+/// How a run ended.
+#[derive(Drop)]
+pub(crate) struct Ended {
+    pub exit: Exit<Report<SumHasher>>,
+    /// What was written.
+    pub text: String,
+}
+
+impl Ended {
+    /// The exit status.
+    pub(crate) fn status(&self, alloc: Global) -> Result<String, Fail> {
+        Ok(format!(in alloc; "{}", self.exit.status())?)
+    }
+
+    /// The report of a run that is done.
+    pub(crate) fn report(&self) -> Result<&Report<SumHasher>, Fail> {
+        match &self.exit {
+            Exit::Done(report) => Ok(report),
+            _ => Err("a run that is done".into()),
+        }
+    }
+}
+
+/// Runs a script.
+pub(crate) fn run<R: Threads + Sync>(rt: &R, alloc: Global, script: &str) -> Result<Ended, Fail> {
+    let source = source_of(alloc, script)?;
+    run_from(rt, alloc, &[], source)
+}
+
+/// A source of that text.
+pub(crate) fn source_of(alloc: Global, text: &str) -> Result<MemorySource, Fail> {
+    let bytes = text.as_bytes().to_vec(alloc)?;
+    Ok(MemorySource::new(bytes, 4096, Vec::new(alloc)))
+}
+
+/// Runs the program on words and a source, over a sink that takes 65,536 bytes.
+pub(crate) fn run_from<R: Threads + Sync>(
+    rt: &R,
+    alloc: Global,
+    words: &[String],
+    source: MemorySource,
+) -> Result<Ended, Fail> {
+    let sink = MemorySink::new(alloc, 4096, Vec::new(alloc))?;
+    run_into(rt, alloc, words, source, sink)
+}
+
+/// Runs the program on words, a source and a sink.
+pub(crate) fn run_into<R: Threads + Sync>(
+    rt: &R,
+    alloc: Global,
+    words: &[String],
+    source: MemorySource,
+    sink: MemorySink,
+) -> Result<Ended, Fail> {
+    let mut source = source;
+    let mut sink = sink;
+    sink.reserve(65_536)?;
+    let exit = run_program::<SumHasher, R, MemorySource, MemorySink, Sequential>(
+        rt,
+        alloc,
+        words,
+        &mut source,
+        &mut sink,
+        &Sequential,
+    );
+    let text = String::from_utf8_lossy(alloc, sink.bytes())?;
+    Ok(Ended { exit, text })
+}

@@ -1,0 +1,60 @@
+//! Scripts that aren't run to their ends, and the line that says why.
+
+/// Refusals and a clash.
+pub(crate) const REFUSED: &str = "== 3 no line
+--
+error 1 Syntax 1
+== 3 a backlog of 0
+cluster 4 0
+--
+error 1 Syntax 1
+== 3 three members
+cluster 3 1
+--
+error 2 BadCommittee
+== 3 more members than their numbers
+cluster 65536 1
+--
+error 2 BadCommittee
+== 3 a member past the last
+cluster 4 3
+timeout 4 1
+--
+error 3 UnknownMember 2
+== 3 two faulty members of four
+cluster 4 3
+faulty 0 silent
+faulty 1 silent
+--
+error 4 TooManyFaulty
+== 3 a list of three
+epochs 4 3 1 1
+members 0 1 2
+--
+error 2 BadCommittee
+== 3 a list that doesn't rise
+epochs 4 3 1 1
+members 0 2 1 3
+--
+error 1 Syntax 2
+== 3 a list with a member past the last
+epochs 4 3 1 1
+members 0 1 2 4
+--
+error 3 UnknownMember 2
+== 3 a list that isn't there
+epochs 4 3 1 2
+members 0 1 2 3
+--
+error 1 Syntax 3
+== 4 two blocks of one digest
+cluster 4 3
+faulty 1 offer 1 0102
+faulty 1 offer 1 0201
+deliver 0 0
+deliver 1 0
+deliver 7 2
+deliver 6 2
+--
+error 6 HashClash 00000000000000000000000000000001000100000000000000000202020202020202020202020202020202020202020202020202020202020202020202020202020202020202020202020202020202020202020202020202020202020202020202020202020202020202020202020202020202020202020202020001000102020202020202020202020202020202020202020202020202020202020202020000000000000001020102 00000000000000000000000000000001000100000000000000000202020202020202020202020202020202020202020202020202020202020202020202020202020202020202020202020202020202020202020202020202020202020202020202020202020202020202020202020202020202020202020202020001000102020202020202020202020202020202020202020202020202020202020202020000000000000001020201
+";
