@@ -1,11 +1,10 @@
 //! Tests of messages that are changed on their way, as a fuzzer would.
 
 use crate::cases::{cases, two};
-use crate::runs::run;
+use crate::runs::{Ended, run};
 use crate::tables::WORKED;
-use cw_base::SumHasher;
 use cw_types::Message;
-use hailstorm::{Entry, Report};
+use hailstorm::Entry;
 use std::alloc::Global;
 use std::test::Fail;
 
@@ -25,9 +24,9 @@ fn changed_messages_change_nothing(rt: HostRuntime) -> Result<(), Fail> {
     let alloc = rt.alloc();
     let script = third_script(alloc)?;
     let clean = run(&rt, alloc, &script)?;
-    let fuzzed = fuzzed(alloc, &script, clean.report()?)?;
+    let fuzzed = fuzzed(alloc, &script, &clean)?;
     let ended = run(&rt, alloc, &fuzzed)?;
-    assert_eq!(rt; empty_ones(ended.report()?.steps.as_slice()), 274);
+    assert_eq!(rt; empty_ones(&ended)?, 274);
     let (_, end) = two(&ended.text, "member 0 ")?;
     assert_eq!(rt; end, END);
     Ok(())
@@ -42,27 +41,30 @@ fn third_script(alloc: Global) -> Result<String, Fail> {
 }
 
 // In how many entries nothing was sent or handed out.
-fn empty_ones(entries: &[Entry]) -> u64 {
+fn empty_ones(ended: &Ended) -> Result<u64, Fail> {
     let mut count = 0u64;
-    for entry in entries {
+    for entry in ended.report()?.steps.as_slice() {
         if entry.sent.is_empty() && entry.handed.is_empty() {
             count = count.saturating_add(1);
         }
     }
-    count
+    Ok(count)
 }
 
 // A script, lines by which a faulty member sends each message of its run in each form, and lines that
 // deliver these.
-fn fuzzed(alloc: Global, script: &str, report: &Report<SumHasher>) -> Result<String, Fail> {
+fn fuzzed(alloc: Global, script: &str, ended: &Ended) -> Result<String, Fail> {
     let mut lines = String::from_str(alloc, script)?;
-    for entry in report.steps.as_slice() {
+    for entry in ended.report()?.steps.as_slice() {
         put_entry(alloc, &mut lines, entry)?;
     }
     for place in 0..272u64 {
         let number = 17 + place / 4;
         let member = place % 4;
-        put_line(&mut lines, &format!(in alloc; "deliver {number} {member}\n")?)?;
+        put_line(
+            &mut lines,
+            &format!(in alloc; "deliver {number} {member}\n")?,
+        )?;
     }
     Ok(lines)
 }

@@ -27,6 +27,16 @@ impl Ended {
             _ => Err("a run that is done".into()),
         }
     }
+
+    /// The disk of member 0 as a line of hexadecimal digits.
+    pub(crate) fn first_disk(&self, alloc: Global) -> Result<String, Fail> {
+        let Some(disk) = self.report()?.disks.as_slice().first() else {
+            return Err("a disk of member 0".into());
+        };
+        let mut text = hex::encode(alloc, disk.as_slice())?;
+        text.push_str("\n")?;
+        Ok(text)
+    }
 }
 
 /// Runs a script.

@@ -10,24 +10,23 @@ use std::thread::Threads;
 #[test]
 fn runs_end_with_the_texts_of_the_tables(rt: HostRuntime) -> Result<(), Fail> {
     for table in [WORKED, BOUNDARY, REFUSED, REPEATED] {
-        assert_eq!(rt; first_wrong(&rt, rt.alloc(), table)?, None);
+        let wrong = first_wrong(&rt, rt.alloc(), table)?;
+        assert_eq!(rt; wrong.as_str(), "");
     }
     Ok(())
 }
 
-// The name of the first run of a table that ends otherwise, and what it wrote.
-fn first_wrong<'a, R: Threads + Sync>(
-    rt: &R,
-    alloc: Global,
-    table: &'a str,
-) -> Result<Option<(&'a str, String)>, Fail> {
+// The name of the first run of a table that ends otherwise, and what it wrote; empty where all end so.
+fn first_wrong<R: Threads + Sync>(rt: &R, alloc: Global, table: &str) -> Result<String, Fail> {
     for case in cases(alloc, table)? {
         let ended = run(rt, alloc, case.script)?;
         if ended.status(alloc)?.as_str() != case.status || ended.text != case.text {
-            return Ok(Some((case.name, ended.text)));
+            let name = case.name;
+            let text = ended.text;
+            return Ok(format!(in alloc; "{name}:\n{text}")?);
         }
     }
-    Ok(None)
+    Ok(String::new(alloc))
 }
 
 // Scripts, and the disk of member 0 after their runs.
@@ -48,13 +47,8 @@ fn disks_hold_what_was_written(rt: HostRuntime) -> Result<(), Fail> {
     let alloc = rt.alloc();
     for case in cases(alloc, DISKS)? {
         let ended = run(&rt, alloc, case.script)?;
-        let report = ended.report()?;
-        let Some(disk) = report.disks.as_slice().first() else {
-            return Err("a disk of member 0".into());
-        };
-        let mut text = hex::encode(alloc, disk.as_slice())?;
-        text.push_str("\n")?;
-        assert_eq!(rt; text, case.text, "at {}", case.name);
+        let disk = ended.first_disk(alloc)?;
+        assert_eq!(rt; disk, case.text, "at {}", case.name);
     }
     Ok(())
 }
