@@ -11,7 +11,7 @@ use Rattle.cw_coding.specs.Layout.{row_digests}
 use Rattle.cw_tree.specs.Tree.{root_of}
 use Rattle.cw_types.specs.Block.{Block}
 use Rattle.cw_types.specs.Encoding.{block_bytes, context_bytes}
-use Rattle.cw_types.specs.FormatLaws.{IsBlock}
+use Rattle.cw_types.specs.Values.{IsBlock}
 use Rattle.cw_types.specs.Reading.{block_in}
 use Rattle.cw_types.specs.Same.{same_commitment, same_digest}
 use Rattle.cw_types.specs.declared.commitment.Commitment.{Commitment}
