@@ -1,5 +1,5 @@
 -- Notes read back as they were written, and what is read is in its format.
-use Rattle.std.proofs.Common.{◌≡◌, ℕ, ◌-◌, ◌%◌, ◌^◌, ◌<◌, ◌&&◌, Bool, nat_lt, true, List, [], ◌∷◌}
+use Rattle.std.proofs.Common.{◌≡◌, ℕ, ◌%◌, ◌^◌, ◌<◌, true, List, [], ◌∷◌}
 use Rattle.std.proofs.Common.{◌++◌, length, Ok, Err, refl, sym, ap, subst, ◌∙◌, append_assoc, inl}
 use Rattle.std.proofs.Common.{inr}
 use Rattle.std.specs.List.{flat_map}

@@ -1,5 +1,5 @@
 -- Refusals of a part are refusals of the value that is made of it.
-use Rattle.std.proofs.Common.{◌≡◌, ℕ, List, Ok, Err, ap, refl}
+use Rattle.std.proofs.Common.{ℕ, List, Ok, Err, ap}
 use Rattle.cw_base.specs.declared.reader.CodecError.{CodecError}
 use Rattle.cw_base.specs.declared.reader.CodecError.TheVariants as codec
 use Rattle.cw_base.specs.Reading.{Reading, IsBehind, IsRefused}
