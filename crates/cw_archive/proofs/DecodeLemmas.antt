@@ -18,7 +18,7 @@ use Rattle.cw_coding.specs.Laws.{AnyEnoughDecode, IsChunkOf}
 use Rattle.cw_coding.specs.Totals.{total_of}
 use Rattle.cw_coding.specs.declared.error.ReedSolomonError.{ReedSolomonError}
 use Rattle.cw_coding.specs.declared.error.ReedSolomonError.TheVariants.{NoMemory}
-use Rattle.cw_tree.specs.WidthLaws.{product_fits}
+use Rattle.cw_tree.proofs.WidthLaws.{product_fits}
 use Rattle.cw_tree.specs.Widths.{shard_len}
 use Rattle.cw_types.specs.declared.commitment.Commitment.{Commitment}
 use Rattle.cw_rules.specs.Coding.{AreApart, AreByteChunks, AreBytes, IsCoder}

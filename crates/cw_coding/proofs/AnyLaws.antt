@@ -9,7 +9,7 @@ use Rattle.rs_code.specs.Indices.{AreSound}
 use Rattle.rs_code.specs.Rows.{joined, code_row, OriginalsComeFirst, RowsFixCodeword}
 use Rattle.cw_tree.specs.Chunks.{Piece}
 use Rattle.cw_tree.specs.Widths.{shard_len}
-use Rattle.cw_tree.specs.WidthLaws.{shard_len-even}
+use Rattle.cw_tree.proofs.WidthLaws.{shard_len-even}
 use Rattle.cw_coding.specs.declared.error.RsError.TheVariants.{InvalidShardSize}
 use Rattle.cw_coding.specs.declared.error.ReedSolomonError.{ReedSolomonError}
 use Rattle.cw_coding.specs.declared.error.ReedSolomonError.TheVariants.{ReedSolomon, Inconsistent, InvalidProof, NotEnoughChunks, DuplicateIndex, InvalidDataLength, InvalidIndex, TooManyTotalShards, CommitmentMismatch, NoMemory}

@@ -8,13 +8,15 @@ use Rattle.std.proofs.Math.Nat.{le-min}
 use Rattle.cw_base.specs.Rows.{listed, length-listed}
 use Rattle.cw_tree.specs.Chunks.{Piece}
 use Rattle.cw_tree.specs.Formats.{chunk_bytes, widest, piece_of_bytes}
-use Rattle.cw_tree.specs.FormatLaws.{AreDigests, FitsChunk}
+use Rattle.cw_tree.proofs.FormatLaws.{AreDigests}
+use Rattle.cw_tree.specs.Fits.{FitsChunk}
 use Rattle.cw_tree.specs.Sizes.{AreSized}
 use Rattle.cw_tree.proofs.Bounds.{chunk_bytes-le, sized_path}
 use Rattle.cw_tree.specs.Tree.{root_of, root_by, path_of}
-use Rattle.cw_tree.specs.TreeRoots.{IsHeight, root_by-path_of, path_of-le}
+use Rattle.cw_tree.specs.Sizes.{IsHeight}
+use Rattle.cw_tree.proofs.TreeRoots.{root_by-path_of, path_of-le}
 use Rattle.cw_tree.specs.Widths.{shard_len}
-use Rattle.cw_tree.specs.WidthLaws.{shard_len-even, shard_len-some, shard_len-mono}
+use Rattle.cw_tree.proofs.WidthLaws.{shard_len-even, shard_len-some, shard_len-mono}
 use Rattle.cw_coding.specs.Checking.{IsUnder}
 use Rattle.cw_coding.specs.Encoding.{IsEncoding, piece_of}
 use Rattle.cw_coding.specs.Layout.{row_at, row_digests}

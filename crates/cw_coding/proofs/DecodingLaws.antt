@@ -16,7 +16,7 @@ use Rattle.cw_coding.specs.Layout.{layout, row_at, row_digests}
 use Rattle.cw_tree.specs.Tree.{root_of}
 use Rattle.cw_coding.proofs.IndexLaws.{sound_push}
 use Rattle.cw_coding.specs.Decoding.{FitTogether, indices_of, Fits}
-use Rattle.cw_tree.specs.WidthLaws.{shard_len-covers, shard_len-even, shard_len-some}
+use Rattle.cw_tree.proofs.WidthLaws.{shard_len-covers, shard_len-even, shard_len-some}
 use Rattle.cw_coding.proofs.LayoutLaws.{length-layout, row_of-text, length-row_at, bytes_layout, text_hashes}
 
 All-one : {X : Type 0} (P : X → Type 0) (x : X) → P x → All P (x ∷ [])

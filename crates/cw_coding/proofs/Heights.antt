@@ -2,7 +2,7 @@
 use Rattle.std.proofs.Common.{◌≡◌, ℕ, zero, suc, ◌+◌, ◌*◌, ◌^◌, ◌<◌, ◌≤◌, arith, ap, ◌∙◌, inl, inr, subst}
 use Rattle.std.proofs.Math.Nat.{pow-suc}
 use Rattle.std.proofs.lemmas.Bool.{cases_lt}
-use Rattle.cw_tree.specs.TreeRoots.{IsHeight}
+use Rattle.cw_tree.specs.Sizes.{IsHeight}
 
 -- so many levels, with room for this many leaves, are too few
 pub record Rises (leaves room height : ℕ) : Type 0 where

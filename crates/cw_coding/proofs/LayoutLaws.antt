@@ -8,7 +8,7 @@ use Rattle.rs_code.specs.Rows.{joined, row_of, code_row, AreRows, OriginalsComeF
 use Rattle.cw_coding.proofs.Joined.{joined_none, joined_more, length-joined, length-symbol_bytes}
 use Rattle.cw_base.specs.Rows.{listed, listed_same, length-listed, row_hashes}
 use Rattle.cw_tree.specs.Widths.{shard_len}
-use Rattle.cw_tree.specs.WidthLaws.{shard_len-even, shard_len-covers, shard_len-some}
+use Rattle.cw_tree.proofs.WidthLaws.{shard_len-even, shard_len-covers, shard_len-some}
 use Rattle.cw_coding.specs.Layout.{layout, row_at, row_digests}
 
 pub length-be32 : (n : ℕ) → length (be32 n) ≡ 4

@@ -4,8 +4,8 @@ use Rattle.cw_base.specs.Counts.{Counts}
 use Rattle.rs_code.specs.Indices.{AreSound}
 use Rattle.cw_tree.specs.Chunks.{Piece}
 use Rattle.cw_tree.specs.Formats.{chunk_bytes, chunk_at, widest, piece_of_bytes}
-use Rattle.cw_tree.specs.FormatLaws.{FitsChunk}
-use Rattle.cw_tree.specs.TreeRoots.{IsHeight}
+use Rattle.cw_tree.specs.Fits.{FitsChunk}
+use Rattle.cw_tree.specs.Sizes.{IsHeight}
 use Rattle.cw_tree.specs.Widths.{shard_len}
 use Rattle.cw_coding.specs.declared.error.ReedSolomonError.{ReedSolomonError}
 use Rattle.cw_coding.specs.declared.error.ReedSolomonError.TheVariants.{NoMemory}

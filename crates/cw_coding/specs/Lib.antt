@@ -1,6 +1,7 @@
 pub use Rattle.cw_tree.specs.Chunks
 pub use Rattle.cw_tree.specs.Tree
-pub use Rattle.cw_tree.specs.TreeRoots
+pub use Rattle.cw_tree.specs.Fits
+pub use Rattle.cw_tree.specs.Sizes
 pub use Rattle.cw_tree.specs.Formats
 pub use Rattle.cw_tree.specs.Widths
 pub mod Layout

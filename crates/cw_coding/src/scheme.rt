@@ -3,7 +3,7 @@
 ghost use Rattle.std.specs.Prelude.{◌≡◌, ◌⊎◌, ℕ, ◌+◌, ◌*◌, ◌^◌, ◌<◌, List, length, map, IfOk};
 ghost use Rattle.std.specs.Prelude.{IfErr};
 ghost use Rattle.std.specs.Iterator.{IsFinite, Drains};
-ghost use Rattle.cw_tree.specs.TreeRoots.{IsHeight};
+ghost use Rattle.cw_tree.specs.Sizes.{IsHeight};
 ghost use Rattle.cw_tree.specs.Widths.{shard_len};
 ghost use Rattle.cw_coding.specs.Totals.{total_of};
 ghost use Rattle.cw_coding.specs.Encoding.{IsEncodable, IsEncodeRefusal, IsEncoding};

@@ -1,7 +1,7 @@
 //! How large encodings are.
 
 ghost use Rattle.std.specs.Prelude.{◌≡◌, ℕ, ◌+◌, ◌-◌, ◌*◌, ◌^◌, ◌<◌, ◌≤◌, ◌↔◌, IsTrue};
-ghost use Rattle.cw_tree.specs.TreeRoots.{IsHeight};
+ghost use Rattle.cw_tree.specs.Sizes.{IsHeight};
 ghost use Rattle.cw_tree.specs.Widths.{shard_len};
 ghost use Rattle.cw_coding.specs.Totals.{total_of};
 ghost use Rattle.cw_coding.specs.Encoding.{IsEncodable};

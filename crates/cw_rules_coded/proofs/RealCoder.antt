@@ -16,7 +16,7 @@ use Rattle.cw_base.specs.Counts.{Counts}
 use Rattle.rs_code.specs.Codeword.{ArePoints}
 use Rattle.rs_code.specs.Rows.{AreRows, OriginalsComeFirst, RowsFixCodeword, RowsHaveCodeword, code_row, joined, row_of, row_through, symbol_bytes}
 use Rattle.cw_tree.specs.Tree.{leaves_from, paired, path_of, root_by, root_of, rooted_some, top_within}
-use Rattle.cw_tree.specs.TreeRoots.{root_by-path_of}
+use Rattle.cw_tree.proofs.TreeRoots.{root_by-path_of}
 use Rattle.cw_tree.specs.Widths.{shard_len}
 use Rattle.cw_types.specs.Block.{Block}
 use Rattle.cw_types.specs.Commit.{empty_digest}

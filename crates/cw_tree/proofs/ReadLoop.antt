@@ -2,7 +2,6 @@
 use Rattle.std.proofs.Common.{◌≡◌, ℕ, suc, ◌-◌, ◌+◌, ◌≤◌, ◌<◌, List, [], ◌∷◌, ◌++◌, Ok, Err, refl, sym, ap, subst, ◌∙◌, append_assoc, arith}
 use Rattle.std.proofs.lemmas.List.{append-nil}
 use Rattle.cw_base.specs.declared.reader.CodecError.{CodecError}
-use Rattle.cw_base.specs.declared.reader.CodecError.TheVariants as codec
 use Rattle.cw_base.specs.Reading.{Reading, ◌>>=◌, IsRefused, bytes_at}
 use Rattle.cw_base.proofs.Behind.{refused_is, refused_made}
 use Rattle.cw_tree.specs.Formats.{digests_at}
@@ -43,12 +42,6 @@ pub refused_here : (size count i : ℕ) (bytes left : List ℕ) (e : CodecError)
 refused_here size count i bytes left e lt h =
     let k : count - i ≡ suc (count - (i + 1)) = omega arith in
     refused_is e left (digests_at size (count - i) bytes) (rw (k, h) refl)
-
--- all were skipped
-pub skipped : (size count i : ℕ) (bytes : List ℕ) → count ≤ i → IsRefused codec.NoMemory bytes (digests_at size (count - i) bytes)
-skipped size count i bytes le =
-    let k : count - i ≡ 0 = omega arith in
-    rw k refl
 
 -- what refuses those that are skipped refuses them all
 pub refused_all : (size : ℕ) (e : CodecError) (front : List (List ℕ)) (count i : ℕ) (bytes d after left : List ℕ) (total : Reading (List (List ℕ))) → i < count → bytes_at size bytes ≡ Ok (d, after)

@@ -1,7 +1,8 @@
 -- The tree, as it is built.
-use Rattle.std.proofs.Common.{◌≡◌, ℕ, suc, zero, ◌+◌, ◌/◌, ◌%◌, ◌<◌, ◌≤◌, List, [], ◌∷◌, ◌++◌, length, drop, take, get_or, Option, Some, None, refl, sym, ap, subst, ◌∙◌, arith, append_assoc}
+use Rattle.std.proofs.Common.{◌≡◌, ℕ, suc, zero, ◌+◌, ◌/◌, ◌<◌, ◌≤◌, List, [], ◌∷◌, ◌++◌, length, drop, get_or, Option, Some, refl, sym, ap, subst, ◌∙◌, arith, append_assoc}
 use Rattle.std.proofs.lemmas.List.{drop_more, drop_all, append-nil}
-use Rattle.cw_tree.specs.Tree.{AreLevels, leaf, above, rooted, leaves_from, paired, top_within, root_of, climb, alone, beside, path_within, path_of}
+use Rattle.cw_tree.specs.Tree.{AreLevels, leaf, rooted, leaves_from, paired, top_within, root_of, beside, path_within, path_of}
+use Rattle.cw_tree.proofs.TreeRoots.{length-paired, length-leaves, home}
 
 -- one more leaf
 pub leaves_more : {D : Type 0} (hash : List ℕ → D) (content : D → List ℕ) (ds : List D) (i : ℕ) (d : D) (before after whole : List D) →
@@ -12,37 +13,6 @@ leaves_more hash content ds i d before after whole h is so more =
     let split : drop i ds ≡ d ∷ drop (i + 1) ds = drop_more ds i d h ∙ ap (λ x. x ∷ drop (i + 1) ds) (sym is) in
     let all : before ++ leaf hash content i d ∷ leaves_from hash content (i + 1) (drop (i + 1) ds) ≡ whole = rw split at so in
     rw (more, append_assoc) all
-
--- one more pair
-pub pairs_more : {D : Type 0} (hash : List ℕ → D) (content : D → List ℕ) (xs : List D) (i : ℕ) (a b : D) (before after whole : List D) →
-    i + 1 < length xs → a ≡ get_or xs i a → b ≡ get_or xs (i + 1) b → before ++ paired hash content (drop i xs) ≡ whole →
-    after ≡ before ++ above hash content a b ∷ [] →
-    after ++ paired hash content (drop (i + 2) xs) ≡ whole
-pairs_more hash content xs i a b before after whole h isa isb so more =
-    let lower : i < length xs = omega arith in
-    let one : drop i xs ≡ a ∷ drop (i + 1) xs = drop_more xs i a lower ∙ ap (λ x. x ∷ drop (i + 1) xs) (sym isa) in
-    let two : drop (i + 1) xs ≡ b ∷ drop (i + 1 + 1) xs = drop_more xs (i + 1) b h ∙ ap (λ x. x ∷ drop (i + 1 + 1) xs) (sym isb) in
-    let step : i + 2 ≡ i + 1 + 1 = omega arith in
-    let all : before ++ above hash content a b ∷ paired hash content (drop (i + 1 + 1) xs) ≡ whole = rw (one, two) at so in
-    rw (more, append_assoc, step) all
-
--- the last node, with itself
-pub pairs_last : {D : Type 0} (hash : List ℕ → D) (content : D → List ℕ) (xs : List D) (i : ℕ) (a : D) (before after whole : List D) →
-    i < length xs → length xs ≤ i + 1 → a ≡ get_or xs i a → before ++ paired hash content (drop i xs) ≡ whole →
-    after ≡ before ++ above hash content a a ∷ [] →
-    after ++ paired hash content (drop (i + 1) xs) ≡ whole
-pairs_last hash content xs i a before after whole h last is so more =
-    let none : drop (i + 1) xs ≡ [] = drop_all (i + 1) xs last in
-    let one : drop i xs ≡ a ∷ drop (i + 1) xs = drop_more xs i a h ∙ ap (λ x. x ∷ drop (i + 1) xs) (sym is) in
-    let all : before ++ above hash content a a ∷ [] ≡ whole = rw (one, none) at so in
-    rw (more, none, append_assoc) all
-
--- a level has at most half as many nodes as the one below, rounded up
-pub length-paired : {D : Type 0} (hash : List ℕ → D) (content : D → List ℕ) (xs : List D) →
-    length (paired hash content xs) ≡ (length xs + 1) / 2
-length-paired hash content [] = refl
-length-paired hash content (a ∷ []) = refl
-length-paired hash content (a ∷ (b ∷ rest)) = let e = length-paired hash content rest in omega arith
 
 -- a level of several nodes leads to the top of the next
 pub record LeadsTo {D : Type 0} (hash : List ℕ → D) (content : D → List ℕ) (level : List D) (top : Option D) : Type 0 where
@@ -64,21 +34,6 @@ leads_up {D = D} hash content level next top h is l = rw is (go l.fuel level h l
         let e = length-paired hash content (a ∷ (b ∷ rest)) in
         record { fuel = n; enough = omega arith; some = omega arith; same = same }
 
--- the one node of a level is the top
-pub leads_home : {D : Type 0} (hash : List ℕ → D) (content : D → List ℕ) (level : List D) (top : Option D) (x : D) →
-    length level ≤ 1 → x ≡ get_or level 0 x → LeadsTo hash content level top → top ≡ Some x
-leads_home {D = D} hash content level top x h is l = go l.fuel level h l.some is l.same
-  where
-    go : (n : ℕ) (xs : List D) → length xs ≤ 1 → 0 < length xs → x ≡ get_or xs 0 x → top_within hash content n xs ≡ top → top ≡ Some x
-    go n [] short long is same = absurd (omega arith)
-    go n (a ∷ []) short long is same = sym same ∙ ap Some (sym is)
-    go n (a ∷ (b ∷ rest)) short long is same = absurd (omega arith)
-
-pub length-leaves : {D : Type 0} (hash : List ℕ → D) (content : D → List ℕ) (i : ℕ) (ds : List D) →
-    length (leaves_from hash content i ds) ≡ length ds
-length-leaves hash content i [] = refl
-length-leaves hash content i (d ∷ ds) = ap suc (length-leaves hash content (i + 1) ds)
-
 -- the root over the top of the leaves
 pub root_over : {D : Type 0} (hash : List ℕ → D) (content : D → List ℕ) (ds leaves : List D) (top root : D) →
     leaves ≡ leaves_from hash content 0 ds → top_within hash content (length leaves) leaves ≡ Some top →
@@ -88,46 +43,6 @@ root_over hash content ds leaves top root l t r =
     let same : top_within hash content (length ds) (leaves_from hash content 0 ds) ≡ Some top =
     rw (l, length-leaves hash content 0 ds) at t in
     rw (same, r)
-
--- how far a way up has come
-pub record ClimbsTo {D : Type 0} (hash : List ℕ → D) (content : D → List ℕ) (width i : ℕ) (x : D) (siblings : List D) (top : Option D) : Type 0 where
-  pub fuel : ℕ
-  pub enough : width ≤ fuel
-  pub some : 1 ≤ width
-  pub same : climb hash content fuel width i x siblings ≡ top
-
-pub climbs_up : {D : Type 0} (hash : List ℕ → D) (content : D → List ℕ) (width i : ℕ) (x y : D) (siblings rest : List D) (top : Option D) →
-    1 < width → ((n : ℕ) → climb hash content (n + 1) width i x siblings ≡ climb hash content n ((width + 1) / 2) (i / 2) y rest) →
-    ClimbsTo hash content width i x siblings top → ClimbsTo hash content (width / 2 + width % 2) (i / 2) y rest top
-climbs_up {D = D} hash content width i x y siblings rest top h step l = go l.fuel l.enough l.same
-  where
-    go : (n : ℕ) → width ≤ n → climb hash content n width i x siblings ≡ top → ClimbsTo hash content (width / 2 + width % 2) (i / 2) y rest top
-    go zero e same = absurd (omega arith)
-    go (suc n) e same =
-        let half : width / 2 + width % 2 ≡ (width + 1) / 2 = omega arith in
-        let one : n + 1 ≡ suc n = omega arith in
-        let on : climb hash content n ((width + 1) / 2) (i / 2) y rest ≡ top = sym (step n) ∙ ap (λ k. climb hash content k width i x siblings) one ∙ same in
-        record { fuel = n; enough = omega arith; some = omega arith; same = ap (λ w. climb hash content n w (i / 2) y rest) half ∙ on }
-
-climbs_home : {D : Type 0} (hash : List ℕ → D) (content : D → List ℕ) (width i : ℕ) (x : D) (siblings : List D) (top : Option D) →
-    width ≤ 1 → ClimbsTo hash content width i x siblings top → top ≡ alone x siblings
-climbs_home {D = D} hash content width i x siblings top h l = go l.fuel l.enough l.same
-  where
-    go : (n : ℕ) → width ≤ n → climb hash content n width i x siblings ≡ top → top ≡ alone x siblings
-    go zero e same = absurd (let s = l.some in omega arith)
-    go (suc n) e same =
-        let one : width ≡ 1 = let s = l.some in omega arith in
-        sym same ∙ ap (λ w. climb hash content (suc n) w i x siblings) one
-
-pub climbs_alone : {D : Type 0} (hash : List ℕ → D) (content : D → List ℕ) (width i : ℕ) (x : D) (siblings : List D) (used : ℕ) (top : Option D) →
-    width ≤ 1 → length siblings ≤ used → ClimbsTo hash content width i x (drop used siblings) top → Some x ≡ top
-climbs_alone hash content width i x siblings used top h e l =
-    sym (climbs_home hash content width i x (drop used siblings) top h l ∙ ap (alone x) (drop_all used siblings e))
-
-pub climbs_not : {D : Type 0} (hash : List ℕ → D) (content : D → List ℕ) (width i : ℕ) (x : D) (siblings : List D) (used : ℕ) (top : Option D) →
-    width ≤ 1 → used < length siblings → ClimbsTo hash content width i x (drop used siblings) top → None ≡ top
-climbs_not {D = D} hash content width i x siblings used top h e l =
-    sym (climbs_home hash content width i x (drop used siblings) top h l ∙ ap (alone x) (drop_more siblings used x e))
 
 -- how far the nodes beside a way up have been taken
 pub record PathTo {D : Type 0} (hash : List ℕ → D) (content : D → List ℕ) (taken : List D) (i : ℕ) (level path : List D) : Type 0 where
@@ -155,31 +70,15 @@ path_up {D = D} hash content before after i level next path h a e p = go p.fuel 
           same = rw (a, e) (append_assoc before (beside i level) (path_within hash content n (i / 2) (paired hash content level)) ∙ s);
         }
 
-path_home : {D : Type 0} (hash : List ℕ → D) (content : D → List ℕ) (n : ℕ) (x : D) → path_within hash content n 0 (x ∷ []) ≡ []
-path_home hash content zero x = refl
-path_home hash content (suc n) x = path_home hash content n (above hash content x x)
-
 pub path_done : {D : Type 0} (hash : List ℕ → D) (content : D → List ℕ) (taken : List D) (i : ℕ) (level path : List D) →
     length level ≤ 1 → PathTo hash content taken i level path → taken ≡ path
 path_done {D = D} hash content taken i level path h p = go i level p.within h p.same
   where
     go : (i : ℕ) (level : List D) → i < length level → length level ≤ 1 → taken ++ path_within hash content p.fuel i level ≡ path → taken ≡ path
     go i [] w l s = absurd (omega arith)
-    go zero (x ∷ []) w l s = sym (append-nil taken) ∙ ap (λ xs. taken ++ xs) (sym (path_home hash content p.fuel x)) ∙ s
+    go zero (x ∷ []) w l s = sym (append-nil taken) ∙ ap (λ xs. taken ++ xs) (sym (home hash content p.fuel x)) ∙ s
     go (suc i) (x ∷ []) w l s = absurd (omega arith)
     go i (x ∷ (y ∷ rest)) w l s = absurd (omega arith)
-
-pub one_at : {D : Type 0} (xs : List D) (i : ℕ) (x : D) → i < length xs → x ≡ get_or xs i x → take 1 (drop i xs) ≡ x ∷ []
-one_at xs i x l is = rw (drop_more xs i x l) (ap (λ y. y ∷ []) (sym is))
-
-pub none_at : {D : Type 0} (xs : List D) (i : ℕ) → length xs ≤ i → take 1 (drop i xs) ≡ []
-none_at xs i l = rw (drop_all i xs l) refl
-
-pub path_is : {D : Type 0} (hash : List ℕ → D) (content : D → List ℕ) (i : ℕ) (ds leaves path : List D) →
-    leaves ≡ leaves_from hash content 0 ds → path ≡ path_within hash content (length leaves) i leaves → path ≡ path_of hash content i ds
-unfolding path_of
-path_is hash content i ds leaves path l p =
-    p ∙ rw (l, length-leaves hash content 0 ds) refl
 
 -- ---- the levels that are kept
 

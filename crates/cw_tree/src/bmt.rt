@@ -6,6 +6,7 @@
 
 mod node;
 mod proof;
+mod texts;
 mod tree;
 mod way;
 

@@ -5,7 +5,7 @@ use Rattle.std.proofs.Math.Nat.{mul-le-mul_right}
 use Rattle.cw_base.specs.Counts.{Counts}
 use Rattle.cw_coding.specs.Encoding.{IsCodable, IsEncodable}
 use Rattle.cw_coding.specs.Totals.{total_of}
-use Rattle.cw_tree.specs.WidthLaws.{product_fits}
+use Rattle.cw_tree.proofs.WidthLaws.{product_fits}
 use Rattle.cw_tree.specs.Widths.{shard_len}
 use Rattle.cw_types.specs.Block.{Block}
 use Rattle.cw_types.specs.Encoding.{block_bytes}

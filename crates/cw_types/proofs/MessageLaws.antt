@@ -10,7 +10,8 @@ use Rattle.cw_base.specs.ReadingLaws.{be16_reads_back, be64_reads_back}
 use Rattle.cw_base.specs.Counts.{Counts}
 use Rattle.cw_tree.specs.Chunks.{Piece}
 use Rattle.cw_tree.specs.Formats.{chunk_at, chunk_bytes, piece_of_bytes, widest}
-use Rattle.cw_tree.specs.FormatLaws.{FitsChunk, chunk_reads_back, chunk_bytes_same}
+use Rattle.cw_tree.specs.Fits.{FitsChunk}
+use Rattle.cw_tree.proofs.FormatLaws.{chunk_reads_back, chunk_bytes_same}
 use Rattle.cw_types.specs.Encoding.{block_bytes, cert_bytes, commitment_bytes, message_bytes}
 use Rattle.cw_types.specs.Encoding.{vote_bytes}
 use Rattle.cw_types.specs.Reading.{as_read, block_at, cert_at, commitment_at, message_behind}

@@ -10,7 +10,7 @@ use Rattle.cw_base.specs.Counts.{Counts}
 use Rattle.cw_base.specs.declared.hash.Digest32.{Digest32}
 use Rattle.cw_coding.specs.Layout.{row_at, row_digests}
 use Rattle.cw_tree.specs.Tree.{path_of, root_by, root_of}
-use Rattle.cw_tree.specs.TreeRoots.{root_by-path_of}
+use Rattle.cw_tree.proofs.TreeRoots.{root_by-path_of}
 use Rattle.cw_types.specs.Block.{Block}
 use Rattle.cw_types.specs.Encoding.{block_bytes, context_bytes}
 use Rattle.cw_types.specs.Epochs.{Epochs}

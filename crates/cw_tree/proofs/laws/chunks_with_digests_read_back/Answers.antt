@@ -1,6 +1,6 @@
 use Rattle.std.proofs.Common.{ap, ◌∙◌, ◌++◌}
 use Rattle.cw_tree.specs.Formats.{chunk_at, piece_of_bytes}
-use Rattle.cw_tree.specs.FormatLaws.{chunk_reads_back, chunk_bytes_same, pieces_told}
+use Rattle.cw_tree.proofs.FormatLaws.{chunk_reads_back, chunk_bytes_same, pieces_told}
 use Rattle.cw_tree.proofs.laws.chunks_with_digests_read_back.Goals as goal
 
 pub returns : goal.returns

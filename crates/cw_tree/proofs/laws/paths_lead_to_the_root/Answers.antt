@@ -1,6 +1,6 @@
 use Rattle.std.proofs.Common.{sym, subst}
 use Rattle.std.proofs.lemmas.Option.{slice_get_within, get_or_from_slice_get}
-use Rattle.cw_tree.specs.TreeRoots.{root_by-path_of, path_of-le}
+use Rattle.cw_tree.proofs.TreeRoots.{root_by-path_of, path_of-le}
 use Rattle.cw_tree.specs.Sizes.{AreSized}
 use Rattle.cw_tree.proofs.Bounds.{sized_path, chunk_bytes-le}
 use Rattle.cw_tree.proofs.laws.paths_lead_to_the_root.Goals as goal

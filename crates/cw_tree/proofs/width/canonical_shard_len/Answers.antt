@@ -1,5 +1,5 @@
 use Rattle.std.proofs.Common.{arith}
-use Rattle.cw_tree.specs.WidthLaws.{shard_len-even, shard_len-some, shard_len-narrow, shard_len-covers, product_fits}
+use Rattle.cw_tree.proofs.WidthLaws.{shard_len-even, shard_len-some, shard_len-narrow, shard_len-covers, product_fits}
 use Rattle.cw_tree.proofs.width.canonical_shard_len.Goals as goal
 
 pub returns-clause-even : goal.returns-clause-even

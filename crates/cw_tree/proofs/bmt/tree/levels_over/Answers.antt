@@ -1,6 +1,7 @@
 use Rattle.std.proofs.Common.{◌≡◌, ◌<◌, ◌≤◌, length, ap, arith}
 use Rattle.cw_tree.specs.Tree.{paired}
-use Rattle.cw_tree.proofs.TreeLaws.{length-paired, leads_up, levels_done, levels_more}
+use Rattle.cw_tree.proofs.TreeRoots.{length-paired}
+use Rattle.cw_tree.proofs.TreeLaws.{leads_up, levels_done, levels_more}
 use Rattle.cw_tree.proofs.bmt.tree.levels_over.Goals as goal
 
 pub up-smaller : goal.up-smaller

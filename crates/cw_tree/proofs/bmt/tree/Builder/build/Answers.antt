@@ -1,6 +1,7 @@
 use Rattle.std.proofs.Common.{◌≡◌, List, length, ap, subst, arith}
 use Rattle.cw_tree.specs.Tree.{AreLevels, leaves_from}
-use Rattle.cw_tree.proofs.TreeLaws.{length-leaves, root_over}
+use Rattle.cw_tree.proofs.TreeRoots.{length-leaves}
+use Rattle.cw_tree.proofs.TreeLaws.{root_over}
 use Rattle.cw_tree.proofs.bmt.tree.Builder.build.Goals as goal
 
 pub levels_over-requires-clause-some : goal.levels_over-requires-clause-some

@@ -9,25 +9,9 @@ use Rattle.cw_base.specs.Bytes.{be16, be32, varint}
 use Rattle.cw_base.specs.Reading.{Reading, ◌>>=◌, byte_at, bytes_at, be16_at, be32_at, varint_at}
 use Rattle.cw_base.specs.ReadingLaws.{ReadsBack, IsBytes, IsBytes-rest, bind_ok, read_is, byte_reads_back, bytes_read_back, be16_reads_back, be32_reads_back, varint_reads_back}
 use Rattle.cw_tree.specs.Chunks.{Piece}
+use Rattle.cw_tree.specs.Sizes.{AreSized}
+use Rattle.cw_tree.specs.Fits.{FitsProof, FitsChunk}
 use Rattle.cw_tree.specs.Formats.{proof_bytes, chunk_bytes, digests_at, siblings_at, proof_at, shard_at, chunk_at, piece_of_bytes}
-
--- digests of size bytes each
-abbrev pub AreDigests : ℕ → List (List ℕ) → Type 0
-AreDigests size [] = Unit {0}
-AreDigests size (d ∷ ds) = (length d ≡ size) × AreDigests size ds
-
--- a proof that fits its format
-pub record FitsProof (size : ℕ) (p : ℕ × List (List ℕ)) : Type 0 where
-  pub leaf_count : p.0 < 2 ^ 32
-  pub few : length p.1 ≤ 32
-  pub digests : AreDigests size p.1
-
--- a chunk that fits its format, with a shard of at most so many bytes
-pub record FitsChunk (size bound : ℕ) (p : Piece (List ℕ)) : Type 0 where
-  pub narrow : length p.shard ≤ bound
-  pub short : length p.shard < 2 ^ 32
-  pub index : p.index < 2 ^ 16
-  pub proof : FitsProof size (p.leaf_count, p.siblings)
 
 abbrev same : List ℕ → List ℕ
 same bytes = bytes
@@ -47,7 +31,7 @@ others_of size n first = digests_at size n first.1 >>= first_of first.0
 record AreRead (size n : ℕ) (bytes rest : List ℕ) (ds : List (List ℕ)) : Type 0 where
   parts : bytes ≡ flat_map same ds ++ rest
   count : length ds ≡ n
-  digests : AreDigests size ds
+  digests : AreSized same size ds
 
 digests_found : (size n : ℕ) (bytes rest : List ℕ) (ds : List (List ℕ)) → IsBytes bytes → digests_at size n bytes ≡ Ok (ds, rest) → AreRead size n bytes rest ds
 digests_found size zero bytes rest ds fits e =
@@ -66,7 +50,7 @@ digests_found size (suc n) bytes rest ds fits e =
     record { parts = rw is.1 at parts; count = ap suc more.count; digests = (first.1, more.digests) } in
     subst (λ (xs : List (List ℕ)). AreRead size (suc n) bytes rest xs) is.0 whole
 
-digests_again : (size n : ℕ) (ds : List (List ℕ)) (rest : List ℕ) → length ds ≡ n → AreDigests size ds → digests_at size n (flat_map same ds ++ rest) ≡ Ok (ds, rest)
+digests_again : (size n : ℕ) (ds : List (List ℕ)) (rest : List ℕ) → length ds ≡ n → AreSized same size ds → digests_at size n (flat_map same ds ++ rest) ≡ Ok (ds, rest)
 digests_again size zero [] rest count fits = refl
 digests_again size zero (d ∷ ds) rest count fits = absurd cc
 digests_again size (suc n) [] rest count fits = absurd cc
@@ -81,7 +65,7 @@ sibling_bytes ds = (length ds % 2 ^ 8) ∷ flat_map same ds
 -- at most 32 digests
 record AreSiblings (size : ℕ) (ds : List (List ℕ)) : Type 0 where
   few : length ds ≤ 32
-  digests : AreDigests size ds
+  digests : AreSized same size ds
 
 abbrev counted_of : ℕ → ℕ × List ℕ → Reading (List (List ℕ))
 counted_of size count = cond (nat_lt 32 count.0) (Err (TooLong, count.1)) (digests_at size count.0 count.1)
