@@ -11,9 +11,8 @@ use Rattle.cw_base.specs.Bytes.{be16, be64, varint}
 use Rattle.cw_base.specs.Config.{config_bytes}
 use Rattle.cw_base.specs.Counts.{Counts}
 use Rattle.cw_base.specs.Reading.{Reading, ◌>>=◌, bytes_at, be64_at, varint_at}
-use Rattle.cw_base.specs.ReadingLaws.{ReadsBack, IsBytes, IsBytes-rest, IsConfig, bind_ok, read_is}
-use Rattle.cw_base.specs.ReadingLaws.{bytes_read_back, be16_reads_back, be64_reads_back}
-use Rattle.cw_base.specs.ReadingLaws.{varint_reads_back, config_reads_back}
+use Rattle.cw_base.specs.ReadsBack.{ReadsBack, IsBytes, IsConfig}
+use Rattle.cw_base.proofs.ReadingLaws.{IsBytes-rest, bind_ok, read_is, bytes_read_back, be16_reads_back, be64_reads_back, varint_reads_back, config_reads_back}
 use Rattle.cw_types.specs.Block.{Block}
 use Rattle.cw_types.specs.Encoding.{commitment_bytes, context_bytes, block_bytes, proposal_bytes}
 use Rattle.cw_types.specs.Reading.{valid_if, as_read, digest_at, commitment_at, context_at}

@@ -5,8 +5,8 @@ use Rattle.std.proofs.Common.{inr}
 use Rattle.std.specs.List.{flat_map}
 use Rattle.cw_base.specs.Bytes.{be16, be64}
 use Rattle.cw_base.specs.Reading.{Reading, ◌>>=◌, byte_at, be64_at}
-use Rattle.cw_base.specs.ReadingLaws.{ReadsBack, IsBytes, IsBytes-rest, bind_ok, byte_reads_back}
-use Rattle.cw_base.specs.ReadingLaws.{be64_reads_back}
+use Rattle.cw_base.specs.ReadsBack.{ReadsBack, IsBytes}
+use Rattle.cw_base.proofs.ReadingLaws.{IsBytes-rest, bind_ok, byte_reads_back, be64_reads_back}
 use Rattle.cw_types.specs.Encoding.{block_bytes, cert_bytes, commitment_bytes, epoch_tag_bytes}
 use Rattle.cw_types.specs.Encoding.{note_bytes, proposal_bytes, vote_bytes}
 use Rattle.cw_types.specs.Reading.{as_read, block_at, commitment_at, formed_vote_at, height_at}

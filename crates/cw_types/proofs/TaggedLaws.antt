@@ -9,8 +9,8 @@ use Rattle.std.proofs.lemmas.Bool.{eqb-true}
 use Rattle.std.proofs.Math.Dec.{eqb-suc-zero}
 use Rattle.cw_base.specs.Bytes.{be16, be64}
 use Rattle.cw_base.specs.Reading.{Reading, ◌>>=◌, byte_at, be16_at, be64_at}
-use Rattle.cw_base.specs.ReadingLaws.{ReadsBack, IsBytes, IsBytes-rest, bind_ok, read_is}
-use Rattle.cw_base.specs.ReadingLaws.{byte_reads_back, be16_reads_back, be64_reads_back}
+use Rattle.cw_base.specs.ReadsBack.{ReadsBack, IsBytes}
+use Rattle.cw_base.proofs.ReadingLaws.{IsBytes-rest, bind_ok, read_is, byte_reads_back, be16_reads_back, be64_reads_back}
 use Rattle.cw_types.specs.Encoding.{proposal_bytes, tag_bytes, vote_bytes, cert_bytes}
 use Rattle.cw_types.specs.Reading.{as_read, later_at, later_epoch_at, proposal_at, vote_behind}
 use Rattle.cw_types.specs.Reading.{vote_at, signers_at, signed_at, cert_at}

@@ -4,10 +4,10 @@ use Rattle.std.specs.Prelude.{◌≡◌, ℕ, ◌-◌, ◌^◌, ◌<◌, ◌≤�
 use Rattle.std.specs.Prelude.{List, [], ◌∷◌, ◌++◌, length, None}
 use Rattle.cw_base.specs.declared.hash.Digest32.{Digest32}
 use Rattle.cw_base.specs.Counts.{Counts}
-use Rattle.cw_base.specs.ReadingLaws.{IsConfig}
+use Rattle.cw_base.specs.ReadsBack.{IsConfig}
 use Rattle.cw_tree.specs.Chunks.{Piece}
 use Rattle.cw_tree.specs.Formats.{piece_of_bytes, widest}
-use Rattle.cw_tree.specs.FormatLaws.{FitsChunk}
+use Rattle.cw_tree.specs.Fits.{FitsChunk}
 use Rattle.cw_types.specs.Block.{Block}
 use Rattle.cw_types.specs.Reading.{tagged_message_at, to_the_end}
 use Rattle.cw_types.specs.Votes.{is_ordered, well_formed}

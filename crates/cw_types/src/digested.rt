@@ -1,7 +1,7 @@
 //! What a block is to those who agree on it, and a block with its digest.
 
 ghost use Rattle.std.specs.Prelude.{◌≡◌, ◌≤◌, ℕ, List, Option, Some, IfOk, length};
-ghost use Rattle.cw_base.specs.ReadingLaws.{IsBytes};
+ghost use Rattle.cw_base.specs.ReadsBack.{IsBytes};
 ghost use Rattle.cw_types.specs.Encoding.{block_bytes};
 
 use crate::block::{ChainBlock, Context, MAX_BLOCK};

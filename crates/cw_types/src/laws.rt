@@ -1,7 +1,7 @@
 //! What is written reads back, and what reads is in its format: laws, which take no work.
 
 ghost use Rattle.std.specs.Prelude.{◌≡◌, ◌<◌, ◌≤◌, ◌^◌, ℕ, IsTrue, List, Some, length};
-ghost use Rattle.cw_base.specs.ReadingLaws.{IsBytes, ReadsBack};
+ghost use Rattle.cw_base.specs.ReadsBack.{IsBytes, ReadsBack};
 ghost use Rattle.std.specs.List.{AllByRecursion};
 ghost use Rattle.cw_types.specs.Block.{Block as BlockValue};
 ghost use Rattle.cw_types.specs.Handoff.{IsMapped};

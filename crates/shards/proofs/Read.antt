@@ -1,6 +1,6 @@
 -- What is read as a block has that block's bytes.
 use Rattle.std.proofs.Common.{◌≡◌, ℕ, List, Option, None, Some, Result, Ok, Err, IfOk, IfSome, sym}
-use Rattle.cw_base.specs.ReadingLaws.{IsBytes}
+use Rattle.cw_base.specs.ReadsBack.{IsBytes}
 use Rattle.cw_types.specs.Block.{Block}
 use Rattle.cw_types.specs.Encoding.{block_bytes}
 use Rattle.cw_types.specs.Values.{IsBlock}
