@@ -40,6 +40,11 @@ pub guard_ok : {A D : Type 0} (b : Bool) (d : D) (x y : A) → ◌≡◌ {A = Re
 guard_ok true d x y e = absurd cc
 guard_ok false d x y e = (refl, cc)
 
+-- a test that did not refuse, before what is read then
+pub guard_then : {A : Type 0} (b : Bool) (d : CodecError × List ℕ) (r : Reading A) (y : A × List ℕ) → cond b (Err d) r ≡ Ok y → (b ≡ false) × (r ≡ Ok y)
+guard_then true d r y e = absurd cc
+guard_then false d r y e = (refl, e)
+
 abbrev taken : {A : Type 0} → A × List ℕ → Reading A
 taken x = Ok x
 
