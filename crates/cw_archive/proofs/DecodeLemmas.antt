@@ -6,7 +6,8 @@ use Rattle.std.proofs.lemmas.List.{length-map, take_all}
 use Rattle.std.proofs.lemmas.List.Elements.{All-from_recursion, recursion_from_All}
 use Rattle.std.proofs.lemmas.Option.{same_Some, slice_get_past}
 use Rattle.std.proofs.Math.Nat.{mul-le-mul_left}
-use Rattle.cw_base.specs.Rows.{length-listed, listed}
+use Rattle.cw_base.specs.Rows.{listed}
+use Rattle.cw_base.proofs.Listed.{length-listed}
 use Rattle.cw_base.specs.Counts.{Counts}
 use Rattle.cw_base.specs.declared.hash.Digest32.{Digest32}
 use Rattle.rs_code.specs.Indices.{AreSound}

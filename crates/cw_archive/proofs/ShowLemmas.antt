@@ -5,13 +5,13 @@ use Rattle.std.specs.Option.{option_and_then}
 use Rattle.std.proofs.lemmas.Bool.{cases_Bool, cond-true, cond-false}
 use Rattle.std.proofs.lemmas.Option.{same_Some}
 use Rattle.cw_base.specs.Config.{same_counts}
-use Rattle.cw_base.specs.ReadingLaws.{IsBytes}
+use Rattle.cw_base.specs.ReadsBack.{IsBytes}
 use Rattle.cw_base.specs.declared.hash.Digest32.{Digest32}
 use Rattle.cw_coding.specs.Layout.{row_digests}
 use Rattle.cw_tree.specs.Tree.{root_of}
 use Rattle.cw_types.specs.Block.{Block}
 use Rattle.cw_types.specs.Encoding.{block_bytes, context_bytes}
-use Rattle.cw_types.specs.FormatLaws.{IsBlock}
+use Rattle.cw_types.specs.Values.{IsBlock}
 use Rattle.cw_types.specs.Reading.{block_in}
 use Rattle.cw_types.specs.Same.{same_commitment, same_digest}
 use Rattle.cw_types.specs.declared.commitment.Commitment.{Commitment}

@@ -1,6 +1,6 @@
 -- One frame more on the log of a replica.
 use Rattle.std.proofs.Common.{◌≡◌, inl, inr, ℕ, suc, ◌+◌, ◌<◌, ◌^◌, List, [], ◌∷◌, ◌++◌, length, Option, None, Some, Result, Ok, Err, refl, sym, ap, ◌∙◌, append-nil, arith, length-append}
-use Rattle.node_disk.specs.Compose.{stays, weakens}
+use Rattle.node_disk.proofs.Compose.{stays, weakens}
 use Rattle.node_disk.specs.Disk.{DeviceCall, DiskState, IsFront, LeavesOnly, told_more}
 use Rattle.node_disk.specs.Frames.{Finds, FindsWithOrWithout}
 use Rattle.node_disk.specs.Images.{Moment}

@@ -2,7 +2,7 @@
 use Rattle.std.proofs.Common.{◌≡◌, ℕ, zero, suc, ◌+◌, List, [], ◌∷◌, ◌++◌, length, take, drop, map, None, Some, Result, Ok, Err, refl, sym, ap, ◌∙◌, append_assoc, append-nil, add-one, arith, length-append}
 use Rattle.std.specs.List.{enumerate_from, slice_get}
 use Rattle.std.proofs.lemmas.Option.{same_Some}
-use Rattle.cw_base.specs.ReadingLaws.{IsBytes}
+use Rattle.cw_base.specs.ReadsBack.{IsBytes}
 use Rattle.cw_ledger.specs.Frames.{first_payload, payload_in, payloads_from, with_payload}
 use Rattle.cw_ledger.specs.Kept.{AreKept, amount_in, kept_payloads, payloads_or_none}
 use Rattle.cw_ledger.specs.Ledger.{frame_of, frames_of}

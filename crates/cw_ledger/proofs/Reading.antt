@@ -4,7 +4,8 @@ use Rattle.std.proofs.lemmas.Bool.{eqb-true}
 use Rattle.std.proofs.lemmas.Option.{same_Some}
 use Rattle.cw_base.specs.Bytes.{be64}
 use Rattle.cw_base.specs.Reading.{Reading, be64_at}
-use Rattle.cw_base.specs.ReadingLaws.{IsBytes, be64_reads_back}
+use Rattle.cw_base.specs.ReadsBack.{IsBytes}
+use Rattle.cw_base.proofs.ReadingLaws.{be64_reads_back}
 use Rattle.cw_ledger.specs.Frames.{behind_height, payload_in}
 use Rattle.cw_ledger.specs.Ledger.{frame_of}
 

@@ -2,7 +2,7 @@
 
 ghost use Rattle.std.specs.Prelude.{◌≡◌, ◌+◌, ◌<◌, ◌^◌, ◌++◌, ℕ, length, IfOk, OnOk, Err, IsErrOf};
 ghost use Rattle.std.specs.Prelude.{option_map};
-ghost use Rattle.cw_base.specs.ReadingLaws.{IsBytes};
+ghost use Rattle.cw_base.specs.ReadsBack.{IsBytes};
 ghost use Rattle.cw_ledger.specs.Frames.{payload_in, payloads_from};
 ghost use Rattle.cw_ledger.specs.Kept.{AreKept, amount_in};
 ghost use Rattle.cw_ledger.specs.Ledger.{frame_of};

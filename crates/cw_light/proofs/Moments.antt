@@ -11,7 +11,8 @@ use Rattle.cw_types.specs.declared.vote.Vote.{Vote}
 use Rattle.cw_types.specs.Block.{Block}
 use Rattle.cw_types.specs.Encoding.{block_bytes}
 use Rattle.cw_types.specs.Epochs.{is_member, rises_from, size}
-use Rattle.cw_types.specs.FormatLaws.{IsBlock, block_again}
+use Rattle.cw_types.specs.Values.{IsBlock}
+use Rattle.cw_types.proofs.FormatLaws.{block_again}
 use Rattle.cw_types.specs.Numbers.{quorum}
 use Rattle.cw_types.specs.Reading.{block_in}
 use Rattle.cw_types.specs.Votes.{finalized, vote_epoch, well_formed}

@@ -4,7 +4,7 @@ use Rattle.std.specs.List.{last_or}
 use Rattle.cw_base.specs.declared.hash.Digest32.{Digest32}
 use Rattle.cw_types.specs.Block.{Block}
 use Rattle.cw_types.specs.Encoding.{block_bytes}
-use Rattle.cw_types.specs.FormatLaws.{IsBlock}
+use Rattle.cw_types.specs.Values.{IsBlock}
 use Rattle.cw_types.specs.declared.commitment.Commitment.{Commitment}
 use Rattle.cw_types.specs.declared.note.Note.{Note}
 use Rattle.cw_rules.specs.Chains.{all_notes}

@@ -5,9 +5,9 @@ use Rattle.std.specs.Option.{option_map_or, option_or}
 use Rattle.std.proofs.lemmas.Bool.{and_parts, cases_Bool, cond-true, cond-false, leb-false}
 use Rattle.std.proofs.lemmas.Option.{same_Some}
 use Rattle.cw_base.specs.Config.{same_counts}
-use Rattle.cw_base.specs.ReadingLaws.{IsBytes, IsConfig}
-use Rattle.cw_types.specs.FormatLaws.{IsBlock, IsCommitment, IsDigest, IsPayload}
-use Rattle.cw_types.specs.MessageLaws.{IsMessage, message_found}
+use Rattle.cw_base.specs.ReadsBack.{IsBytes, IsConfig}
+use Rattle.cw_types.specs.Values.{IsBlock, IsCommitment, IsDigest, IsMessage, IsPayload}
+use Rattle.cw_types.proofs.MessageLaws.{message_found}
 use Rattle.cw_types.specs.Reading.{message_of}
 use Rattle.cw_types.specs.declared.commitment.Commitment.{Commitment}
 use Rattle.cw_types.specs.declared.event.Event.{Event}

@@ -2,7 +2,7 @@
 use Rattle.std.specs.Prelude.{ℕ, ⊤, ◌≡◌, ◌≤◌, List, Some, map}
 use Rattle.cw_base.specs.Counts.{Counts}
 use Rattle.cw_types.specs.Block.{Block}
-use Rattle.cw_types.specs.FormatLaws.{IsBlock, IsDigest, IsPayload}
+use Rattle.cw_types.specs.Values.{IsBlock, IsDigest, IsPayload}
 use Rattle.cw_rules.specs.Coding.{AreBytes}
 use Rattle.cw_rules.specs.Rules.{Chunk, Rules, block_of}
 use Rattle.cw_rules.specs.World.{Ask, Cut, Do, Fault, Faulty, Line, Propose, Raw}

@@ -2,7 +2,8 @@
 use Rattle.std.proofs.Common.{◌≡◌, ℕ, zero, suc, ◌+◌, ◌<◌, Bool, List, [], ◌∷◌, ◌++◌, length, map, unwrap_or, refl, sym, ◌∙◌, ap, arith, add-one}
 use Rattle.std.specs.List.{enumerate_from}
 use Rattle.std.proofs.lemmas.List.{map-append}
-use Rattle.cw_base.specs.Rows.{length-listed, listed, listed_more, listed_none, listed_same, map-listed}
+use Rattle.cw_base.specs.Rows.{listed}
+use Rattle.cw_base.proofs.Listed.{length-listed, listed_more, listed_none, listed_same, map-listed}
 use Rattle.cw_base.specs.Counts.{Counts}
 use Rattle.cw_base.specs.declared.hash.Digest32.{Digest32}
 use Rattle.cw_coding.specs.Encoding.{piece_of}

@@ -11,7 +11,8 @@ use Rattle.std.proofs.lemmas.Slice.Eq.{bytes_eq-Decides}
 use Rattle.std.proofs.Math.Nat.{mul-le-mul_left}
 use Rattle.cw_base.specs.declared.hash.Digest32.{Digest32}
 use Rattle.cw_base.specs.Bytes.{be32}
-use Rattle.cw_base.specs.Rows.{length-listed, listed}
+use Rattle.cw_base.specs.Rows.{listed}
+use Rattle.cw_base.proofs.Listed.{length-listed}
 use Rattle.cw_base.specs.Counts.{Counts}
 use Rattle.rs_code.specs.Codeword.{ArePoints}
 use Rattle.rs_code.specs.Rows.{AreRows, OriginalsComeFirst, RowsFixCodeword, RowsHaveCodeword, code_row, joined, row_of, row_through, symbol_bytes}
@@ -22,8 +23,8 @@ use Rattle.cw_types.specs.Block.{Block}
 use Rattle.cw_types.specs.Commit.{empty_digest}
 use Rattle.cw_types.specs.Epochs.{Epochs}
 use Rattle.cw_types.specs.Same.{same_digest}
-use Rattle.cw_base.specs.ReadingLaws.{IsBytes}
-use Rattle.cw_types.specs.FormatLaws.{block_found}
+use Rattle.cw_base.specs.ReadsBack.{IsBytes}
+use Rattle.cw_types.proofs.FormatLaws.{block_found}
 use Rattle.cw_rules.specs.Coding.{AreApart, AreByteChunks, AreBytes, IsCoder, IsText}
 use Rattle.cw_rules.specs.Rules.{Chunk, total_of}
 use Rattle.cw_rules_coded.specs.Coded.{code_rows, coded, decoded, digest_bytes, if_codeword, is_row_of, is_text, originals, place_at, root_over, shards_of, text_in, width_of}

@@ -1,6 +1,8 @@
 -- The rules over the real codeword, the real tree and the real bytes.
 use Rattle.std.specs.Int.{w32, from_be_bytes}
-use Rattle.std.specs.Prelude.{ℕ, ◌+◌, ◌^◌, ◌==◌, ◌&&◌, Bool, false, nat_lt, List, [], ◌∷◌, length, take, drop, map, flat_map, slice_index, Option, Some, None, unwrap_or, bytes_eq, if◌then◌else◌}
+use Rattle.std.specs.Prelude.{ℕ, ◌+◌, ◌^◌, ◌==◌, ◌&&◌, Bool, false, nat_lt, if◌then◌else◌}
+use Rattle.std.specs.Prelude.{List, [], ◌∷◌, length, take, drop, map, flat_map, slice_index}
+use Rattle.std.specs.Prelude.{Option, Some, None, unwrap_or, bytes_eq}
 use Rattle.std.specs.List.{list_all}
 use Rattle.std.specs.Option.{option_map_or}
 use Rattle.cw_base.specs.declared.hash.Digest32.{Digest32}
@@ -28,7 +30,9 @@ root_over hash digests = unwrap_or (root_of hash digest_bytes digests) empty_dig
 
 -- the siblings of a chunk lead from its shard at its place to the root
 abbrev pub leads_up : (List ℕ → Digest32) → Digest32 → Chunk → Bool
-leads_up hash root x = option_map_or (same_digest root) (root_by hash digest_bytes x.leaf_count x.siblings x.index (hash x.shard)) false
+leads_up hash root x =
+    option_map_or (same_digest root)
+    (root_by hash digest_bytes x.leaf_count x.siblings x.index (hash x.shard)) false
 
 -- the shards of chunks, end to end
 abbrev pub shards_of : List Chunk → List ℕ
@@ -65,7 +69,9 @@ is_row_of x text c = nat_lt c.index (total_of x) && bytes_eq c.shard (row_at x.m
 
 -- the text, where these chunks are k rows of its codeword
 abbrev pub if_codeword : Counts → List Chunk → List ℕ → Option (List ℕ)
-if_codeword x chunks text = if (length chunks == x.minimum) && is_text text && list_all (is_row_of x text) chunks then Some text else None
+if_codeword x chunks text =
+    if (length chunks == x.minimum) && is_text text && list_all (is_row_of x text) chunks
+    then Some text else None
 
 -- the text of whose codeword these chunks are k rows
 abbrev pub decoded : Counts → List Chunk → Option (List ℕ)

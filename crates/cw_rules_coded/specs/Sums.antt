@@ -16,7 +16,13 @@ summed = coded sum_digest (single 4) 3 (λ b a. true)
 -- the block of view 1 over genesis with the payload "hi"
 abbrev pub hi_block : Block
 hi_block = record {
-  context = record { epoch = 0; view = 1; leader = 1; parent_view = 0; parent = genesis_commitment summed };
+  context = record {
+    epoch = 0;
+    view = 1;
+    leader = 1;
+    parent_view = 0;
+    parent = genesis_commitment summed;
+  };
   parent = digest summed (genesis summed);
   height = 1;
   payload = 104 ∷ 105 ∷ [];

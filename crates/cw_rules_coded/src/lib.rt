@@ -7,7 +7,7 @@ ghost use Rattle.cw_types.specs.Block.{Block};
 ghost use Rattle.cw_types.specs.Encoding.{block_bytes};
 ghost use Rattle.cw_types.specs.Commit as types;
 ghost use Rattle.cw_types.specs.Epochs.{Epochs, size};
-ghost use Rattle.cw_types.specs.FormatLaws.{IsBlock};
+ghost use Rattle.cw_types.specs.Values.{IsBlock};
 ghost use Rattle.cw_rules.specs.Coding.{IsCoder};
 ghost use Rattle.cw_rules.specs.Rules.{chunks, commit, config, digest, genesis};
 ghost use Rattle.cw_rules_coded.specs.Coded.{coded};

@@ -13,12 +13,15 @@ use Rattle.cw_types.specs.Numbers.{config_for}
 
 module _ (hash : List ℕ → Digest32) (n : ℕ) (b : Block) where
   -- the root of an encoding is that of its text
-  pub root_is : (x : Counts) (text : List ℕ) (root : Digest32) (pieces : List (Piece Digest32)) → IsEncoding hash digest_bytes x text root pieces → text_root hash x text ≡ root
+  pub root_is : (x : Counts) (text : List ℕ) (root : Digest32) (pieces : List (Piece Digest32))
+      → IsEncoding hash digest_bytes x text root pieces → text_root hash x text ≡ root
   root_is x text root pieces made = ap (λ o. unwrap_or o empty_digest) made.rooted
 
   -- the parts of an encoding make the commitment
-  pub commitment_is : (x : Counts) (text : List ℕ) (d root e : Digest32) (pieces : List (Piece Digest32)) → x ≡ config_for n → text ≡ block_bytes b → d ≡ hash text → e ≡ hash (context_bytes b.context)
-      → IsEncoding hash digest_bytes x text root pieces → record { block = d; root = root; context = e; config = x } ≡ commit hash n b
+  pub commitment_is : (x : Counts) (text : List ℕ) (d root e : Digest32) (pieces : List (Piece Digest32))
+      → x ≡ config_for n → text ≡ block_bytes b → d ≡ hash text → e ≡ hash (context_bytes b.context)
+      → IsEncoding hash digest_bytes x text root pieces
+      → record { block = d; root = root; context = e; config = x } ≡ commit hash n b
   commitment_is x text d root e pieces isx is isd ise made =
       let own : root ≡ text_root hash (config_for n) (block_bytes b) =
       sym (root_is x text root pieces made) ∙ (ap (text_root hash x) is ∙ ap (λ y. text_root hash y (block_bytes b)) isx) in
@@ -26,7 +29,8 @@ module _ (hash : List ℕ → Digest32) (n : ℕ) (b : Block) where
       λ i. record { block = block i; root = own i; context = ise i; config = isx i }
 
   -- its pieces are the chunks
-  pub chunks_are : (x : Counts) (text : List ℕ) (root : Digest32) (pieces : List (Piece Digest32)) → x ≡ config_for n → text ≡ block_bytes b
+  pub chunks_are : (x : Counts) (text : List ℕ) (root : Digest32) (pieces : List (Piece Digest32))
+      → x ≡ config_for n → text ≡ block_bytes b
       → IsEncoding hash digest_bytes x text root pieces → pieces ≡ block_chunks hash n b
   chunks_are x text root pieces isx is made =
       made.each ∙ (ap (λ t. listed (total_of x) (piece_of hash digest_bytes x t)) is

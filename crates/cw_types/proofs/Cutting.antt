@@ -1,5 +1,6 @@
 -- The bytes of each block can be cut in two parts or more.
-use Rattle.std.proofs.Common.{◌≡◌, ℕ, zero, suc, ◌+◌, ◌-◌, ◌*◌, ◌/◌, ◌%◌, ◌^◌, ◌<◌, ◌≤◌, length, arith}
+use Rattle.std.proofs.Common.{ℕ, zero, suc, ◌+◌, ◌-◌, ◌*◌, ◌/◌, ◌%◌, ◌^◌, ◌<◌, ◌≤◌, length}
+use Rattle.std.proofs.Common.{arith}
 use Rattle.std.proofs.Math.Nat.{mul-le-mul_right}
 use Rattle.cw_base.specs.Counts.{Counts}
 use Rattle.cw_coding.specs.Encoding.{IsCodable, IsEncodable}
@@ -8,8 +9,8 @@ use Rattle.cw_tree.proofs.WidthLaws.{product_fits}
 use Rattle.cw_tree.specs.Widths.{shard_len}
 use Rattle.cw_types.specs.Block.{Block}
 use Rattle.cw_types.specs.Encoding.{block_bytes}
-use Rattle.cw_types.specs.FormatLaws.{IsBlock}
-use Rattle.cw_types.specs.Sizes.{block_within}
+use Rattle.cw_types.specs.Values.{IsBlock}
+use Rattle.cw_types.proofs.Sizes.{block_within}
 
 -- shards of two parts or more are about half as wide as the text
 half_wide : (n k : ℕ) → 2 ≤ k → 2 * shard_len n k ≤ n + 7
@@ -32,7 +33,8 @@ codable x n some few short =
     record { short = omega arith; narrow = omega arith; room = omega arith }
 
 -- the bytes of each block are encoded in two parts or more
-pub block_encodes : (x : Counts) (b : Block) → 2 ≤ x.minimum → total_of x ≤ 65535 → IsBlock b → IsEncodable x (length (block_bytes b))
+pub block_encodes : (x : Counts) (b : Block) → 2 ≤ x.minimum → total_of x ≤ 65535 → IsBlock b
+    → IsEncodable x (length (block_bytes b))
 block_encodes x b some few is =
     let short = block_within b is in
     record { total = few; codable = codable x (length (block_bytes b)) some few (omega arith) }

@@ -1,5 +1,10 @@
 pub mod FirstBlock
 pub mod EpochLemmas
+pub mod FormatLaws
+pub mod TaggedLaws
+pub mod NoteLaws
+pub mod MessageLaws
+pub mod Sizes
 pub mod SignersRead
 pub mod Taken
 pub mod Refused

@@ -12,7 +12,8 @@ use Rattle.cw_types.specs.declared.vote.Vote.{Vote}
 use Rattle.cw_types.specs.declared.vote.Cert.{Cert}
 use Rattle.cw_types.specs.declared.vote.Vote.TheVariants.{Finalize, Notarize, Nullify}
 use Rattle.cw_types.specs.Block.{Block}
-use Rattle.cw_types.specs.Same.{same_block, same_cert, same_commitment, same_context, same_digest, same_proposal, same_vote}
+use Rattle.cw_types.specs.Same.{same_block, same_cert, same_commitment, same_context, same_digest}
+use Rattle.cw_types.specs.Same.{same_proposal, same_vote}
 
 pub same_digest-true : (a b : Digest32) → same_digest a b ≡ true → a ≡ b
 same_digest-true a b h = let e = (bytes_eq-Decides a.0 b.0).0 h in λ i. record { 0 = e i }

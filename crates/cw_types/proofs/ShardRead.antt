@@ -6,7 +6,7 @@ use Rattle.cw_base.specs.Reading.{Reading, Gives}
 use Rattle.cw_tree.specs.Chunks.{Piece}
 use Rattle.cw_tree.specs.Formats.{piece_of_bytes}
 use Rattle.cw_types.proofs.Refused.{refused_as}
-use Rattle.cw_types.specs.MessageLaws.{digests_back}
+use Rattle.cw_types.proofs.MessageLaws.{digests_back}
 use Rattle.cw_types.specs.Reading.{as_read, with_digests}
 
 abbrev content : Digest32 → List ℕ

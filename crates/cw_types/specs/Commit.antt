@@ -25,7 +25,8 @@ empty_digest = record { 0 = replicate 32 0 }
 abbrev pub text_root : (List ℕ → Digest32) → Counts → List ℕ → Digest32
 text_root hash config text = unwrap_or (root_of_text hash digest_bytes config text) empty_digest
 
--- what names a block among n members: its digest, the root of its bytes, its context's digest, and their config
+-- what names a block among n members: its digest, the root of its bytes, its context's digest, and
+-- their config
 abbrev pub commit : (List ℕ → Digest32) → (n : ℕ) → Block → Commitment
 commit hash n b =
     record {
@@ -35,9 +36,11 @@ commit hash n b =
       config = config_for n;
     }
 
--- the k + m chunks of a block among n members: the rows of its bytes, each with its way up to the root
+-- the k + m chunks of a block among n members: the rows of its bytes, each with its way up to the
+-- root
 abbrev pub block_chunks : (List ℕ → Digest32) → (n : ℕ) → Block → List (Piece Digest32)
-block_chunks hash n b = listed (total_of (config_for n)) (piece_of hash digest_bytes (config_for n) (block_bytes b))
+block_chunks hash n b =
+    listed (total_of (config_for n)) (piece_of hash digest_bytes (config_for n) (block_bytes b))
 
 -- one shard holds the text, and one is added
 abbrev pub uncut : Counts
@@ -45,7 +48,8 @@ uncut = record { minimum = 1; extra = 1 }
 
 -- the commitment that the first block names as its parent's
 abbrev pub no_commitment : Commitment
-no_commitment = record { block = empty_digest; root = empty_digest; context = empty_digest; config = uncut }
+no_commitment =
+    record { block = empty_digest; root = empty_digest; context = empty_digest; config = uncut }
 
 -- the context of the first block
 abbrev pub first_context : Context
@@ -57,7 +61,13 @@ genesis hash = record { context = first_context; parent = hash []; height = 0; p
 
 -- what names the first block: it stands for its digest, not for a root that it encodes to
 abbrev pub genesis_commitment : (List ℕ → Digest32) → Commitment
-genesis_commitment hash = record { block = hash (block_bytes (genesis hash)); root = hash (block_bytes (genesis hash)); context = hash (context_bytes first_context); config = uncut }
+genesis_commitment hash =
+    record {
+      block = hash (block_bytes (genesis hash));
+      root = hash (block_bytes (genesis hash));
+      context = hash (context_bytes first_context);
+      config = uncut;
+    }
 
 -- the bytes of the first block behind its context
 abbrev pub first_rest : Digest32 → List ℕ

@@ -1,5 +1,6 @@
 -- The bytes of each value, in the order of its fields. Numbers are big-endian.
-use Rattle.std.specs.Prelude.{ℕ, ◌+◌, ◌%◌, ◌^◌, ◌==◌, List, [], ◌∷◌, ◌++◌, length, flat_map, if◌then◌else◌}
+use Rattle.std.specs.Prelude.{ℕ, ◌+◌, ◌%◌, ◌^◌, ◌==◌, if◌then◌else◌}
+use Rattle.std.specs.Prelude.{List, [], ◌∷◌, ◌++◌, length, flat_map}
 use Rattle.cw_base.specs.Bytes.{be16, be64, varint}
 use Rattle.cw_base.specs.Config.{config_bytes}
 use Rattle.cw_tree.specs.Formats.{chunk_bytes}
@@ -21,11 +22,13 @@ commitment_bytes c = c.block.0 ++ c.root.0 ++ c.context.0 ++ config_bytes c.conf
 
 -- epoch, view, leader, parent view, parent commitment
 unfoldable pub context_bytes : Context → List ℕ
-context_bytes c = be64 c.epoch ++ be64 c.view ++ be16 c.leader ++ be64 c.parent_view ++ commitment_bytes c.parent
+context_bytes c =
+    be64 c.epoch ++ be64 c.view ++ be16 c.leader ++ be64 c.parent_view ++ commitment_bytes c.parent
 
 -- context, parent digest, height, payload with its length before it
 unfoldable pub block_bytes : Block → List ℕ
-block_bytes b = context_bytes b.context ++ b.parent.0 ++ be64 b.height ++ varint (length b.payload) ++ b.payload
+block_bytes b =
+    context_bytes b.context ++ b.parent.0 ++ be64 b.height ++ varint (length b.payload) ++ b.payload
 
 -- view, parent's view, payload's commitment; the epoch stands before, where it isn't 0
 unfoldable pub proposal_bytes : Proposal → List ℕ
@@ -52,7 +55,8 @@ epoch_tag_bytes first later epoch = if epoch == 0 then first ∷ [] else later �
 -- a tag, and the fields
 unfoldable pub note_bytes : Note → List ℕ
 note_bytes (note.Block c b) = 0 ∷ commitment_bytes c ++ block_bytes b
-note_bytes (note.Verified epoch view c) = epoch_tag_bytes 1 10 epoch ++ be64 view ++ commitment_bytes c
+note_bytes (note.Verified epoch view c) =
+    epoch_tag_bytes 1 10 epoch ++ be64 view ++ commitment_bytes c
 note_bytes (note.Certified p) = epoch_tag_bytes 2 9 p.epoch ++ proposal_bytes p
 note_bytes (note.Vote v) = 3 ∷ vote_bytes v
 note_bytes (note.Cert c) = 4 ∷ cert_bytes c

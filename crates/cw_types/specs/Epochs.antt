@@ -1,11 +1,15 @@
 -- The committees of a cluster: who the members of an epoch are, and which heights it covers.
-use Rattle.std.specs.Prelude.{ℕ, ◌+◌, ◌-◌, ◌*◌, ◌%◌, ◌==◌, ◌&&◌, Bool, true, false, List, [], ◌∷◌, length, Option, Some, None, option_map, option_and_then, unwrap_or, slice_get, position, nat_le, nat_lt, ◌^◌, if◌then◌else◌}
+use Rattle.std.specs.Prelude.{ℕ, ◌+◌, ◌-◌, ◌*◌, ◌%◌, ◌^◌, ◌==◌, nat_le, nat_lt}
+use Rattle.std.specs.Prelude.{Bool, true, false, ◌&&◌, if◌then◌else◌}
+use Rattle.std.specs.Prelude.{List, [], ◌∷◌, length, slice_get, position}
+use Rattle.std.specs.Prelude.{Option, Some, None, option_map, option_and_then, unwrap_or}
 use Rattle.std.specs.List.{list_any, list_all, range_with_len}
 use Rattle.std.specs.Option.{option_or, option_map_or}
 use Rattle.cw_base.specs.Counts.{Counts}
 use Rattle.cw_types.specs.Numbers.{config_for}
 
--- how many members there are, how many heights an epoch covers (none: the first epoch has no end), and the members of each epoch, rising
+-- how many members there are, how many heights an epoch covers (none: the first epoch has no end),
+-- and the members of each epoch, rising
 pub record Epochs : Type 0 where
   pub total : ℕ
   pub span : Option ℕ
@@ -22,15 +26,20 @@ rises_from low (x ∷ xs) = nat_le low x && rises_from (x + 1) xs
 
 -- a committee: at least four members, rising, each below the total
 abbrev pub is_committee : ℕ → List ℕ → Bool
-is_committee total list = nat_le 4 (length list) && rises_from 0 list && list_all (λ i. nat_lt i total) list
+is_committee total list =
+    nat_le 4 (length list) && rises_from 0 list && list_all (λ i. nat_lt i total) list
 
 -- committees that a cluster can have: 1 to 64 lists, and an epoch covers at least one height
 abbrev pub is_sound : Epochs → Bool
-is_sound x = nat_lt 0 (length x.lists) && nat_le (length x.lists) 64 && list_all (is_committee x.total) x.lists && option_map_or (λ span. nat_lt 0 span) x.span true
+is_sound x =
+    nat_lt 0 (length x.lists) && nat_le (length x.lists) 64
+    && list_all (is_committee x.total) x.lists
+    && option_map_or (λ span. nat_lt 0 span) x.span true
 
 -- the list of that number, else the last one
 abbrev pub list_of : List (List ℕ) → ℕ → List ℕ
-list_of lists epoch = unwrap_or (option_or (slice_get lists epoch) (slice_get lists (length lists - 1))) []
+list_of lists epoch =
+    unwrap_or (option_or (slice_get lists epoch) (slice_get lists (length lists - 1))) []
 
 -- the members of an epoch: those of the last list for greater ones
 abbrev pub members_in : Epochs → ℕ → List ℕ

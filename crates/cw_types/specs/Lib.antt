@@ -2,13 +2,9 @@ pub mod Block
 pub mod Commit
 pub mod Encoding
 pub mod Epochs
-pub mod FormatLaws
 pub mod Handoff
-pub mod MessageLaws
-pub mod NoteLaws
 pub mod Numbers
 pub mod Reading
 pub mod Same
-pub mod Sizes
-pub mod TaggedLaws
+pub mod Values
 pub mod Votes

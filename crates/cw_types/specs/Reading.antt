@@ -1,8 +1,11 @@
--- How each value is read at the front of bytes, item by item in the order of its format: the value and the bytes after it, or the first refusal and the bytes that it leaves.
-use Rattle.std.specs.Prelude.{ℕ, zero, suc, ◌-◌, ◌^◌, ◌==◌, Bool, nat_lt, List, [], ◌∷◌, map, Option, Some, None, unwrap_or, Ok, Err, if◌then◌else◌}
+-- How each value is read at the front of bytes, item by item in the order of its format: the value
+-- and the bytes after it, or the first refusal and the bytes that it leaves.
+use Rattle.std.specs.Prelude.{ℕ, zero, suc, ◌-◌, ◌^◌, ◌==◌, Bool, nat_lt, if◌then◌else◌}
+use Rattle.std.specs.Prelude.{List, [], ◌∷◌, map, Option, Some, None, unwrap_or, Ok, Err}
 use Rattle.cw_base.specs.declared.hash.Digest32.{Digest32}
 use Rattle.cw_base.specs.declared.reader.CodecError.TheVariants.{TooLong, Invalid}
-use Rattle.cw_base.specs.Reading.{Reading, ◌>>=◌, byte_at, bytes_at, be16_at, be64_at, varint_at, config_at}
+use Rattle.cw_base.specs.Reading.{Reading, ◌>>=◌, byte_at, bytes_at, be16_at, be64_at}
+use Rattle.cw_base.specs.Reading.{varint_at, config_at}
 use Rattle.cw_base.specs.Counts.{Counts}
 use Rattle.cw_tree.specs.Chunks.{Piece}
 use Rattle.cw_tree.specs.Formats.{chunk_at, widest}
@@ -49,7 +52,16 @@ context_at bytes = do
   leader ← be16_at view.1
   parent_view ← be64_at leader.1
   parent ← commitment_at parent_view.1
-  Ok (record { epoch = epoch.0; view = view.0; leader = leader.0; parent_view = parent_view.0; parent = parent.0 }, parent.1)
+  Ok (
+    record {
+      epoch = epoch.0;
+      view = view.0;
+      leader = leader.0;
+      parent_view = parent_view.0;
+      parent = parent.0;
+    },
+    parent.1,
+  )
 
 -- a height below 2^64 - 1
 unfoldable pub height_at : List ℕ → Reading ℕ
@@ -70,7 +82,10 @@ block_at bytes = do
   parent ← digest_at context.1
   height ← height_at parent.1
   payload ← payload_at height.1
-  Ok (record { context = context.0; parent = parent.0; height = height.0; payload = payload.0 }, payload.1)
+  Ok (
+    record { context = context.0; parent = parent.0; height = height.0; payload = payload.0 },
+    payload.1,
+  )
 
 -- the value of a reading that leaves nothing
 abbrev pub to_the_end : {A : Type 0} → Reading A → Option A
@@ -111,7 +126,8 @@ nullify_at epoch bytes = as_read (vote.Nullify epoch) (be64_at bytes)
 abbrev pub finalize_at : (epoch : ℕ) → List ℕ → Reading Vote
 finalize_at epoch bytes = as_read vote.Finalize (proposal_at epoch bytes)
 
--- what stands behind the tag of a vote. The tags of later epochs are three more, and the epoch follows
+-- what stands behind the tag of a vote. The tags of later epochs are three more, and the epoch
+-- follows
 abbrev pub vote_behind : (tag : ℕ) → List ℕ → Reading Vote
 vote_behind tag bytes =
     if tag == 0 then notarize_at 0 bytes
@@ -151,7 +167,13 @@ cert_at bytes = do
 
 -- a chunk, with its siblings as digests
 abbrev pub with_digests : Piece (List ℕ) → Piece Digest32
-with_digests p = record { shard = p.shard; index = p.index; leaf_count = p.leaf_count; siblings = map (λ content. record { 0 = content }) p.siblings }
+with_digests p =
+    record {
+      shard = p.shard;
+      index = p.index;
+      leaf_count = p.leaf_count;
+      siblings = map (λ content. record { 0 = content }) p.siblings;
+    }
 
 -- a chunk of a config, of a block of at most 1,048,745 bytes
 unfoldable pub shard_at : Counts → List ℕ → Reading (Piece Digest32)

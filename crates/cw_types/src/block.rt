@@ -83,7 +83,7 @@ impl Context {
     /// The context at the front: `Invalid` for a config with a zero, `EndOfBuffer` where it is cut.
     ///
     /// Refused, the reader stands behind the parts that were taken, a zero among them.
-    #[tactic(auto, using(cw_base::specs::Ends::end_of_end), unfolding(crate::specs::Reading::context_at))]
+    #[tactic(auto, using(cw_base::proofs::Ends::end_of_end), unfolding(crate::specs::Reading::context_at))]
     pub fn read(reader: &mut Reader) -> Result<Context, CodecError>
         ensures value { IsRead (λ context. context) result reader.new (context_at reader.old) }
         ensures place { IsEnd reader.old reader.new }
@@ -318,7 +318,7 @@ impl ChainBlock {
     ///
     /// Refused, the reader stands behind the parts that were taken, a refused value among them. For
     /// want of memory it is refused only where a whole block stands there, and all of it is taken.
-    #[tactic(auto, using(cw_base::specs::Ends::end_of_end), unfolding(crate::specs::Reading::block_at))]
+    #[tactic(auto, using(cw_base::proofs::Ends::end_of_end), unfolding(crate::specs::Reading::block_at))]
     pub fn read(alloc: Global, reader: &mut Reader) -> Result<ChainBlock, CodecError>
         ensures value { Gives (λ block. block) result reader.new (block_at reader.old) }
         ensures place { IsEnd reader.old reader.new }
@@ -337,7 +337,7 @@ impl ChainBlock {
 }
 
 // A height below 2^64 - 1.
-#[tactic(auto, using(cw_base::specs::Ends::end_of_end), unfolding(crate::specs::Reading::height_at))]
+#[tactic(auto, using(cw_base::proofs::Ends::end_of_end), unfolding(crate::specs::Reading::height_at))]
 pub(crate) fn read_height(reader: &mut Reader) -> Result<u64, CodecError>
     ensures value { IsRead (λ height. height) result reader.new (height_at reader.old) }
     ensures place { IsEnd reader.old reader.new }
@@ -351,7 +351,7 @@ pub(crate) fn read_height(reader: &mut Reader) -> Result<u64, CodecError>
 }
 
 // A payload behind the number of its bytes.
-#[tactic(auto, using(cw_base::specs::Ends::end_of_end), unfolding(crate::specs::Reading::payload_at))]
+#[tactic(auto, using(cw_base::proofs::Ends::end_of_end), unfolding(crate::specs::Reading::payload_at))]
 fn read_payload(alloc: Global, reader: &mut Reader) -> Result<Payload, CodecError>
     ensures value { Gives (λ payload. payload) result reader.new (payload_at reader.old) }
     ensures place { IsEnd reader.old reader.new }

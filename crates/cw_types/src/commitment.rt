@@ -75,7 +75,7 @@ impl Commitment {
     /// cut.
     ///
     /// Refused, the reader stands behind the parts that were taken, a zero among them.
-    #[tactic(auto, using(cw_base::specs::Ends::end_of_end), unfolding(crate::specs::Reading::commitment_at))]
+    #[tactic(auto, using(cw_base::proofs::Ends::end_of_end), unfolding(crate::specs::Reading::commitment_at))]
     pub fn read(reader: &mut Reader) -> Result<Commitment, CodecError>
         ensures value { IsRead (λ commitment. commitment) result reader.new
             (commitment_at reader.old) }
@@ -104,7 +104,7 @@ pub(crate) fn put_at<const L: usize, const N: usize>(out: &mut [u8; L], at: usiz
 }
 
 // The digest at the front.
-#[tactic(auto, using(cw_base::specs::Ends::end_of_end), unfolding(crate::specs::Reading::digest_at))]
+#[tactic(auto, using(cw_base::proofs::Ends::end_of_end), unfolding(crate::specs::Reading::digest_at))]
 pub(crate) fn read_digest(reader: &mut Reader) -> Result<Digest32, CodecError>
     ensures value { IsRead (λ digest. digest) result reader.new (digest_at reader.old) }
     ensures place { IsEnd reader.old reader.new }

@@ -1,7 +1,7 @@
 //! What a block is to those who agree on it, and a block with its digest.
 
 ghost use Rattle.std.specs.Prelude.{◌≡◌, ◌≤◌, ℕ, List, Option, Some, IfOk, length};
-ghost use Rattle.cw_base.specs.ReadingLaws.{IsBytes};
+ghost use Rattle.cw_base.specs.ReadsBack.{IsBytes};
 ghost use Rattle.cw_types.specs.Encoding.{block_bytes};
 
 use crate::block::{ChainBlock, Context, MAX_BLOCK};
@@ -36,9 +36,10 @@ pub trait Block: Heightable {
     fn is_read_back(&self)
         ensures { read_as (bytes_of self.now) ≡ Some self.now };
 
-    /// A law: bytes that are read as a block are that block's.
-    ghost read_is_written: { (text : List ℕ) (block : Self) → IsBytes text
-        → read_as text ≡ Some block → bytes_of block ≡ text };
+    /// A law, which takes no work: bytes that are read as a block are that block's.
+    fn read_is_written()
+        ensures { (text : List ℕ) (block : Self) → IsBytes text → read_as text ≡ Some block
+            → bytes_of block ≡ text };
 }
 
 /// A block that says where it was proposed.
@@ -121,7 +122,6 @@ impl<H: Hasher<Digest = Digest32>> Block for Digested<H> {
     type Digest = Digest32;
 
     ghost use Rattle.cw_types.specs.Encoding.{block_bytes};
-    ghost use Rattle.cw_types.specs.FormatLaws.{block_found};
     ghost use Rattle.cw_types.specs.Reading.{block_in};
 
     ghost digest_of = { λ block. H.digest_of (block_bytes block) };
@@ -131,8 +131,6 @@ impl<H: Hasher<Digest = Digest32>> Block for Digested<H> {
     ghost bytes_of = { block_bytes };
 
     ghost read_as = { block_in };
-
-    ghost read_is_written = { λ text block bytes read. (block_found text block bytes read).0 };
 
     fn digest(&self) -> Digest32 {
         self.digest
@@ -145,6 +143,8 @@ impl<H: Hasher<Digest = Digest32>> Block for Digested<H> {
     fn is_read_back(&self) {
         block_fits(&self.block);
     }
+
+    fn read_is_written() {}
 }
 
 impl<H: Hasher<Digest = Digest32>> CertifiableBlock for Digested<H> {

@@ -1,7 +1,7 @@
 //! What is written reads back, and what reads is in its format: laws, which take no work.
 
 ghost use Rattle.std.specs.Prelude.{◌≡◌, ◌<◌, ◌≤◌, ◌^◌, ℕ, IsTrue, List, Some, length};
-ghost use Rattle.cw_base.specs.ReadingLaws.{IsBytes, ReadsBack};
+ghost use Rattle.cw_base.specs.ReadsBack.{IsBytes, ReadsBack};
 ghost use Rattle.std.specs.List.{AllByRecursion};
 ghost use Rattle.cw_types.specs.Block.{Block as BlockValue};
 ghost use Rattle.cw_types.specs.Handoff.{IsMapped};
@@ -11,12 +11,10 @@ ghost use Rattle.cw_types.specs.Encoding.{block_bytes, commitment_bytes, context
 ghost use Rattle.cw_types.specs.Encoding.{message_bytes, note_bytes, proposal_bytes, vote_bytes};
 ghost use Rattle.cw_types.specs.Reading.{block_at, block_in, cert_at, commitment_at, context_at};
 ghost use Rattle.cw_types.specs.Reading.{message_of, note_at, proposal_at, vote_at};
-ghost use Rattle.cw_types.specs.FormatLaws.{IsBlock, IsCommitment, IsContext, IsPrefixFree};
-ghost use Rattle.cw_types.specs.FormatLaws.{IsProposal};
-ghost use Rattle.cw_types.specs.MessageLaws.{IsMessage};
-ghost use Rattle.cw_types.specs.NoteLaws.{IsNote, is_storable};
+ghost use Rattle.cw_types.specs.Values.{AreMembers, is_storable, IsBlock, IsCert, IsCommitment};
+ghost use Rattle.cw_types.specs.Values.{IsContext, IsMessage, IsNote, IsPrefixFree, IsProposal};
+ghost use Rattle.cw_types.specs.Values.{IsVote};
 ghost use Rattle.cw_types.specs.declared.message.Message.{Message};
-ghost use Rattle.cw_types.specs.TaggedLaws.{AreMembers, IsCert, IsVote};
 
 use crate::block::{ChainBlock, Context};
 use crate::commitment::Commitment;

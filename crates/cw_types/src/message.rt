@@ -118,7 +118,7 @@ impl Message {
     /// The message that all bytes left are: those that don't read as a message to their end are
     /// junk. The reader is then at its end. The only refusal is `NoMemory`, which leaves it there
     /// too.
-    #[tactic(auto, using(cw_base::specs::Ends::ends))]
+    #[tactic(auto, using(cw_base::proofs::Ends::ends))]
     pub fn read(alloc: Global, reader: &mut Reader) -> Result<Message, CodecError>
         ensures value { Gives (λ message. message) result reader.new (message_at reader.old) }
         ensures place { IsEnd reader.old reader.new }
@@ -141,7 +141,7 @@ impl Message {
 }
 
 // A message at the front.
-#[tactic(auto, using(cw_base::specs::Ends::end_of_end), unfolding(crate::specs::Reading::tagged_message_at))]
+#[tactic(auto, using(cw_base::proofs::Ends::end_of_end), unfolding(crate::specs::Reading::tagged_message_at))]
 fn read_tagged(alloc: Global, reader: &mut Reader) -> Result<Message, CodecError>
     ensures value { Gives (λ message. message) result reader.new (tagged_message_at reader.old) }
     ensures place { IsEnd reader.old reader.new }
@@ -158,7 +158,7 @@ fn read_tagged(alloc: Global, reader: &mut Reader) -> Result<Message, CodecError
 }
 
 // A chunk behind its commitment.
-#[tactic(auto, using(cw_base::specs::Ends::end_of_end))]
+#[tactic(auto, using(cw_base::proofs::Ends::end_of_end))]
 fn read_shard_message(alloc: Global, reader: &mut Reader) -> Result<Message, CodecError>
     ensures value { Gives (λ message. message) result reader.new (shard_message_at reader.old) }
     ensures place { IsEnd reader.old reader.new }
@@ -169,7 +169,7 @@ fn read_shard_message(alloc: Global, reader: &mut Reader) -> Result<Message, Cod
 }
 
 // A chunk of a config, of a block of at most `MAX_BLOCK` bytes.
-#[tactic(auto, using(cw_base::specs::Ends::end_of_end), unfolding(crate::specs::Reading::shard_at))]
+#[tactic(auto, using(cw_base::proofs::Ends::end_of_end), unfolding(crate::specs::Reading::shard_at))]
 fn read_shard(
     alloc: Global,
     reader: &mut Reader,
@@ -182,7 +182,7 @@ fn read_shard(
 }
 
 // A vote behind its signer.
-#[tactic(auto, using(cw_base::specs::Ends::end_of_end))]
+#[tactic(auto, using(cw_base::proofs::Ends::end_of_end))]
 fn read_vote_message(reader: &mut Reader) -> Result<Message, CodecError>
     ensures value { IsRead (λ message. message) result reader.new (vote_message_at reader.old) }
     ensures place { IsEnd reader.old reader.new }
@@ -193,7 +193,7 @@ fn read_vote_message(reader: &mut Reader) -> Result<Message, CodecError>
 }
 
 // Who asks, and for which commitment.
-#[tactic(auto, using(cw_base::specs::Ends::end_of_end))]
+#[tactic(auto, using(cw_base::proofs::Ends::end_of_end))]
 fn read_ask(reader: &mut Reader) -> Result<Message, CodecError>
     ensures value { IsRead (λ message. message) result reader.new (ask_at reader.old) }
     ensures place { IsEnd reader.old reader.new }
@@ -204,7 +204,7 @@ fn read_ask(reader: &mut Reader) -> Result<Message, CodecError>
 }
 
 // Who asks, and for which height.
-#[tactic(auto, using(cw_base::specs::Ends::end_of_end))]
+#[tactic(auto, using(cw_base::proofs::Ends::end_of_end))]
 fn read_ask_height(reader: &mut Reader) -> Result<Message, CodecError>
     ensures value { IsRead (λ message. message) result reader.new (ask_height_at reader.old) }
     ensures place { IsEnd reader.old reader.new }

@@ -124,7 +124,7 @@ impl Note {
     /// Refused, the reader stands behind the parts that were taken, a refused tag or value among
     /// them. For want of memory it is refused only where a whole note stands there, and all of it
     /// is taken.
-    #[tactic(auto, using(cw_base::specs::Ends::end_of_end), unfolding(crate::specs::Reading::note_at))]
+    #[tactic(auto, using(cw_base::proofs::Ends::end_of_end), unfolding(crate::specs::Reading::note_at))]
     pub fn read(alloc: Global, reader: &mut Reader) -> Result<Note, CodecError>
         ensures value { Gives (λ note. note) result reader.new (note_at reader.old) }
         ensures place { IsEnd reader.old reader.new }
@@ -144,7 +144,7 @@ impl Note {
 }
 
 // A note of an epoch above 0, behind its tag.
-#[tactic(auto, using(cw_base::specs::Ends::end_of_end))]
+#[tactic(auto, using(cw_base::proofs::Ends::end_of_end))]
 fn read_later_note(reader: &mut Reader, tag: u8) -> Result<Note, CodecError>
     requires { 7 < tag }
     ensures value { IsRead (λ note. note) result reader.new (note_behind tag reader.old) }
@@ -168,7 +168,7 @@ fn read_later_note(reader: &mut Reader, tag: u8) -> Result<Note, CodecError>
 }
 
 // A block behind its commitment.
-#[tactic(auto, using(cw_base::specs::Ends::end_of_end))]
+#[tactic(auto, using(cw_base::proofs::Ends::end_of_end))]
 fn read_block_note(alloc: Global, reader: &mut Reader) -> Result<Note, CodecError>
     ensures value { Gives (λ note. note) result reader.new (block_note_at reader.old) }
     ensures place { IsEnd reader.old reader.new }
@@ -179,7 +179,7 @@ fn read_block_note(alloc: Global, reader: &mut Reader) -> Result<Note, CodecErro
 }
 
 // The view and the commitment of a block that was proposed in an epoch.
-#[tactic(auto, using(cw_base::specs::Ends::end_of_end))]
+#[tactic(auto, using(cw_base::proofs::Ends::end_of_end))]
 fn read_verified(reader: &mut Reader, epoch: u64) -> Result<Note, CodecError>
     ensures value { IsRead (λ note. note) result reader.new (verified_at epoch reader.old) }
     ensures place { IsEnd reader.old reader.new }
@@ -190,7 +190,7 @@ fn read_verified(reader: &mut Reader, epoch: u64) -> Result<Note, CodecError>
 }
 
 // A proposal of an epoch that is well formed.
-#[tactic(auto, using(cw_base::specs::Ends::end_of_end), unfolding(crate::specs::Reading::ordered_at))]
+#[tactic(auto, using(cw_base::proofs::Ends::end_of_end), unfolding(crate::specs::Reading::ordered_at))]
 fn read_certified(reader: &mut Reader, epoch: u64) -> Result<Note, CodecError>
     ensures value { IsRead (λ note. note) result reader.new (certified_at epoch reader.old) }
     ensures place { IsEnd reader.old reader.new }
@@ -203,7 +203,7 @@ fn read_certified(reader: &mut Reader, epoch: u64) -> Result<Note, CodecError>
 }
 
 // The commitment that an epoch is entered over.
-#[tactic(auto, using(cw_base::specs::Ends::end_of_end))]
+#[tactic(auto, using(cw_base::proofs::Ends::end_of_end))]
 fn read_entered(reader: &mut Reader, epoch: u64) -> Result<Note, CodecError>
     ensures value { IsRead (λ note. note) result reader.new (entered_at epoch reader.old) }
     ensures place { IsEnd reader.old reader.new }
@@ -212,7 +212,7 @@ fn read_entered(reader: &mut Reader, epoch: u64) -> Result<Note, CodecError>
 }
 
 // A vote that is well formed.
-#[tactic(auto, using(cw_base::specs::Ends::end_of_end), unfolding(crate::specs::Reading::formed_vote_at))]
+#[tactic(auto, using(cw_base::proofs::Ends::end_of_end), unfolding(crate::specs::Reading::formed_vote_at))]
 fn read_formed_vote(reader: &mut Reader) -> Result<Vote, CodecError>
     ensures value { IsRead (λ vote. vote) result reader.new (formed_vote_at reader.old) }
     ensures place { IsEnd reader.old reader.new }
@@ -225,7 +225,7 @@ fn read_formed_vote(reader: &mut Reader) -> Result<Vote, CodecError>
 }
 
 // A certificate of a vote that is well formed.
-#[tactic(auto, using(cw_base::specs::Ends::end_of_end))]
+#[tactic(auto, using(cw_base::proofs::Ends::end_of_end))]
 fn read_cert_note(alloc: Global, reader: &mut Reader) -> Result<Note, CodecError>
     ensures value { Gives (λ note. note) result reader.new (cert_note_at reader.old) }
     ensures place { IsEnd reader.old reader.new }

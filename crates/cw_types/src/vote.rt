@@ -85,7 +85,7 @@ impl Proposal {
     /// `EndOfBuffer` where it is cut.
     ///
     /// Refused, the reader stands behind the parts that were taken, a zero among them.
-    #[tactic(auto, using(cw_base::specs::Ends::end_of_end), unfolding(crate::specs::Reading::proposal_at))]
+    #[tactic(auto, using(cw_base::proofs::Ends::end_of_end), unfolding(crate::specs::Reading::proposal_at))]
     pub fn read(reader: &mut Reader, epoch: u64) -> Result<Proposal, CodecError>
         ensures value { IsRead (λ proposal. proposal) result reader.new
             (proposal_at epoch reader.old) }
@@ -189,7 +189,7 @@ impl Vote {
     ///
     /// Refused, the reader stands behind the parts that were taken, a refused tag or value among
     /// them.
-    #[tactic(auto, using(cw_base::specs::Ends::end_of_end), unfolding(crate::specs::Reading::vote_at))]
+    #[tactic(auto, using(cw_base::proofs::Ends::end_of_end), unfolding(crate::specs::Reading::vote_at))]
     pub fn read(reader: &mut Reader) -> Result<Vote, CodecError>
         ensures value { IsRead (λ vote. vote) result reader.new (vote_at reader.old) }
         ensures place { IsEnd reader.old reader.new }
@@ -216,7 +216,7 @@ impl Vote {
 }
 
 // A vote for a proposal of an epoch.
-#[tactic(auto, using(cw_base::specs::Ends::end_of_end))]
+#[tactic(auto, using(cw_base::proofs::Ends::end_of_end))]
 fn read_notarize(reader: &mut Reader, epoch: u64) -> Result<Vote, CodecError>
     ensures value { IsRead (λ vote. vote) result reader.new (notarize_at epoch reader.old) }
     ensures place { IsEnd reader.old reader.new }
@@ -225,7 +225,7 @@ fn read_notarize(reader: &mut Reader, epoch: u64) -> Result<Vote, CodecError>
 }
 
 // A vote to end a view of an epoch.
-#[tactic(auto, using(cw_base::specs::Ends::end_of_end))]
+#[tactic(auto, using(cw_base::proofs::Ends::end_of_end))]
 fn read_nullify(reader: &mut Reader, epoch: u64) -> Result<Vote, CodecError>
     ensures value { IsRead (λ vote. vote) result reader.new (nullify_at epoch reader.old) }
     ensures place { IsEnd reader.old reader.new }
@@ -235,7 +235,7 @@ fn read_nullify(reader: &mut Reader, epoch: u64) -> Result<Vote, CodecError>
 }
 
 // A vote to keep a proposal of an epoch.
-#[tactic(auto, using(cw_base::specs::Ends::end_of_end))]
+#[tactic(auto, using(cw_base::proofs::Ends::end_of_end))]
 fn read_finalize(reader: &mut Reader, epoch: u64) -> Result<Vote, CodecError>
     ensures value { IsRead (λ vote. vote) result reader.new (finalize_at epoch reader.old) }
     ensures place { IsEnd reader.old reader.new }
@@ -244,7 +244,7 @@ fn read_finalize(reader: &mut Reader, epoch: u64) -> Result<Vote, CodecError>
 }
 
 // An epoch above 0.
-#[tactic(auto, using(cw_base::specs::Ends::end_of_end), unfolding(crate::specs::Reading::later_epoch_at))]
+#[tactic(auto, using(cw_base::proofs::Ends::end_of_end), unfolding(crate::specs::Reading::later_epoch_at))]
 pub(crate) fn read_later_epoch(reader: &mut Reader) -> Result<u64, CodecError>
     ensures value { IsRead (λ epoch. epoch) result reader.new (later_epoch_at reader.old) }
     ensures place { IsEnd reader.old reader.new }
@@ -307,7 +307,7 @@ impl Cert {
     /// Refused, the reader stands behind the parts that were taken, a refused tag or value among
     /// them. For want of memory it is refused only where a whole certificate stands there, and all
     /// of it is taken.
-    #[tactic(auto, using(cw_base::specs::Ends::end_of_end), unfolding(crate::specs::Reading::cert_at))]
+    #[tactic(auto, using(cw_base::proofs::Ends::end_of_end), unfolding(crate::specs::Reading::cert_at))]
     pub fn read(alloc: Global, reader: &mut Reader) -> Result<Cert, CodecError>
         ensures value { Gives (λ cert. cert) result reader.new (cert_at reader.old) }
         ensures place { IsEnd reader.old reader.new }
@@ -321,7 +321,7 @@ impl Cert {
 }
 
 // The signers of a vote, behind their number.
-#[tactic(auto, using(cw_base::specs::Ends::end_of_end), unfolding(crate::specs::Reading::signed_at))]
+#[tactic(auto, using(cw_base::proofs::Ends::end_of_end), unfolding(crate::specs::Reading::signed_at))]
 pub(crate) fn read_signed(
     alloc: Global,
     reader: &mut Reader,
@@ -338,7 +338,7 @@ pub(crate) fn read_signed(
 }
 
 // So many members' numbers.
-#[tactic(auto, using(cw_base::specs::Ends::ends))]
+#[tactic(auto, using(cw_base::proofs::Ends::ends))]
 fn read_signers(alloc: Global, reader: &mut Reader, count: u16) -> Result<Items<u16>, CodecError>
     ensures value { Gives (λ signers. signers) result reader.new (signers_at count reader.old) }
     ensures place { IsEnd reader.old reader.new }
@@ -357,7 +357,7 @@ fn read_signers(alloc: Global, reader: &mut Reader, count: u16) -> Result<Items<
 }
 
 // Why so many numbers are not read that there is no memory for: where they are cut, for that.
-#[tactic(auto, using(cw_base::specs::Ends::ends))]
+#[tactic(auto, using(cw_base::proofs::Ends::ends))]
 fn skip_signers(reader: &mut Reader, count: u16) -> CodecError
     ensures value { IsRefused result reader.new (signers_at count reader.old) }
     ensures place { IsEnd reader.old reader.new }

@@ -2,7 +2,7 @@
 
 ghost use Rattle.std.specs.Prelude.{◌≡◌, Err, IfOk, IsErrOf, IsTrue, Ok, map, ℕ};
 ghost use Rattle.std.specs.List.{list_all};
-ghost use Rattle.cw_types.specs.NoteLaws.{is_storable};
+ghost use Rattle.cw_types.specs.Values.{is_storable};
 ghost use Rattle.marshal.specs.Stored.{read_notes};
 
 use crate::frames::read_frames;

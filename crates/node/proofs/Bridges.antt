@@ -1,6 +1,6 @@
 -- Which certificates can be stored.
 use Rattle.std.proofs.Common.{◌≤◌, IsTrue, arith, length}
-use Rattle.cw_types.specs.NoteLaws.{is_storable}
+use Rattle.cw_types.specs.Values.{is_storable}
 use Rattle.cw_types.specs.Votes.{well_formed}
 use Rattle.cw_types.specs.declared.note.Note.{Note}
 use Rattle.cw_types.specs.declared.vote.Cert.{Cert}

@@ -28,7 +28,7 @@ use Rattle.voter.specs.Known.{Known, unknowing, with_note}
 use Rattle.voter.specs.Standing as voter
 use Rattle.std.specs.Prelude.{nat_lt, ◌^◌}
 use Rattle.std.proofs.lemmas.Bool.{and_parts}
-use Rattle.cw_types.specs.NoteLaws.{is_storable}
+use Rattle.cw_types.specs.Values.{is_storable}
 use Rattle.cw_types.specs.Votes.{well_formed}
 use Rattle.note_scans.specs.Countable.{is_countable}
 use Rattle.node.proofs.Noting.{notes_on, no_notes}

@@ -2,7 +2,7 @@
 
 ghost use Rattle.std.specs.Prelude.{◌≡◌, ◌&&◌, ◌<◌, ◌-◌, ◌*◌, IfOk, IfSome, IsTrue, max, nat_le};
 ghost use Rattle.std.specs.Option.{option_map};
-ghost use Rattle.cw_types.specs.NoteLaws.{is_storable};
+ghost use Rattle.cw_types.specs.Values.{is_storable};
 ghost use Rattle.cw_types.specs.declared.note.Note.{Note as NoteValue};
 ghost use Rattle.cw_rules.specs.Accepted.{first_some};
 ghost use Rattle.cw_rules.specs.Held as held_rule;

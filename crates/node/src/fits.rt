@@ -1,7 +1,7 @@
 //! Which block is one for a proposal, and the proposal that is owed a note for it.
 
 ghost use Rattle.std.specs.Prelude.{◌≡◌, ◌&&◌, ◌<◌, ◌-◌, ◌^◌, ◌*◌, IfOk, IfSome, IsTrue};
-ghost use Rattle.cw_types.specs.NoteLaws.{is_storable};
+ghost use Rattle.cw_types.specs.Values.{is_storable};
 ghost use Rattle.cw_rules.specs.Accepted.{first_some};
 ghost use Rattle.cw_rules.specs.Fits as fits_rule;
 ghost use Rattle.cw_rules.specs.Owed as rule;

@@ -2,7 +2,7 @@
 
 ghost use Rattle.std.specs.Prelude.{◌≡◌, ◌<◌, ◌++◌, IfErr, IfOk, IsTrue, OnOk, [], false, true};
 ghost use Rattle.std.specs.List.{list_all};
-ghost use Rattle.cw_types.specs.NoteLaws.{is_storable};
+ghost use Rattle.cw_types.specs.Values.{is_storable};
 ghost use Rattle.voter.specs.Known.{unknowing};
 ghost use Rattle.cw_rules.specs.Step as rule;
 ghost use Rattle.marshal.specs.Stored.{log_of};

@@ -5,7 +5,7 @@ ghost use Rattle.std.specs.Prelude.{IsErrOf, IsTrue, List, None, OnErr, OnOk, So
 ghost use Rattle.std.specs.Prelude.{false, map, true, unwrap_or};
 ghost use Rattle.std.specs.List.{last_or, list_all};
 ghost use Rattle.std.specs.Option.{option_map};
-ghost use Rattle.cw_types.specs.NoteLaws.{is_storable};
+ghost use Rattle.cw_types.specs.Values.{is_storable};
 ghost use Rattle.cw_rules.specs.Accepted.{first_some};
 ghost use Rattle.cw_rules.specs.Direct.{least};
 ghost use Rattle.cw_rules.specs.Held as rule;

@@ -1,7 +1,7 @@
 //! Notes that are written.
 
 ghost use Rattle.std.specs.Prelude.{◌≡◌, ◌∷◌, [], IsTrue, OnOk};
-ghost use Rattle.cw_types.specs.NoteLaws.{is_storable};
+ghost use Rattle.cw_types.specs.Values.{is_storable};
 ghost use Rattle.cw_rules.specs.Step.{marks, settle};
 ghost use Rattle.node.specs.Holding.{knowing, rules_of, state_of};
 ghost use Rattle.node.specs.Noting.{HasNoted};

@@ -2,7 +2,7 @@
 use Rattle.std.proofs.Common.{◌≡◌, ℕ, ◌-◌, ◌^◌, ◌<◌, min, Bool, true, false, filter, List, [], ◌∷◌, Option, Some, None, IfSome, refl, ap, ◌∙◌, arith}
 use Rattle.std.specs.List.{AllByRecursion, filter_map, fold, last_or}
 use Rattle.std.specs.Option.{option_map_or}
-use Rattle.cw_types.specs.NoteLaws.{IsNote}
+use Rattle.cw_types.specs.Values.{IsNote}
 use Rattle.cw_types.specs.declared.note.Note.{Note}
 use Rattle.cw_rules.specs.Direct.{least}
 use Rattle.cw_rules.specs.Held.{acked_height}

@@ -6,7 +6,7 @@ ghost use Rattle.std.specs.List.{AllByRecursion, fold, last_or, list_all, list_a
 ghost use Rattle.std.specs.Option.{is_some};
 ghost use Rattle.cw_rules.specs.Direct.{least};
 ghost use Rattle.cw_rules.specs.Held as rule;
-ghost use Rattle.cw_types.specs.NoteLaws.{IsNote};
+ghost use Rattle.cw_types.specs.Values.{IsNote};
 ghost use Rattle.note_scans.specs.Heights.{greatest_of, is_pending, least_with, next_of};
 
 use cw_types::Note;

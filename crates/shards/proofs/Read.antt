@@ -1,9 +1,9 @@
 -- What is read as a block has that block's bytes.
 use Rattle.std.proofs.Common.{◌≡◌, ℕ, List, Option, None, Some, Result, Ok, Err, IfOk, IfSome, sym}
-use Rattle.cw_base.specs.ReadingLaws.{IsBytes}
+use Rattle.cw_base.specs.ReadsBack.{IsBytes}
 use Rattle.cw_types.specs.Block.{Block}
 use Rattle.cw_types.specs.Encoding.{block_bytes}
-use Rattle.cw_types.specs.FormatLaws.{IsBlock}
+use Rattle.cw_types.specs.Values.{IsBlock}
 use Rattle.cw_types.specs.Reading.{block_in}
 
 pub read_bytes : {E : Type 0} (text : List ℕ) (r : Result (Option Block) E) → ((text : List ℕ) (b : Block) → IsBytes text → block_in text ≡ Some b → (block_bytes b ≡ text) × IsBlock b) → IsBytes text

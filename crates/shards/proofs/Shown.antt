@@ -5,7 +5,7 @@ use Rattle.std.proofs.lemmas.Bool.{cases_Bool}
 use Rattle.std.proofs.lemmas.List.{length-map}
 use Rattle.std.proofs.lemmas.Option.{same_Some}
 use Rattle.cw_base.specs.Config.{same_counts}
-use Rattle.cw_base.specs.Rows.{length-listed, map-listed}
+use Rattle.cw_base.proofs.Listed.{length-listed, map-listed}
 use Rattle.cw_base.specs.Counts.{Counts}
 use Rattle.cw_base.specs.declared.hash.Digest32.{Digest32}
 use Rattle.cw_coding.specs.Layout.{row_at, row_digests}

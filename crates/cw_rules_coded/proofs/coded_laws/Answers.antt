@@ -1,4 +1,4 @@
-use Rattle.cw_types.specs.FormatLaws.{block_again}
+use Rattle.cw_types.proofs.FormatLaws.{block_again}
 use Rattle.cw_rules_coded.proofs.RealCoder.{real_coder}
 use Rattle.cw_rules_coded.proofs.coded_laws.Goals as goal
 

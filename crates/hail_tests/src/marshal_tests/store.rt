@@ -1,7 +1,7 @@
 //! A store with nothing staged, as a user of the writing calls has it.
 
 ghost use Rattle.std.specs.Prelude.{◌≡◌, [], IfOk};
-ghost use Rattle.cw_types.specs.NoteLaws as note_laws;
+ghost use Rattle.cw_types.specs.Values as values;
 ghost use Rattle.cw_types.specs.declared.note.Note.{Note};
 
 use super::blocks::Made;
@@ -179,7 +179,7 @@ impl Store {
 
 // Whether a certificate has a form on the disk.
 fn is_storable(cert: &Cert) -> bool
-    ensures { result ≡ note_laws.is_storable (Note.Cert cert.now) }
+    ensures { result ≡ values.is_storable (Note.Cert cert.now) }
 {
     well_formed(&cert.vote) && cert.signers.len() < 65536
 }

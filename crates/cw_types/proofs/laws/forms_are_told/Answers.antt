@@ -1,8 +1,11 @@
-use Rattle.cw_types.specs.Encoding.{block_bytes, cert_bytes, commitment_bytes, context_bytes, note_bytes, vote_bytes}
+use Rattle.cw_types.specs.Encoding.{block_bytes, cert_bytes, commitment_bytes, context_bytes}
+use Rattle.cw_types.specs.Encoding.{note_bytes, vote_bytes}
 use Rattle.cw_types.specs.Reading.{block_at, cert_at, commitment_at, context_at, note_at, vote_at}
-use Rattle.cw_types.specs.FormatLaws.{IsBlock, IsCommitment, IsContext, block_reads_back, commitment_reads_back, context_reads_back, prefix_free}
-use Rattle.cw_types.specs.NoteLaws.{IsNote, note_reads_back}
-use Rattle.cw_types.specs.TaggedLaws.{IsCert, IsVote, cert_reads_back, vote_reads_back}
+use Rattle.cw_types.specs.Values.{IsBlock, IsCert, IsCommitment, IsContext, IsNote, IsVote}
+use Rattle.cw_types.proofs.FormatLaws.{block_reads_back, commitment_reads_back, context_reads_back}
+use Rattle.cw_types.proofs.FormatLaws.{prefix_free}
+use Rattle.cw_types.proofs.NoteLaws.{note_reads_back}
+use Rattle.cw_types.proofs.TaggedLaws.{cert_reads_back, vote_reads_back}
 use Rattle.cw_types.proofs.laws.forms_are_told.Goals as goal
 
 pub returns : goal.returns

@@ -1,5 +1,5 @@
 use Rattle.std.proofs.Common.{ℕ, suc, ◌^◌, ◌<◌, List, [], ◌∷◌, get_or, arith}
-use Rattle.cw_types.specs.TaggedLaws.{AreMembers}
+use Rattle.cw_types.specs.Values.{AreMembers}
 use Rattle.cw_types.proofs.laws.signers_fit.Goals as goal
 
 each_fits : (xs : List ℕ) → ((i : ℕ) → get_or xs i 0 < 2 ^ 16) → AreMembers xs

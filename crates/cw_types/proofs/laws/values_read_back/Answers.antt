@@ -1,6 +1,7 @@
-use Rattle.cw_types.specs.FormatLaws.{commitment_reads_back, context_reads_back, block_reads_back, proposal_reads_back}
-use Rattle.cw_types.specs.TaggedLaws.{vote_reads_back, cert_reads_back}
-use Rattle.cw_types.specs.NoteLaws.{note_reads_back}
+use Rattle.cw_types.proofs.FormatLaws.{commitment_reads_back, context_reads_back, block_reads_back}
+use Rattle.cw_types.proofs.FormatLaws.{proposal_reads_back}
+use Rattle.cw_types.proofs.TaggedLaws.{vote_reads_back, cert_reads_back}
+use Rattle.cw_types.proofs.NoteLaws.{note_reads_back}
 use Rattle.cw_types.proofs.laws.values_read_back.Goals as goal
 
 pub returns : goal.returns

@@ -1,5 +1,5 @@
 use Rattle.std.proofs.Common.{◌≡◌, ◌+◌, ◌-◌, ◌++◌, ◌∷◌, []}
-use Rattle.cw_base.specs.Ends.{end_of_end}
+use Rattle.cw_base.proofs.Ends.{end_of_end}
 use Rattle.cw_types.specs.Reading.{signers_at}
 use Rattle.cw_types.proofs.SignersRead.{goes_on, ends, refused_all, with_front}
 use Rattle.cw_types.proofs.vote.read_signers.Goals as goal

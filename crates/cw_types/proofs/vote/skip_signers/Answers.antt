@@ -1,4 +1,4 @@
-use Rattle.cw_base.specs.Ends.{end_of_end}
+use Rattle.cw_base.proofs.Ends.{end_of_end}
 use Rattle.cw_types.proofs.SignersRead.{refused_here, refused_more}
 use Rattle.cw_types.proofs.vote.skip_signers.Goals as goal
 

@@ -1,4 +1,4 @@
-use Rattle.cw_base.specs.Ends.{end_of_end}
+use Rattle.cw_base.proofs.Ends.{end_of_end}
 use Rattle.cw_types.proofs.block.Context.read.Goals as goal
 
 pub returns-in_err-parent_view-clause-place : goal.returns-in_err-parent_view-clause-place

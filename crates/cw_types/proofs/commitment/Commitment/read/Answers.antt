@@ -1,4 +1,4 @@
-use Rattle.cw_base.specs.Ends.{end_of_end}
+use Rattle.cw_base.proofs.Ends.{end_of_end}
 use Rattle.cw_types.proofs.commitment.Commitment.read.Goals as goal
 
 pub returns-in_err-config-clause-place : goal.returns-in_err-config-clause-place

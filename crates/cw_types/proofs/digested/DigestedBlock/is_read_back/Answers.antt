@@ -1,4 +1,4 @@
-use Rattle.cw_types.specs.FormatLaws.{block_again}
+use Rattle.cw_types.proofs.FormatLaws.{block_again}
 use Rattle.cw_types.proofs.digested.DigestedBlock.is_read_back.Goals as goal
 
 pub returns : goal.returns

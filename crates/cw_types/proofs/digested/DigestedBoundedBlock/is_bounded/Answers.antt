@@ -1,4 +1,4 @@
-use Rattle.cw_types.specs.Sizes.{block_within}
+use Rattle.cw_types.proofs.Sizes.{block_within}
 use Rattle.cw_types.proofs.digested.DigestedBoundedBlock.is_bounded.Goals as goal
 
 pub returns : goal.returns

@@ -1,5 +1,7 @@
 -- Each value reads back as it was written, and what is read is in its format.
-use Rattle.std.proofs.Common.{◌≡◌, ℕ, ◌-◌, ◌^◌, ◌<◌, ◌≤◌, Bool, true, false, cond, nat_lt, List, [], ◌∷◌, ◌++◌, length, Some, Ok, Err, refl, sym, ap, subst, ◌∙◌, append_assoc, arith}
+use Rattle.std.proofs.Common.{◌≡◌, ℕ, ◌-◌, ◌^◌, ◌<◌, ◌≤◌, Bool, true, false, cond, nat_lt, List, []}
+use Rattle.std.proofs.Common.{◌∷◌, ◌++◌, length, Some, Ok, Err, refl, sym, ap, subst, ◌∙◌}
+use Rattle.std.proofs.Common.{append_assoc, arith}
 use Rattle.std.proofs.lemmas.List.{append-nil}
 use Rattle.std.proofs.lemmas.Bool.{ltb-true, ltb-false, lt-ltb, le-ltb}
 use Rattle.cw_base.specs.declared.hash.Digest32.{Digest32}
@@ -9,26 +11,30 @@ use Rattle.cw_base.specs.Bytes.{be16, be64, varint}
 use Rattle.cw_base.specs.Config.{config_bytes}
 use Rattle.cw_base.specs.Counts.{Counts}
 use Rattle.cw_base.specs.Reading.{Reading, ◌>>=◌, bytes_at, be64_at, varint_at}
-use Rattle.cw_base.specs.ReadingLaws.{ReadsBack, IsBytes, IsBytes-rest, IsConfig, bind_ok, read_is, bytes_read_back, be16_reads_back, be64_reads_back, varint_reads_back, config_reads_back}
+use Rattle.cw_base.specs.ReadsBack.{ReadsBack, IsBytes, IsConfig}
+use Rattle.cw_base.proofs.ReadingLaws.{IsBytes-rest, bind_ok, read_is, bytes_read_back, be16_reads_back, be64_reads_back, varint_reads_back, config_reads_back}
 use Rattle.cw_types.specs.Block.{Block}
 use Rattle.cw_types.specs.Encoding.{commitment_bytes, context_bytes, block_bytes, proposal_bytes}
-use Rattle.cw_types.specs.Reading.{valid_if, as_read, digest_at, commitment_at, context_at, height_at, payload_at, block_at, block_in, to_the_end, proposal_at, later_epoch_at}
+use Rattle.cw_types.specs.Reading.{valid_if, as_read, digest_at, commitment_at, context_at}
+use Rattle.cw_types.specs.Reading.{height_at, payload_at, block_at, block_in, to_the_end}
+use Rattle.cw_types.specs.Reading.{proposal_at, later_epoch_at}
+use Rattle.cw_types.specs.Values.{IsBlock, IsCommitment, IsContext, IsDigest, IsHeight}
+use Rattle.cw_types.specs.Values.{IsLaterEpoch, IsPayload, IsPrefixFree, IsProposal}
 use Rattle.cw_types.specs.declared.commitment.Commitment.{Commitment}
 use Rattle.cw_types.specs.declared.block.Context.{Context}
 use Rattle.cw_types.specs.declared.vote.Proposal.{Proposal}
 
--- no form of a value begins that of another, whatever follows
-abbrev pub IsPrefixFree : {A : Type 0} → (A → List ℕ) → (A → Type 0) → Type 0
-IsPrefixFree {A} format fits = (x y : A) (after behind : List ℕ) → fits x → fits y → format x ++ after ≡ format y ++ behind → (x ≡ y) × (after ≡ behind)
-
 -- what reads back is told by its bytes
-pub prefix_free : {A : Type 0} (f : A → List ℕ) (P : A → Type 0) (r : List ℕ → Reading A) → ReadsBack f P r → IsPrefixFree f P
+pub prefix_free : {A : Type 0} (f : A → List ℕ) (P : A → Type 0) (r : List ℕ → Reading A)
+    → ReadsBack f P r → IsPrefixFree f P
 prefix_free f P r h x y after behind one other same = read_is (x, after) (y, behind) (sym (h.again x after one) ∙ ap r same ∙ h.again y behind other)
 
 -- ---- how formats are put together
 
 -- a format in other words
-pub alike : {A : Type 0} (f g : A → List ℕ) (P Q : A → Type 0) (r : List ℕ → Reading A) → ((x : A) → P x → f x ≡ g x) → ((x : A) → P x → Q x) → ((x : A) → Q x → P x) → ReadsBack f P r → ReadsBack g Q r
+pub alike : {A : Type 0} (f g : A → List ℕ) (P Q : A → Type 0) (r : List ℕ → Reading A)
+    → ((x : A) → P x → f x ≡ g x) → ((x : A) → P x → Q x) → ((x : A) → Q x → P x) → ReadsBack f P r
+    → ReadsBack g Q r
 alike f g P Q r same to from h = record {
   found = λ bytes rest x fits e. let y = h.found bytes rest x fits e in (y.0 ∙ ap (λ front. front ++ rest) (same x y.1), to x y.1);
   again = λ x rest q. ap (λ front. r (front ++ rest)) (sym (same x (from x q))) ∙ h.again x rest (from x q);
@@ -36,11 +42,13 @@ alike f g P Q r same to from h = record {
 
 -- a part, and what is read behind it
 pub behind : {A D : Type 0} (f : A → List ℕ) (P : A → Type 0) (r : List ℕ → Reading A) (part : D → A) (tail : D → List ℕ) (S : A → D → Type 0) (k : A × List ℕ → Reading D)
-    → ((a : A) (d : D) → S a d → part d ≡ a) → ReadsBack f P r → ((a : A) → P a → ReadsBack tail (S a) (λ bytes. k (a, bytes)))
+    → ((a : A) (d : D) → S a d → part d ≡ a) → ReadsBack f P r
+    → ((a : A) → P a → ReadsBack tail (S a) (λ bytes. k (a, bytes)))
     → ReadsBack (λ d. f (part d) ++ tail d) (λ d. P (part d) × S (part d) d) (λ bytes. r bytes >>= k)
 behind {A = A} {D = D} f P r part tail S k is front rest_of = record { found = found; again = again }
   where
-    found : (bytes rest : List ℕ) (d : D) → IsBytes bytes → r bytes >>= k ≡ Ok (d, rest) → (bytes ≡ f (part d) ++ tail d ++ rest) × (P (part d) × S (part d) d)
+    found : (bytes rest : List ℕ) (d : D) → IsBytes bytes → r bytes >>= k ≡ Ok (d, rest)
+        → (bytes ≡ f (part d) ++ tail d ++ rest) × (P (part d) × S (part d) d)
     found bytes rest d fits e =
         let a = bind_ok (r bytes) k (d, rest) e in
         let first = front.found bytes a.0.1 a.0.0 fits a.1 in
@@ -48,7 +56,8 @@ behind {A = A} {D = D} f P r part tail S k is front rest_of = record { found = f
         let parts : bytes ≡ f a.0.0 ++ tail d ++ rest = first.0 ∙ ap (λ (ys : List ℕ). f a.0.0 ++ ys) second.0 ∙ sym (append_assoc (f a.0.0) (tail d) rest) in
         subst (λ (x : A). (bytes ≡ f x ++ tail d ++ rest) × (P x × S x d)) (sym (is a.0.0 d second.1)) (parts, (first.1, second.1))
 
-    again : (d : D) (rest : List ℕ) → P (part d) × S (part d) d → r (f (part d) ++ tail d ++ rest) >>= k ≡ Ok (d, rest)
+    again : (d : D) (rest : List ℕ) → P (part d) × S (part d) d
+        → r (f (part d) ++ tail d ++ rest) >>= k ≡ Ok (d, rest)
     again d rest fits =
         ap (λ bytes. r bytes >>= k) (append_assoc (f (part d)) (tail d) rest)
         ∙ ap (λ read. read >>= k) (front.again (part d) (tail d ++ rest) fits.0) ∙ (rest_of (part d) fits.0).again d rest fits.1
@@ -62,15 +71,12 @@ made d = record {
 
 -- ---- commitments and contexts
 
--- thirty-two bytes
-abbrev pub IsDigest : Digest32 → Type 0
-IsDigest d = length d.0 ≡ 32
-
 abbrev digest_of : List ℕ → Digest32
 digest_of content = record { 0 = content }
 
 -- what was read, seen as another value
-pub as_ok : {A B : Type 0} (make : A → B) (read : Reading A) (y : B × List ℕ) → as_read make read ≡ Ok y → (x : A × List ℕ) × (read ≡ Ok x) × (make x.0 ≡ y.0) × (x.1 ≡ y.1)
+pub as_ok : {A B : Type 0} (make : A → B) (read : Reading A) (y : B × List ℕ)
+    → as_read make read ≡ Ok y → (x : A × List ℕ) × (read ≡ Ok x) × (make x.0 ≡ y.0) × (x.1 ≡ y.1)
 as_ok make (Ok x) y e = let is = read_is (make x.0, x.1) y e in (x, refl, is.0, is.1)
 as_ok make (Err d) y e = absurd cc
 
@@ -78,7 +84,8 @@ pub digest_reads_back : ReadsBack (λ d. d.0) IsDigest digest_at
 unfolding digest_at
 digest_reads_back = record { found = found; again = again }
   where
-    found : (bytes rest : List ℕ) (d : Digest32) → IsBytes bytes → as_read digest_of (bytes_at 32 bytes) ≡ Ok (d, rest) → (bytes ≡ d.0 ++ rest) × IsDigest d
+    found : (bytes rest : List ℕ) (d : Digest32) → IsBytes bytes
+        → as_read digest_of (bytes_at 32 bytes) ≡ Ok (d, rest) → (bytes ≡ d.0 ++ rest) × IsDigest d
     found bytes rest d fits e =
         let a = as_ok digest_of (bytes_at 32 bytes) (d, rest) e in
         let first = (bytes_read_back 32).found bytes a.0.1 a.0.0 fits a.1 in
@@ -86,15 +93,9 @@ digest_reads_back = record { found = found; again = again }
         let left : a.0.1 ≡ rest = a.3 in
         (first.0 ∙ ap (λ xs. xs ++ a.0.1) is ∙ ap (λ xs. d.0 ++ xs) left, subst (λ (xs : List ℕ). length xs ≡ 32) is first.1)
 
-    again : (d : Digest32) (rest : List ℕ) → IsDigest d → as_read digest_of (bytes_at 32 (d.0 ++ rest)) ≡ Ok (d, rest)
+    again : (d : Digest32) (rest : List ℕ) → IsDigest d
+        → as_read digest_of (bytes_at 32 (d.0 ++ rest)) ≡ Ok (d, rest)
     again d rest fits = ap (as_read digest_of) ((bytes_read_back 32).again d.0 rest fits)
-
--- a commitment of digests and a config
-pub record IsCommitment (c : Commitment) : Type 0 where
-  pub block : IsDigest c.block
-  pub root : IsDigest c.root
-  pub context : IsDigest c.context
-  pub config : IsConfig c.config
 
 abbrev commitment_of : Digest32 → Digest32 → Digest32 → Counts → Commitment
 commitment_of block root context config = record { block = block; root = root; context = context; config = config }
@@ -117,7 +118,8 @@ commitment_reads_back = alike _ _ _ _ commitment_at regrouped to from (
     at_block : Digest32 → Commitment → Type 0
     at_block block c = IsDigest c.root × at_root block c.root c
 
-    regrouped : (c : Commitment) → IsDigest c.block × at_block c.block c → c.block.0 ++ (c.root.0 ++ (c.context.0 ++ (config_bytes c.config ++ []))) ≡ c.block.0 ++ c.root.0 ++ c.context.0 ++ config_bytes c.config
+    regrouped : (c : Commitment) → IsDigest c.block × at_block c.block c
+        → c.block.0 ++ (c.root.0 ++ (c.context.0 ++ (config_bytes c.config ++ []))) ≡ c.block.0 ++ c.root.0 ++ c.context.0 ++ config_bytes c.config
     regrouped c h = simp (append_assoc, append-nil)
 
     to : (c : Commitment) → IsDigest c.block × at_block c.block c → IsCommitment c
@@ -125,14 +127,6 @@ commitment_reads_back = alike _ _ _ _ commitment_at regrouped to from (
 
     from : (c : Commitment) → IsCommitment c → IsDigest c.block × at_block c.block c
     from c fits = (fits.block, (fits.root, (fits.context, (fits.config, refl))))
-
--- a context of numbers and a commitment
-pub record IsContext (c : Context) : Type 0 where
-  pub epoch : c.epoch < 2 ^ 64
-  pub view : c.view < 2 ^ 64
-  pub leader : c.leader < 2 ^ 16
-  pub parent_view : c.parent_view < 2 ^ 64
-  pub parent : IsCommitment c.parent
 
 abbrev context_of : ℕ → ℕ → ℕ → ℕ → Commitment → Context
 context_of epoch view leader parent_view parent = record { epoch = epoch; view = view; leader = leader; parent_view = parent_view; parent = parent }
@@ -172,15 +166,20 @@ context_reads_back = alike _ _ _ _ context_at regrouped to from (
 -- ---- blocks
 
 -- what was read, where it passes a test
-valid_ok : {A : Type 0} (passes : Bool) (x y : A × List ℕ) → valid_if passes x ≡ Ok y → (passes ≡ true) × (x ≡ y)
+valid_ok : {A : Type 0} (passes : Bool) (x y : A × List ℕ) → valid_if passes x ≡ Ok y
+    → (passes ≡ true) × (x ≡ y)
 valid_ok true x y e = (refl, cc)
 valid_ok false x y e = absurd cc
 
 -- a format of the values that pass a test
-pub tested : {A : Type 0} (f : A → List ℕ) (P : A → Type 0) (r : List ℕ → Reading A) (test : A → Bool) → ReadsBack f P r → ReadsBack f (λ x. P x × (test x ≡ true)) (λ bytes. r bytes >>= λ x. valid_if (test x.0) x)
+pub tested : {A : Type 0} (f : A → List ℕ) (P : A → Type 0) (r : List ℕ → Reading A) (test : A → Bool)
+    → ReadsBack f P r
+    → ReadsBack f (λ x. P x × (test x ≡ true)) (λ bytes. r bytes >>= λ x. valid_if (test x.0) x)
 tested {A = A} f P r test h = record { found = found; again = again }
   where
-    found : (bytes rest : List ℕ) (x : A) → IsBytes bytes → r bytes >>= (λ x. valid_if (test x.0) x) ≡ Ok (x, rest) → (bytes ≡ f x ++ rest) × (P x × (test x ≡ true))
+    found : (bytes rest : List ℕ) (x : A) → IsBytes bytes
+        → r bytes >>= (λ x. valid_if (test x.0) x) ≡ Ok (x, rest)
+        → (bytes ≡ f x ++ rest) × (P x × (test x ≡ true))
     found bytes rest x fits e =
         let a = bind_ok (r bytes) (λ x. valid_if (test x.0) x) (x, rest) e in
         let v = valid_ok (test a.0.0) a.0 (x, rest) a.2 in
@@ -188,20 +187,13 @@ tested {A = A} f P r test h = record { found = found; again = again }
         let first = h.found bytes rest x fits (a.1 ∙ ap (λ (p : A × List ℕ). let z : Reading A = Ok p in z) v.1) in
         (first.0, (first.1, ap test (sym value) ∙ v.0))
 
-    again : (x : A) (rest : List ℕ) → P x × (test x ≡ true) → r (f x ++ rest) >>= (λ x. valid_if (test x.0) x) ≡ Ok (x, rest)
+    again : (x : A) (rest : List ℕ) → P x × (test x ≡ true)
+        → r (f x ++ rest) >>= (λ x. valid_if (test x.0) x) ≡ Ok (x, rest)
     again x rest fits = rw (h.again x rest fits.0, fits.1) refl
-
--- a height that a block may have
-abbrev pub IsHeight : ℕ → Type 0
-IsHeight height = height < 2 ^ 64 - 1
 
 pub height_reads_back : ReadsBack be64 IsHeight height_at
 unfolding height_at
 height_reads_back = alike _ _ _ _ height_at (λ n h. refl) (λ n h. ltb-true n (2 ^ 64 - 1) h.1) (λ n h. (omega arith, lt-ltb n (2 ^ 64 - 1) h)) (tested be64 (λ n. n < 2 ^ 64) be64_at (λ n. nat_lt n (2 ^ 64 - 1)) be64_reads_back)
-
--- a payload that a block may have
-abbrev pub IsPayload : List ℕ → Type 0
-IsPayload payload = length payload ≤ 1048576
 
 abbrev payload_bytes : List ℕ → List ℕ
 payload_bytes payload = varint (length payload) ++ payload
@@ -210,7 +202,8 @@ abbrev bounded : ℕ × List ℕ → Reading (List ℕ)
 bounded count = cond (nat_lt 1048576 count.0) (Err (TooLong, count.1)) (bytes_at count.0 count.1)
 
 -- a test behind which more is read
-guard_then : {A : Type 0} (b : Bool) (d : CodecError × List ℕ) (r : Reading A) (y : A × List ℕ) → cond b (Err d) r ≡ Ok y → (b ≡ false) × (r ≡ Ok y)
+guard_then : {A : Type 0} (b : Bool) (d : CodecError × List ℕ) (r : Reading A) (y : A × List ℕ)
+    → cond b (Err d) r ≡ Ok y → (b ≡ false) × (r ≡ Ok y)
 guard_then true d r y e = absurd cc
 guard_then false d r y e = (refl, e)
 
@@ -218,7 +211,9 @@ payload_reads_back : ReadsBack payload_bytes IsPayload payload_at
 unfolding payload_at
 payload_reads_back = record { found = found; again = again }
   where
-    found : (bytes rest payload : List ℕ) → IsBytes bytes → varint_at bytes >>= bounded ≡ Ok (payload, rest) → (bytes ≡ varint (length payload) ++ payload ++ rest) × IsPayload payload
+    found : (bytes rest payload : List ℕ) → IsBytes bytes
+        → varint_at bytes >>= bounded ≡ Ok (payload, rest)
+        → (bytes ≡ varint (length payload) ++ payload ++ rest) × IsPayload payload
     found bytes rest payload fits e =
         let a = bind_ok (varint_at bytes) bounded (payload, rest) e in
         let count = a.0 in
@@ -231,19 +226,13 @@ payload_reads_back = record { found = found; again = again }
           omega arith,
         )
 
-    again : (payload rest : List ℕ) → IsPayload payload → varint_at (varint (length payload) ++ payload ++ rest) >>= bounded ≡ Ok (payload, rest)
+    again : (payload rest : List ℕ) → IsPayload payload
+        → varint_at (varint (length payload) ++ payload ++ rest) >>= bounded ≡ Ok (payload, rest)
     again payload rest fits =
         let short : length payload < 2 ^ 32 = omega arith in
         let within : nat_lt 1048576 (length payload) ≡ false = le-ltb 1048576 (length payload) fits in
         ap (λ bytes. varint_at bytes >>= bounded) (append_assoc (varint (length payload)) payload rest)
         ∙ rw (varint_reads_back.again (length payload) (payload ++ rest) short, within) ((bytes_read_back (length payload)).again payload rest refl)
-
--- a block that can be
-pub record IsBlock (b : Block) : Type 0 where
-  pub context : IsContext b.context
-  pub parent : IsDigest b.parent
-  pub height : IsHeight b.height
-  pub payload : IsPayload b.payload
 
 abbrev the_block : Context → Digest32 → ℕ → List ℕ → Block
 the_block context parent height payload = record { context = context; parent = parent; height = height; payload = payload }
@@ -283,7 +272,8 @@ ends (Ok (y, b ∷ rest)) x e = absurd cc
 ends (Err d) x e = absurd cc
 
 -- a text that is a block's is that block's bytes
-pub block_found : (text : List ℕ) (b : Block) → IsBytes text → block_in text ≡ Some b → (block_bytes b ≡ text) × IsBlock b
+pub block_found : (text : List ℕ) (b : Block) → IsBytes text → block_in text ≡ Some b
+    → (block_bytes b ≡ text) × IsBlock b
 unfolding block_in
 block_found text b fits e =
     let h = block_reads_back.found text [] b fits (ends (block_at text) b e) in
@@ -297,17 +287,11 @@ block_again b fits =
 
 -- ---- proposals
 
--- a proposal of an epoch
-pub record IsProposal (e : ℕ) (p : Proposal) : Type 0 where
-  pub epoch : p.epoch ≡ e
-  pub view : p.view < 2 ^ 64
-  pub parent : p.parent < 2 ^ 64
-  pub payload : IsCommitment p.payload
-
 abbrev proposal_of : ℕ → ℕ → ℕ → Commitment → Proposal
 proposal_of epoch view parent payload = record { epoch = epoch; view = view; parent = parent; payload = payload }
 
-pub proposal_reads_back : (epoch : ℕ) → ReadsBack proposal_bytes (IsProposal epoch) (proposal_at epoch)
+pub proposal_reads_back : (epoch : ℕ)
+    → ReadsBack proposal_bytes (IsProposal epoch) (proposal_at epoch)
 unfolding proposal_bytes proposal_at
 proposal_reads_back epoch = alike _ _ _ _ (proposal_at epoch) regrouped to from (
     behind _ _ _ (λ p. p.view) _ at_view _ (λ a d (parent, (payload, is)). ap (λ x. x.view) is) be64_reads_back λ view first.
@@ -321,7 +305,8 @@ proposal_reads_back epoch = alike _ _ _ _ (proposal_at epoch) regrouped to from 
     at_view : ℕ → Proposal → Type 0
     at_view view p = (p.parent < 2 ^ 64) × at_parent view p.parent p
 
-    regrouped : (p : Proposal) → (p.view < 2 ^ 64) × at_view p.view p → be64 p.view ++ (be64 p.parent ++ (commitment_bytes p.payload ++ [])) ≡ be64 p.view ++ be64 p.parent ++ commitment_bytes p.payload
+    regrouped : (p : Proposal) → (p.view < 2 ^ 64) × at_view p.view p
+        → be64 p.view ++ (be64 p.parent ++ (commitment_bytes p.payload ++ [])) ≡ be64 p.view ++ be64 p.parent ++ commitment_bytes p.payload
     regrouped p h = simp (append_assoc, append-nil)
 
     to : (p : Proposal) → (p.view < 2 ^ 64) × at_view p.view p → IsProposal epoch p
@@ -329,10 +314,6 @@ proposal_reads_back epoch = alike _ _ _ _ (proposal_at epoch) regrouped to from 
 
     from : (p : Proposal) → IsProposal epoch p → (p.view < 2 ^ 64) × at_view p.view p
     from p fits = (fits.view, (fits.parent, (fits.payload, ap (λ x. proposal_of x p.view p.parent p.payload) fits.epoch)))
-
--- an epoch above 0
-abbrev pub IsLaterEpoch : ℕ → Type 0
-IsLaterEpoch epoch = (0 < epoch) × (epoch < 2 ^ 64)
 
 pub later_epoch_reads_back : ReadsBack be64 IsLaterEpoch later_epoch_at
 unfolding later_epoch_at

@@ -1,5 +1,8 @@
--- How many bytes a block has: 126 of its context, 32 of its parent's digest, 8 of its height, at most 3 of its payload's length, and at most 1,048,576 of its payload.
-use Rattle.std.proofs.Common.{◌≡◌, ℕ, zero, suc, ◌+◌, ◌/◌, ◌%◌, ◌^◌, ◌<◌, ◌≤◌, Bool, true, false, cond, nat_lt, List, [], ◌∷◌, ◌++◌, length, refl, ap, arith, length-append}
+-- How many bytes a block has: 126 of its context, 32 of its parent's digest, 8 of its height, at
+-- most 3 of its payload's length, and at most 1,048,576 of its payload.
+use Rattle.std.proofs.Common.{◌≡◌, ℕ, zero, suc, ◌+◌, ◌/◌, ◌%◌, ◌^◌, ◌<◌, ◌≤◌, Bool, true, false}
+use Rattle.std.proofs.Common.{cond, nat_lt, List, [], ◌∷◌, ◌++◌, length, refl, ap, arith}
+use Rattle.std.proofs.Common.{length-append}
 use Rattle.std.proofs.lemmas.Bool.{ltb-false}
 use Rattle.cw_base.specs.Bytes.{be16, be64, varint, varint_within}
 use Rattle.cw_base.specs.Config.{config_bytes}
@@ -7,7 +10,7 @@ use Rattle.cw_types.specs.Block.{Block}
 use Rattle.cw_types.specs.declared.block.Context.{Context}
 use Rattle.cw_types.specs.declared.commitment.Commitment.{Commitment}
 use Rattle.cw_types.specs.Encoding.{commitment_bytes, context_bytes, block_bytes}
-use Rattle.cw_types.specs.FormatLaws.{IsCommitment, IsContext, IsBlock}
+use Rattle.cw_types.specs.Values.{IsBlock, IsCommitment, IsContext}
 
 length-be16 : (n : ℕ) → length (be16 n) ≡ 2
 unfolding be16
@@ -22,12 +25,14 @@ varint_short : (more fuel n : ℕ) → n < 128 ^ suc more → length (varint_wit
 varint_short more zero n small = omega arith
 varint_short zero (suc fuel) n small = go (nat_lt n 128) refl
   where
-    go : (t : Bool) → nat_lt n 128 ≡ t → length (cond t (n ∷ []) ((n % 128 + 128) ∷ varint_within fuel (n / 128))) ≤ 1
+    go : (t : Bool) → nat_lt n 128 ≡ t
+        → length (cond t (n ∷ []) ((n % 128 + 128) ∷ varint_within fuel (n / 128))) ≤ 1
     go true is = omega arith
     go false is = absurd (let large : 128 ≤ n = ltb-false n 128 is in omega arith)
 varint_short (suc more) (suc fuel) n small = go (nat_lt n 128) (varint_short more fuel (n / 128) (omega arith))
   where
-    go : (t : Bool) → length (varint_within fuel (n / 128)) ≤ suc more → length (cond t (n ∷ []) ((n % 128 + 128) ∷ varint_within fuel (n / 128))) ≤ suc (suc more)
+    go : (t : Bool) → length (varint_within fuel (n / 128)) ≤ suc more
+        → length (cond t (n ∷ []) ((n % 128 + 128) ∷ varint_within fuel (n / 128))) ≤ suc (suc more)
     go true h = omega arith
     go false h = omega arith
 
@@ -71,7 +76,8 @@ length-context c fits =
       length-commitment c.parent fits.parent,
     )
 
-length-block : (b : Block) → IsBlock b → length (block_bytes b) ≡ 166 + length (varint (length b.payload)) + length b.payload
+length-block : (b : Block) → IsBlock b
+    → length (block_bytes b) ≡ 166 + length (varint (length b.payload)) + length b.payload
 unfolding block_bytes
 length-block b fits =
     let front : List ℕ = context_bytes b.context ++ b.parent.0 in
@@ -92,5 +98,6 @@ pub block_within : (b : Block) → IsBlock b → length (block_bytes b) ≤ 1048
 block_within b fits = omega (arith, length-block b fits, length-varint (length b.payload) fits.payload, fits.payload)
 
 -- a block with the longest payload has as many
-pub block_reaches : (b : Block) → IsBlock b → length b.payload ≡ 1048576 → length (block_bytes b) ≡ 1048745
+pub block_reaches : (b : Block) → IsBlock b → length b.payload ≡ 1048576
+    → length (block_bytes b) ≡ 1048745
 block_reaches b fits full = omega (arith, length-block b fits, ap (λ n. length (varint n)) full, length-greatest, full)

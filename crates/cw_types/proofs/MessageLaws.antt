@@ -1,19 +1,27 @@
 -- Messages read back as they were written, and what is read is in its format.
-use Rattle.std.proofs.Common.{◌≡◌, ℕ, ◌^◌, ◌<◌, List, [], ◌∷◌, ◌++◌, map, Ok, Err, None, refl, sym, ap, subst, ◌∙◌, inl, inr}
+use Rattle.std.proofs.Common.{◌≡◌, ℕ, ◌^◌, ◌<◌, List, [], ◌∷◌, ◌++◌, map, Ok, Err, None, refl, sym}
+use Rattle.std.proofs.Common.{ap, subst, ◌∙◌, inl, inr}
 use Rattle.std.proofs.lemmas.List.{append-nil}
 use Rattle.cw_base.specs.declared.hash.Digest32.{Digest32}
 use Rattle.cw_base.specs.Bytes.{be16, be64}
 use Rattle.cw_base.specs.Reading.{Reading, byte_at, be16_at, be64_at}
-use Rattle.cw_base.specs.ReadingLaws.{ReadsBack, IsBytes, IsBytes-rest, bind_ok, byte_reads_back, be16_reads_back, be64_reads_back}
+use Rattle.cw_base.specs.ReadsBack.{ReadsBack, IsBytes}
+use Rattle.cw_base.proofs.ReadingLaws.{IsBytes-rest, bind_ok, byte_reads_back, be16_reads_back, be64_reads_back}
 use Rattle.cw_base.specs.Counts.{Counts}
 use Rattle.cw_tree.specs.Chunks.{Piece}
 use Rattle.cw_tree.specs.Formats.{chunk_at, chunk_bytes, piece_of_bytes, widest}
 use Rattle.cw_tree.specs.Fits.{FitsChunk}
 use Rattle.cw_tree.proofs.FormatLaws.{chunk_reads_back, chunk_bytes_same}
-use Rattle.cw_types.specs.Encoding.{block_bytes, cert_bytes, commitment_bytes, message_bytes, vote_bytes}
-use Rattle.cw_types.specs.Reading.{as_read, block_at, cert_at, commitment_at, message_behind, message_of, shard_at, tagged_message_at, to_the_end, vote_at, with_digests}
-use Rattle.cw_types.specs.FormatLaws.{as_ok, IsBlock, IsCommitment, block_reads_back, commitment_reads_back}
-use Rattle.cw_types.specs.TaggedLaws.{IsCert, IsForm, IsVote, cert_reads_back, form_again, form_found, pair_at, pair_reads_back, paired, pick, vote_reads_back}
+use Rattle.cw_types.specs.Encoding.{block_bytes, cert_bytes, commitment_bytes, message_bytes}
+use Rattle.cw_types.specs.Encoding.{vote_bytes}
+use Rattle.cw_types.specs.Reading.{as_read, block_at, cert_at, commitment_at, message_behind}
+use Rattle.cw_types.specs.Reading.{message_of, shard_at, tagged_message_at, to_the_end, vote_at}
+use Rattle.cw_types.specs.Reading.{with_digests}
+use Rattle.cw_types.specs.Values.{IsBlock, IsCert, IsCommitment, IsMember, IsMessage, IsShard}
+use Rattle.cw_types.specs.Values.{IsVote}
+use Rattle.cw_types.proofs.FormatLaws.{as_ok, block_reads_back, commitment_reads_back}
+use Rattle.cw_types.proofs.TaggedLaws.{IsForm, cert_reads_back, form_again, form_found, pair_at}
+use Rattle.cw_types.proofs.TaggedLaws.{pair_reads_back, paired, pick, vote_reads_back}
 use Rattle.cw_types.specs.declared.commitment.Commitment.{Commitment}
 use Rattle.cw_types.specs.declared.message.Message.{Message}
 use Rattle.cw_types.specs.declared.message.Message.TheVariants as message
@@ -42,18 +50,17 @@ contents_back : (p : Piece (List ℕ)) → piece_of_bytes content (with_digests 
 contents_back p =
     ap (λ (ds : List (List ℕ)). let q : Piece (List ℕ) = record { shard = p.shard; index = p.index; leaf_count = p.leaf_count; siblings = ds } in q) (contents_of_digests p.siblings)
 
--- a chunk of a config whose shard is no wider than those of the longest block, and whose digests have thirty-two bytes
-abbrev pub IsShard : Counts → Piece Digest32 → Type 0
-IsShard config p = FitsChunk 32 (widest config.minimum 1048745) (piece_of_bytes (λ d. d.0) p)
-
-shard_reads_back : (config : Counts) → ReadsBack (chunk_bytes content) (IsShard config) (shard_at config)
+shard_reads_back : (config : Counts)
+    → ReadsBack (chunk_bytes content) (IsShard config) (shard_at config)
 unfolding shard_at
 shard_reads_back config = record { found = found; again = again }
   where
     bound : ℕ
     bound = widest config.minimum 1048745
 
-    found : (bytes rest : List ℕ) (p : Piece Digest32) → IsBytes bytes → as_read with_digests (chunk_at 32 (widest config.minimum 1048745) bytes) ≡ Ok (p, rest) → (bytes ≡ chunk_bytes content p ++ rest) × IsShard config p
+    found : (bytes rest : List ℕ) (p : Piece Digest32) → IsBytes bytes
+        → as_read with_digests (chunk_at 32 (widest config.minimum 1048745) bytes) ≡ Ok (p, rest)
+        → (bytes ≡ chunk_bytes content p ++ rest) × IsShard config p
     found bytes rest p fits e =
         let a = as_ok with_digests (chunk_at 32 (widest config.minimum 1048745) bytes) (p, rest) e in
         let h = (chunk_reads_back 32 (widest config.minimum 1048745)).found bytes a.0.1 a.0.0 fits a.1 in
@@ -62,27 +69,14 @@ shard_reads_back config = record { found = found; again = again }
         h.0 ∙ ap (λ q. chunk_bytes (λ sibling. sibling) q ++ a.0.1) back ∙ ap (λ xs. chunk_bytes (λ sibling. sibling) (piece_of_bytes content p) ++ xs) a.3 in
         (parts ∙ ap (λ xs. xs ++ rest) (sym (chunk_bytes_same content p)), subst (λ (q : Piece (List ℕ)). FitsChunk 32 (widest config.minimum 1048745) q) back h.1)
 
-    again : (p : Piece Digest32) (rest : List ℕ) → IsShard config p → as_read with_digests (chunk_at 32 (widest config.minimum 1048745) (chunk_bytes content p ++ rest)) ≡ Ok (p, rest)
+    again : (p : Piece Digest32) (rest : List ℕ) → IsShard config p
+        → as_read with_digests (chunk_at 32 (widest config.minimum 1048745) (chunk_bytes content p ++ rest)) ≡ Ok (p, rest)
     again p rest fits =
         ap (λ xs. as_read with_digests (chunk_at 32 (widest config.minimum 1048745) (xs ++ rest))) (chunk_bytes_same content p)
         ∙ ap (as_read with_digests) ((chunk_reads_back 32 (widest config.minimum 1048745)).again (piece_of_bytes content p) rest fits)
         ∙ ap (λ (q : Piece Digest32). let x : Reading (Piece Digest32) = Ok (q, rest) in x) (digests_back p)
 
 -- ---- messages
-
--- a member's number
-abbrev pub IsMember : ℕ → Type 0
-IsMember i = i < 2 ^ 16
-
--- a message that can be; junk doesn't read as another message
-abbrev pub IsMessage : Message → Type 0
-IsMessage (message.Shard c x) = IsCommitment c × IsShard c.config x
-IsMessage (message.Vote signer v) = IsMember signer × IsVote v
-IsMessage (message.Cert c) = IsCert c
-IsMessage (message.Ask from c) = IsMember from × IsCommitment c
-IsMessage (message.AskHeight from height) = IsMember from × (height < 2 ^ 64)
-IsMessage (message.Block b) = IsBlock b
-IsMessage (message.Junk bytes) = to_the_end (tagged_message_at bytes) ≡ None
 
 abbrev shards_at : List ℕ → Reading (Commitment × Piece Digest32)
 shards_at = pair_at commitment_at (λ c. shard_at c.config)
@@ -116,7 +110,8 @@ unfolding message_bytes
 blocks = record { part = block_reads_back; form = λ p h. refl; fits = λ p h. h }
 
 -- a message that was read behind its tag
-tagged_found : (bytes rest : List ℕ) (m : Message) → IsBytes bytes → tagged_message_at bytes ≡ Ok (m, rest) → (bytes ≡ message_bytes m ++ rest) × IsMessage m
+tagged_found : (bytes rest : List ℕ) (m : Message) → IsBytes bytes
+    → tagged_message_at bytes ≡ Ok (m, rest) → (bytes ≡ message_bytes m ++ rest) × IsMessage m
 unfolding tagged_message_at
 tagged_found bytes rest m fits e =
     let a = bind_ok (byte_at bytes) (λ t. message_behind t.0 t.1) (m, rest) e in
@@ -124,7 +119,8 @@ tagged_found bytes rest m fits e =
     let more = chosen a.0.0 a.0.1 (IsBytes-rest bytes (a.0.0 ∷ []) a.0.1 tag.0 fits) a.2 in
     (tag.0 ∙ more.0, more.1)
   where
-    chosen : (n : ℕ) (bytes : List ℕ) → IsBytes bytes → message_behind n bytes ≡ Ok (m, rest) → (n ∷ bytes ≡ message_bytes m ++ rest) × IsMessage m
+    chosen : (n : ℕ) (bytes : List ℕ) → IsBytes bytes → message_behind n bytes ≡ Ok (m, rest)
+        → (n ∷ bytes ≡ message_bytes m ++ rest) × IsMessage m
     chosen n bytes fits e =
         elim (pick n 0 _ _ _ e) [
           | inl h ↦ form_found _ _ _ _ _ _ _ shards n bytes rest m fits h.0 (sym (paired (commitment_at bytes) (λ c. shard_at c.config) message.Shard) ∙ h.1)
@@ -171,14 +167,17 @@ message_again (message.Block b) fits = to_message (message.Block b) (form_again 
 message_again (message.Junk bytes) fits = rw fits refl
 
 -- bytes are those of the message that they read as
-pub message_found : (bytes : List ℕ) → IsBytes bytes → (message_bytes (message_of bytes) ≡ bytes) × IsMessage (message_of bytes)
+pub message_found : (bytes : List ℕ) → IsBytes bytes
+    → (message_bytes (message_of bytes) ≡ bytes) × IsMessage (message_of bytes)
 unfolding message_bytes
 message_found bytes fits = go (tagged_message_at bytes) refl
   where
-    junk : to_the_end (tagged_message_at bytes) ≡ None → (message_bytes (message_of bytes) ≡ bytes) × IsMessage (message_of bytes)
+    junk : to_the_end (tagged_message_at bytes) ≡ None
+        → (message_bytes (message_of bytes) ≡ bytes) × IsMessage (message_of bytes)
     junk none = rw none (refl, none)
 
-    go : (read : Reading Message) → tagged_message_at bytes ≡ read → (message_bytes (message_of bytes) ≡ bytes) × IsMessage (message_of bytes)
+    go : (read : Reading Message) → tagged_message_at bytes ≡ read
+        → (message_bytes (message_of bytes) ≡ bytes) × IsMessage (message_of bytes)
     go (Err e) is = junk (ap to_the_end is)
     go (Ok (m, x ∷ rest)) is = junk (ap to_the_end is)
     go (Ok (m, [])) is =

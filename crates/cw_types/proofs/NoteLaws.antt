@@ -1,13 +1,26 @@
 -- Notes read back as they were written, and what is read is in its format.
-use Rattle.std.proofs.Common.{◌≡◌, ℕ, ◌-◌, ◌%◌, ◌^◌, ◌<◌, ◌&&◌, Bool, nat_lt, true, List, [], ◌∷◌, ◌++◌, length, Ok, Err, refl, sym, ap, subst, ◌∙◌, append_assoc, inl, inr}
+use Rattle.std.proofs.Common.{◌≡◌, ℕ, ◌%◌, ◌^◌, ◌<◌, true, List, [], ◌∷◌}
+use Rattle.std.proofs.Common.{◌++◌, length, Ok, Err, refl, sym, ap, subst, ◌∙◌, append_assoc, inl}
+use Rattle.std.proofs.Common.{inr}
 use Rattle.std.specs.List.{flat_map}
 use Rattle.cw_base.specs.Bytes.{be16, be64}
 use Rattle.cw_base.specs.Reading.{Reading, ◌>>=◌, byte_at, be64_at}
-use Rattle.cw_base.specs.ReadingLaws.{ReadsBack, IsBytes, IsBytes-rest, bind_ok, byte_reads_back, be64_reads_back}
-use Rattle.cw_types.specs.Encoding.{block_bytes, cert_bytes, commitment_bytes, epoch_tag_bytes, note_bytes, proposal_bytes, vote_bytes}
-use Rattle.cw_types.specs.Reading.{as_read, block_at, commitment_at, formed_vote_at, height_at, later_epoch_at, note_at, note_behind, ordered_at, proposal_at, signed_at, verified_at, vote_at}
-use Rattle.cw_types.specs.FormatLaws.{IsBlock, IsCommitment, IsHeight, IsLaterEpoch, IsProposal, alike, behind, block_reads_back, commitment_reads_back, height_reads_back, later_epoch_reads_back, proposal_reads_back, tested}
-use Rattle.cw_types.specs.TaggedLaws.{IsCert, IsForm, IsKind, IsVote, Signed, form_again, form_found, front_of, kind_again, kind_first, kind_later, later_alike, own_epoch, pair_at, pair_reads_back, paired, pick, signed_bytes, signed_reads_back, vote_reads_back}
+use Rattle.cw_base.specs.ReadsBack.{ReadsBack, IsBytes}
+use Rattle.cw_base.proofs.ReadingLaws.{IsBytes-rest, bind_ok, byte_reads_back, be64_reads_back}
+use Rattle.cw_types.specs.Encoding.{block_bytes, cert_bytes, commitment_bytes, epoch_tag_bytes}
+use Rattle.cw_types.specs.Encoding.{note_bytes, proposal_bytes, vote_bytes}
+use Rattle.cw_types.specs.Reading.{as_read, block_at, commitment_at, formed_vote_at, height_at}
+use Rattle.cw_types.specs.Reading.{later_epoch_at, note_at, note_behind, ordered_at, proposal_at}
+use Rattle.cw_types.specs.Reading.{signed_at, verified_at, vote_at}
+use Rattle.cw_types.specs.Values.{IsBlock, IsCert, IsCommitment, IsHeight, IsLaterEpoch, IsNote}
+use Rattle.cw_types.specs.Values.{IsProposal, IsVote}
+use Rattle.cw_types.proofs.FormatLaws.{alike, behind, block_reads_back, commitment_reads_back}
+use Rattle.cw_types.proofs.FormatLaws.{height_reads_back, later_epoch_reads_back}
+use Rattle.cw_types.proofs.FormatLaws.{proposal_reads_back, tested}
+use Rattle.cw_types.proofs.TaggedLaws.{IsForm, IsKind, Signed, form_again, form_found, front_of}
+use Rattle.cw_types.proofs.TaggedLaws.{kind_again, kind_first, kind_later, later_alike, own_epoch}
+use Rattle.cw_types.proofs.TaggedLaws.{pair_at, pair_reads_back, paired, pick, signed_bytes}
+use Rattle.cw_types.proofs.TaggedLaws.{signed_reads_back, vote_reads_back}
 use Rattle.cw_types.specs.Votes.{is_ordered, well_formed}
 use Rattle.cw_types.specs.declared.commitment.Commitment.{Commitment}
 use Rattle.cw_types.specs.declared.vote.Proposal.{Proposal}
@@ -15,29 +28,6 @@ use Rattle.cw_types.specs.declared.vote.Vote.{Vote}
 use Rattle.cw_types.specs.declared.vote.Cert.{Cert}
 use Rattle.cw_types.specs.declared.note.Note.{Note}
 use Rattle.cw_types.specs.declared.note.Note.TheVariants as note
-
--- what the type of a note leaves open: votes and proposals are well formed, heights below 2^64 - 1, entered epochs above 0, and signers at most 65,535
-abbrev pub is_storable : Note → Bool
-is_storable (note.Certified p) = is_ordered p
-is_storable (note.Vote v) = well_formed v
-is_storable (note.Cert c) = well_formed c.vote && nat_lt (length c.signers) (2 ^ 16)
-is_storable (note.Ack height) = nat_lt height (2 ^ 64 - 1)
-is_storable (note.Floor height) = nat_lt height (2 ^ 64 - 1)
-is_storable (note.Prune height) = nat_lt height (2 ^ 64 - 1)
-is_storable (note.Epoch epoch c) = nat_lt 0 epoch
-is_storable _ = true
-
--- a note that reads: votes and proposals are well formed, heights below 2^64 - 1, entered epochs above 0
-abbrev pub IsNote : Note → Type 0
-IsNote (note.Block c b) = IsCommitment c × IsBlock b
-IsNote (note.Verified epoch view c) = (epoch < 2 ^ 64) × ((view < 2 ^ 64) × IsCommitment c)
-IsNote (note.Certified p) = (p.epoch < 2 ^ 64) × (IsProposal p.epoch p × (is_ordered p ≡ true))
-IsNote (note.Vote v) = IsVote v × (well_formed v ≡ true)
-IsNote (note.Cert c) = IsCert c × (well_formed c.vote ≡ true)
-IsNote (note.Ack height) = IsHeight height
-IsNote (note.Floor height) = IsHeight height
-IsNote (note.Prune height) = IsHeight height
-IsNote (note.Epoch epoch c) = IsLaterEpoch epoch × IsCommitment c
 
 abbrev IsOrdered : ℕ → Proposal → Type 0
 IsOrdered e p = IsProposal e p × (is_ordered p ≡ true)
@@ -65,7 +55,8 @@ unfolding cert_bytes
 formed_cert_reads_back = alike _ _ _ _ formed_cert_at regrouped to from (
     behind _ _ _ (λ c. c.vote) signed_bytes Signed _ (λ vote c (signers, is). ap (λ x. x.vote) is) formed_reads_back λ vote first. signed_reads_back vote)
   where
-    regrouped : (c : Cert) → IsFormed c.vote × Signed c.vote c → vote_bytes c.vote ++ signed_bytes c ≡ vote_bytes c.vote ++ be16 (length c.signers % 2 ^ 16) ++ flat_map be16 c.signers
+    regrouped : (c : Cert) → IsFormed c.vote × Signed c.vote c
+        → vote_bytes c.vote ++ signed_bytes c ≡ vote_bytes c.vote ++ be16 (length c.signers % 2 ^ 16) ++ flat_map be16 c.signers
     regrouped c h = sym (append_assoc (vote_bytes c.vote) (be16 (length c.signers % 2 ^ 16)) (flat_map be16 c.signers))
 
     to : (c : Cert) → IsFormed c.vote × Signed c.vote c → IsFormedCert c
@@ -75,7 +66,8 @@ formed_cert_reads_back = alike _ _ _ _ formed_cert_at regrouped to from (
     from c (fits, formed) = ((fits.vote, formed), (fits.signers, refl))
 
 -- a value that is seen as another at its end
-through : {A B D : Type 0} (make : B → D) (read : Reading A) (s : A → List ℕ → Reading B) → read >>= (λ a. as_read make (s a.0 a.1)) ≡ as_read make (read >>= λ a. s a.0 a.1)
+through : {A B D : Type 0} (make : B → D) (read : Reading A) (s : A → List ℕ → Reading B)
+    → read >>= (λ a. as_read make (s a.0 a.1)) ≡ as_read make (read >>= λ a. s a.0 a.1)
 through make (Ok a) s = refl
 through make (Err e) s = refl
 
@@ -126,7 +118,8 @@ verifies = record {
   fits = λ e p small h. (small, h);
 }
 
-verified_as : (e : ℕ) (left : List ℕ) → verified_at e left ≡ as_read (λ (p : ℕ × Commitment). note.Verified e p.0 p.1) (view_and_commitment_at left)
+verified_as : (e : ℕ) (left : List ℕ)
+    → verified_at e left ≡ as_read (λ (p : ℕ × Commitment). note.Verified e p.0 p.1) (view_and_commitment_at left)
 verified_as e left = paired (be64_at left) (λ _. commitment_at) (note.Verified e)
 
 pub note_reads_back : ReadsBack note_bytes IsNote note_at
@@ -136,7 +129,8 @@ note_reads_back = record { found = found; again = again }
     Found : List ℕ → List ℕ → Note → Type 0
     Found bytes rest x = (bytes ≡ note_bytes x ++ rest) × IsNote x
 
-    chosen : (n : ℕ) (bytes rest : List ℕ) (x : Note) → IsBytes bytes → note_behind n bytes ≡ Ok (x, rest) → Found (n ∷ bytes) rest x
+    chosen : (n : ℕ) (bytes rest : List ℕ) (x : Note) → IsBytes bytes
+        → note_behind n bytes ≡ Ok (x, rest) → Found (n ∷ bytes) rest x
     chosen n bytes rest x fits e =
         elim (pick n 0 _ _ _ e) [
           | inl h ↦ form_found _ _ _ _ _ _ _ blocks n bytes rest x fits h.0 (sym (paired (commitment_at bytes) (λ _. block_at) note.Block) ∙ h.1)
@@ -173,14 +167,16 @@ note_reads_back = record { found = found; again = again }
           ]
         ]
 
-    found : (bytes rest : List ℕ) (x : Note) → IsBytes bytes → byte_at bytes >>= (λ t. note_behind t.0 t.1) ≡ Ok (x, rest) → Found bytes rest x
+    found : (bytes rest : List ℕ) (x : Note) → IsBytes bytes
+        → byte_at bytes >>= (λ t. note_behind t.0 t.1) ≡ Ok (x, rest) → Found bytes rest x
     found bytes rest x fits e =
         let a = bind_ok (byte_at bytes) (λ t. note_behind t.0 t.1) (x, rest) e in
         let tag = byte_reads_back.found bytes a.0.1 a.0.0 fits a.1 in
         let more = chosen a.0.0 a.0.1 rest x (IsBytes-rest bytes (a.0.0 ∷ []) a.0.1 tag.0 fits) a.2 in
         (tag.0 ∙ more.0, more.1)
 
-    again : (x : Note) (rest : List ℕ) → IsNote x → byte_at (note_bytes x ++ rest) >>= (λ t. note_behind t.0 t.1) ≡ Ok (x, rest)
+    again : (x : Note) (rest : List ℕ) → IsNote x
+        → byte_at (note_bytes x ++ rest) >>= (λ t. note_behind t.0 t.1) ≡ Ok (x, rest)
     again (note.Block c b) rest fits = form_again _ _ _ _ _ _ _ blocks note_behind (λ left. paired (commitment_at left) (λ _. block_at) note.Block) (c, b) rest fits
     again (note.Verified epoch view c) rest fits =
         kind_again _ _ _ _ _ _ _ _ verifies note_behind (verified_as 0) (later_alike verified_at (λ e left. as_read (λ (p : ℕ × Commitment). note.Verified e p.0 p.1) (view_and_commitment_at left)) verified_as)
