@@ -15,7 +15,7 @@ use Rattle.cw_rules.specs.Rules.{Rules}
 use Rattle.voter.specs.Known.{ballot_signers, is_cert_for}
 use Rattle.voter.proofs.Lists.{first_found, first_missing}
 
--- the signers of the first certificate that came are those of the first ballot that is_cert_for the vote
+-- the signers of the first certificate that came are those of the first ballot that certifies the vote
 pub first_signers : (v : Vote) (ballots : List Ballot) → first_some (signers_in v) ballots ≡ option_map ballot_signers (find (is_cert_for v) ballots)
 first_signers v [] = refl
 first_signers v (Single i w ∷ ballots) = first_signers v ballots
