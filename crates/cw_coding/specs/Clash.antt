@@ -1,5 +1,5 @@
 -- Where the hashing of two texts of one root meets.
-use Rattle.std.specs.Prelude.{◌≡◌, ◌≢◌, ℕ, ◌<◌, ◌≤◌, List, ◌∷◌, length, slice_get, Option, Some, option_map}
+use Rattle.std.specs.Prelude.{◌≡◌, ◌≢◌, ℕ, ◌<◌, List, ◌∷◌, length, slice_get, Option, Some, option_map}
 use Rattle.cw_base.specs.Counts.{Counts}
 use Rattle.cw_tree.specs.Chunks.{Piece}
 use Rattle.cw_tree.specs.Tree.{root_by, way_by}

@@ -1,4 +1,4 @@
-use Rattle.std.proofs.Common.{◌≡◌, ℕ, List, length, ◌∙◌, ap, sym, subst, arith, Some}
+use Rattle.std.proofs.Common.{ℕ, List, length, ◌∙◌, ap, sym, subst, arith}
 use Rattle.cw_coding.specs.Clash.{AreTold}
 use Rattle.cw_coding.proofs.ClashLaws.{TellsDigests, leads_on, rivals_long, rivals_meet, clash_there}
 use Rattle.cw_coding.proofs.clash.clash_of.Goals as goal

@@ -1,5 +1,5 @@
-use Rattle.std.proofs.Common.{◌≡◌, ℕ, List, ◌∙◌, ◌∷◌, ap, sym, Some, None}
-use Rattle.std.specs.Prelude.{Option, option_map}
+use Rattle.std.proofs.Common.{ℕ, List, ◌∙◌, ◌∷◌, ap, sym, Some}
+use Rattle.std.specs.Prelude.{option_map}
 use Rattle.cw_coding.specs.Clash.{way_of}
 use Rattle.cw_coding.proofs.ClashLaws.{way_is, way_there}
 use Rattle.cw_coding.proofs.clash.way_from_chunk.Goals as goal
