@@ -1,5 +1,5 @@
 -- Refusals of a part are refusals of the whole, and so is want of memory where only a value is made of the part.
-use Rattle.std.proofs.Common.{◌≡◌, ℕ, List, Result, Ok, Err, ap, refl, subst}
+use Rattle.std.proofs.Common.{◌≡◌, ℕ, List, Ok, Err, ap, refl, subst}
 use Rattle.cw_base.specs.declared.reader.CodecError.{CodecError}
 use Rattle.cw_base.specs.declared.reader.CodecError.TheVariants as codec
 use Rattle.cw_base.specs.Reading.{Reading, ◌>>=◌, IsBehind, IsRefused}

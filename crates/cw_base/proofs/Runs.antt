@@ -1,5 +1,5 @@
 -- Where runs start and end.
-use Rattle.std.proofs.Common.{◌≡◌, ℕ, ◌+◌, ◌*◌, ◌/◌, ◌%◌, ◌<◌, ◌≤◌, min, sym, ◌∙◌, arith, div-add-mod', mod-lt, mul-le-mul_right}
+use Rattle.std.proofs.Common.{◌≡◌, ℕ, ◌+◌, ◌*◌, ◌/◌, ◌%◌, ◌<◌, ◌≤◌, min, sym, arith, div-add-mod', mod-lt, mul-le-mul_right}
 use Rattle.cw_base.specs.Runs.{run_start}
 
 -- as many items as the runs before this one have, of so many items each and a rest

@@ -20,7 +20,8 @@ impl Model for Config {
 
     ghost Value = { Counts };
 
-    ghost use Rattle.cw_base.specs.Counts.{positive, from_values};
+    ghost use Rattle.cw_base.specs.Counts.{positive};
+    ghost use Rattle.cw_base.specs.CountsLaw.{from_values};
 
     ghost view = { λ c. record { minimum = c.minimum_shards.value; extra = c.extra_shards.value } };
 

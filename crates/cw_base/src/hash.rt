@@ -148,7 +148,7 @@ impl Hasher for Sha256 {
         Digest32(hasher.finalize())
     }
 
-    ghost use Rattle.cw_base.specs.HashSizes.{length-sha256};
+    ghost use Rattle.sha2.proofs.Facts256.{length-sha256};
 
     ghost sized = { length-sha256 };
 }
@@ -182,7 +182,7 @@ impl Hasher for SumHasher {
         Digest32([sum_of(left).wrapping_add(sum_of(right)); 32])
     }
 
-    ghost use Rattle.cw_base.specs.HashSizes.{length-sum_bytes};
+    ghost use Rattle.std.proofs.lemmas.List.{length-replicate};
 
-    ghost sized = { length-sum_bytes };
+    ghost sized = { λ bytes. length-replicate 32 (sum bytes % 2 ^ 8) };
 }

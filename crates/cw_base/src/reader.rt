@@ -87,7 +87,7 @@ impl<'a> Reader<'a> {
     }
 
     /// The next `count` bytes, or `EndOfBuffer`.
-    #[tactic(auto, using(crate::specs::Ends::ends))]
+    #[tactic(auto, using(crate::proofs::Ends::ends))]
     pub fn take(&mut self, count: usize) -> Result<&'a [u8], CodecError>
         ensures value { IsRead (λ bytes. bytes.now) result self.new (bytes_at count self.old) }
         ensures place { IsEnd self.old self.new }
@@ -101,7 +101,7 @@ impl<'a> Reader<'a> {
     }
 
     /// The next byte, or `EndOfBuffer`.
-    #[tactic(auto, using(crate::specs::Ends::ends))]
+    #[tactic(auto, using(crate::proofs::Ends::ends))]
     pub fn u8(&mut self) -> Result<u8, CodecError>
         ensures value { IsRead (λ n. n) result self.new (byte_at self.old) }
         ensures place { IsEnd self.old self.new }
@@ -114,7 +114,7 @@ impl<'a> Reader<'a> {
     }
 
     /// A number of two bytes, the high byte first, or `EndOfBuffer`.
-    #[tactic(auto, using(crate::specs::Ends::ends), unfolding(crate::specs::Reading::be16_at))]
+    #[tactic(auto, using(crate::proofs::Ends::ends), unfolding(crate::specs::Reading::be16_at))]
     pub fn be16(&mut self) -> Result<u16, CodecError>
         ensures value { IsRead (λ n. n) result self.new (be16_at self.old) }
         ensures place { IsEnd self.old self.new }
@@ -127,7 +127,7 @@ impl<'a> Reader<'a> {
     }
 
     /// A number of four bytes, the high byte first, or `EndOfBuffer`.
-    #[tactic(auto, using(crate::specs::Ends::ends), unfolding(crate::specs::Reading::be32_at))]
+    #[tactic(auto, using(crate::proofs::Ends::ends), unfolding(crate::specs::Reading::be32_at))]
     pub fn be32(&mut self) -> Result<u32, CodecError>
         ensures value { IsRead (λ n. n) result self.new (be32_at self.old) }
         ensures place { IsEnd self.old self.new }
@@ -140,7 +140,7 @@ impl<'a> Reader<'a> {
     }
 
     /// A number of eight bytes, the high byte first, or `EndOfBuffer`.
-    #[tactic(auto, using(crate::specs::Ends::ends), unfolding(crate::specs::Reading::be64_at))]
+    #[tactic(auto, using(crate::proofs::Ends::ends), unfolding(crate::specs::Reading::be64_at))]
     pub fn be64(&mut self) -> Result<u64, CodecError>
         ensures value { IsRead (λ n. n) result self.new (be64_at self.old) }
         ensures place { IsEnd self.old self.new }
@@ -155,7 +155,7 @@ impl<'a> Reader<'a> {
     /// A number of seven bits a byte, the low part first, in its shortest form: `EndOfBuffer`
     /// where the bytes end before its last byte, `InvalidVarint` where the fifth byte is above 15,
     /// or the last of several bytes is 0.
-    #[tactic(auto, using(crate::specs::Ends::ends), unfolding(crate::specs::Reading::varint_at))]
+    #[tactic(auto, using(crate::proofs::Ends::ends), unfolding(crate::specs::Reading::varint_at))]
     pub fn varint(&mut self) -> Result<u32, CodecError>
         ensures value { IsRead (λ n. n) result self.new (varint_at self.old) }
         ensures place { IsEnd self.old self.new }
@@ -170,7 +170,7 @@ impl<'a> Reader<'a> {
     }
 
     /// The end, or `Extra` where bytes are left.
-    #[tactic(auto, using(crate::specs::Ends::ends))]
+    #[tactic(auto, using(crate::proofs::Ends::ends))]
     pub fn finish(&mut self) -> Result<(), CodecError>
         ensures value { IsRead (λ _. tt) result self.new (end_at self.old) }
         ensures place { IsEnd self.old self.new }
@@ -183,7 +183,7 @@ impl<'a> Reader<'a> {
 }
 
 // The number that a varint of at most `more + 1` bytes spells, and the bytes after it.
-#[tactic(auto, using(crate::specs::Ends::ends))]
+#[tactic(auto, using(crate::proofs::Ends::ends))]
 fn varint_of(bytes: &[u8], more: u32, first: bool) -> Result<(u32, &[u8]), CodecError>
     requires { more ≤ 4 }
     ensures value { MatchResult result
@@ -216,7 +216,7 @@ impl Config {
     /// The config at the front: `Invalid` for a number that is zero, which is taken.
     ///
     /// Refused, the reader stands behind the parts that were taken.
-    #[tactic(auto, using(crate::specs::Ends::ends), unfolding(crate::specs::Reading::config_at))]
+    #[tactic(auto, using(crate::proofs::Ends::ends), unfolding(crate::specs::Reading::config_at))]
     pub fn read(reader: &mut Reader) -> Result<Config, CodecError>
         ensures value { IsRead (λ config. config) result reader.new (config_at reader.old) }
         ensures place { IsEnd reader.old reader.new }
@@ -231,7 +231,7 @@ impl Config {
 }
 
 // A number of two bytes that isn't zero.
-#[tactic(auto, using(crate::specs::Ends::ends))]
+#[tactic(auto, using(crate::proofs::Ends::ends))]
 fn nonzero(reader: &mut Reader) -> Result<NonZeroU16, CodecError>
     ensures value { IsRead (λ n. n.value) result reader.new (nonzero_at reader.old) }
     ensures place { IsEnd reader.old reader.new }

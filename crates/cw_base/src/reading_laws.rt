@@ -5,7 +5,7 @@ ghost use Rattle.cw_base.specs.Bytes.{be16, be32, be64, varint};
 ghost use Rattle.cw_base.specs.Reading.{byte_at, bytes_at, be16_at, be32_at, be64_at, varint_at};
 ghost use Rattle.cw_base.specs.Reading.{config_at};
 ghost use Rattle.cw_base.specs.Config.{config_bytes};
-ghost use Rattle.cw_base.specs.ReadingLaws.{ReadsBack, IsConfig};
+ghost use Rattle.cw_base.specs.ReadsBack.{ReadsBack, IsConfig};
 
 /// What the calls of a reader take is in the format of its number, and what is in that format is
 /// read as itself.

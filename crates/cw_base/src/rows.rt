@@ -1,8 +1,7 @@
 //! Hashing rows of one width that stand end to end.
 
-ghost use Rattle.std.specs.Prelude.{◌≡◌, ℕ, ◌+◌, ◌*◌, ◌/◌, ◌%◌, ◌<◌, ◌≤◌, length, take, drop, map};
-ghost use Rattle.std.specs.Prelude.{IfOk};
-ghost use Rattle.cw_base.specs.Rows.{listed, row_hashes};
+ghost use Rattle.std.specs.Prelude.{◌≡◌, ◌/◌, ◌<◌, length, map, IfOk};
+ghost use Rattle.cw_base.specs.Rows.{listed, row_of, row_hashes};
 
 use crate::error::NoMemory;
 use crate::hash::Hasher;
@@ -14,8 +13,8 @@ use std::thread::Threads;
 fn rows_of(alloc: Global, rows: &[u8], width: usize) -> Result<Vec<&[u8]>, NoMemory>
     requires { 0 < width }
     ensures { IfOk result
-        (λ v. map (λ row. row.now) v.items ≡ listed (length rows.now / width)
-        (λ i. take width (drop (i * width) rows.now))) }
+        (λ v. map (λ row. row.now) v.items
+        ≡ listed (length rows.now / width) (λ i. row_of rows.now width i)) }
 {
     let mut slices = Vec::new(alloc);
     for i in 0..rows.len() / width {
@@ -25,10 +24,11 @@ fn rows_of(alloc: Global, rows: &[u8], width: usize) -> Result<Vec<&[u8]>, NoMem
 }
 
 // Row i.
+#[tactic(auto, unfolding(crate::specs::Rows::row_of))]
 fn row(rows: &[u8], width: usize, i: usize) -> &[u8]
     requires positive { 0 < width }
     requires within { i < length rows.now / width }
-    ensures { result.now ≡ take width (drop (i * width) rows.now) }
+    ensures { result.now ≡ row_of rows.now width i }
 {
     let start = i * width;
     &rows[start..start + width]

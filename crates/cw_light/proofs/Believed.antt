@@ -34,7 +34,7 @@ use Rattle.cw_rules.proofs.Certified.{finalized_in}
 use Rattle.cw_rules.proofs.Descents.{Branch, High, Linked, branch_of, linked, one_chain}
 use Rattle.cw_rules.proofs.Grows.{holds_stands, meaning_closed}
 use Rattle.cw_rules.proofs.Runs.{Gave, IsClearRun, clear_reached, handed_parts, now_fronts}
-use Rattle.cw_rules.proofs.SameLemmas.{same_block-true, same_block_self, same_commitment-true}
+use Rattle.cw_types.proofs.Same.{same_block-true, same_block_self, same_commitment-true}
 use Rattle.cw_rules.proofs.Worlds.{IsWorldKept, get-map, kept_keep, kept_lawful}
 use Rattle.cw_light.specs.Believing.{IsLinkAt}
 use Rattle.cw_light.specs.Checking.{answer, broken_at, broken_below, is_named_by, is_parent_of, path_answer}

@@ -17,7 +17,7 @@ use Rattle.cw_rules.specs.Rules.{Rules, commit, digest, genesis, genesis_commitm
 use Rattle.cw_rules.specs.Stands.{EachAfter}
 use Rattle.cw_rules.specs.Step.{Member, member_notes}
 use Rattle.cw_rules.specs.World.{World}
-use Rattle.cw_rules.proofs.SameLemmas.{same_commitment-true, same_commitment_self}
+use Rattle.cw_types.proofs.Same.{same_commitment-true, same_commitment_self}
 use Rattle.cw_rules.proofs.Lists.{and_then_some, in_left, in_right, in_cases}
 
 -- the notes of one member are among all

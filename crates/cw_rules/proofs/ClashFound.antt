@@ -12,8 +12,7 @@ use Rattle.cw_rules.specs.Reached.{In, IsClash, IsKnown, Reaches}
 use Rattle.cw_rules.specs.Rules.{Rules, digest, genesis}
 use Rattle.cw_rules.specs.Step.{Member, Stepped, member_notes}
 use Rattle.cw_rules.specs.World.{Cut, Do, Faulty, Line, Restart, World, done_by, happens, line_member, member_at, opening, run, turned, with_done}
-use Rattle.cw_rules.proofs.SameLemmas.{same_digest-true}
-use Rattle.cw_rules.proofs.SameLemmas.{same_block_self}
+use Rattle.cw_types.proofs.Same.{same_digest-true, same_block_self}
 use Rattle.cw_rules.proofs.Lists.{and_then_some, in_cases, in_left, in_right, or_some}
 use Rattle.cw_rules.proofs.Worlds.{get-set_same, member_there}
 use Rattle.cw_rules.proofs.Blocks.{notes_in}

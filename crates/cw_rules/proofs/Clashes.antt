@@ -13,11 +13,10 @@ use Rattle.cw_rules.specs.Reached.{In, IsKnown}
 use Rattle.cw_rules.specs.Rules.{Rules, digest, genesis}
 use Rattle.cw_rules.specs.Step.{Member, Stepped, member_notes}
 use Rattle.cw_rules.specs.World.{World, with_done}
-use Rattle.cw_rules.proofs.SameLemmas.{same_digest_self}
+use Rattle.cw_types.proofs.Same.{same_digest_self, same_block-true}
 use Rattle.cw_rules.proofs.Lists.{in_left, in_right, in_cases}
 use Rattle.cw_rules.proofs.Blocks.{notes_in, Noter, noter, NoClash}
 use Rattle.cw_rules.proofs.Worlds.{get-set, get-set_same}
-use Rattle.cw_rules.proofs.SameLemmas.{same_block-true}
 use Rattle.std.proofs.lemmas.Option.{same_Some}
 use Rattle.std.proofs.Common.{add-one}
 

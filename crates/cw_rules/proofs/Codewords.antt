@@ -19,7 +19,7 @@ use Rattle.cw_rules.specs.Coding.{AreApart, AreByteChunks, AreRowsOf, IsCoder, I
 use Rattle.cw_rules.specs.Held.{if_committed, row_of, shown, whole_of}
 use Rattle.cw_rules.specs.Rules.{Chunk, Rules, block_of, chunk_at, chunks, commit, config, is_under, rows_of, total_of}
 use Rattle.cw_rules.specs.Step.{taken_came}
-use Rattle.cw_rules.proofs.SameLemmas.{same_commitment-true, same_commitment_self}
+use Rattle.cw_types.proofs.Same.{same_commitment-true, same_commitment_self}
 use Rattle.cw_rules.proofs.Lists.{and_then_some}
 use Rattle.std.specs.Option.{option_map_or}
 

@@ -15,7 +15,7 @@ use Rattle.cw_rules.specs.Accepted.{State, first_some}
 use Rattle.cw_rules.specs.Held.{at_height, finalization_of, greatest_floor, held, last_ack, next, parent_of, pending, reached, resume}
 use Rattle.cw_rules.specs.Rules.{Rules, genesis, genesis_commitment}
 use Rattle.cw_rules.specs.Step.{above_ack, deliveries, deliveries_within, delivery, handing, left_to_hand, most_delivered, with_given, with_handed}
-use Rattle.cw_rules.proofs.SameLemmas.{same_commitment_self}
+use Rattle.cw_types.proofs.Same.{same_commitment_self}
 use Rattle.cw_rules.proofs.Lists.{all_true, and_then_some, first_some_at}
 
 module _ (r : Rules) where

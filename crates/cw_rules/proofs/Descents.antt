@@ -25,7 +25,7 @@ use Rattle.cw_rules.specs.Rules.{Rules, commit, digest, genesis, genesis_commitm
 use Rattle.cw_rules.specs.Stands.{AreLawful, EachAfter, LeadsTo, Members, Stands}
 use Rattle.cw_rules.specs.Step.{Member, member_notes}
 use Rattle.cw_rules.specs.World.{World}
-use Rattle.cw_rules.proofs.SameLemmas.{same_commitment_self, same_vote_self, same_proposal-true}
+use Rattle.cw_types.proofs.Same.{same_commitment_self, same_vote_self, same_proposal-true}
 use Rattle.cw_rules.proofs.Lists.{first_some_at, and_then_some, map_some, in_left}
 use Rattle.cw_rules.proofs.NoteLemmas.{any_front, Settles, settler_tells}
 use Rattle.cw_rules.proofs.Chain.{one_notarized, certified_rests, finalized_notarized, finalized_descent, notarized_above, notarized_below}

@@ -11,7 +11,7 @@ use Rattle.cw_types.specs.Epochs.{Epochs, is_last, is_within}
 use Rattle.cw_types.specs.Same.{same_block, same_commitment, same_context, same_digest}
 use Rattle.cw_rules.specs.Fits.{builds_on, context_for, fits_over, repeats}
 use Rattle.cw_rules.specs.Rules.{Rules, digest}
-use Rattle.cw_rules.proofs.SameLemmas.{same_block-true, same_commitment-true, same_context-true, same_digest-true}
+use Rattle.cw_types.proofs.Same.{same_block-true, same_commitment-true, same_context-true, same_digest-true}
 
 -- ---- heights of an epoch
 

@@ -14,7 +14,7 @@ use Rattle.cw_rules.specs.Notes.{is_cert, is_vote, nullified}
 use Rattle.cw_rules.specs.Owed.{closes, has_closed, has_voted, is_of, votes_in}
 use Rattle.cw_rules.specs.Rules.{Rules}
 use Rattle.cw_rules.specs.Stands.{AreKept, EachAfter, Members, RestsOn, Stands}
-use Rattle.cw_rules.proofs.SameLemmas.{same_vote-true}
+use Rattle.cw_types.proofs.Same.{same_vote-true}
 use Rattle.cw_rules.proofs.NoteLemmas.{found_after, any_weaker, each_weaker, in_one, vote_note}
 use Rattle.cw_rules.proofs.Lists.{range_all}
 

@@ -18,7 +18,6 @@ pub mod Clashes
 pub mod Runs
 pub mod Tops
 pub mod Singles
-pub mod SameLemmas
 pub mod Deliveries
 pub mod Codewords
 pub mod ClashFound

@@ -12,7 +12,7 @@ use Rattle.cw_types.specs.Same.{same_vote}
 use Rattle.cw_types.specs.Votes.{finalized}
 use Rattle.cw_rules.specs.Notes.{has_cert, has_certified, is_cert, is_certified, is_vote, settler, settling}
 use Rattle.cw_rules.specs.Stands.{EachAfter}
-use Rattle.cw_rules.proofs.SameLemmas.{same_vote-true, same_vote_self, same_proposal-true, same_proposal_self}
+use Rattle.cw_types.proofs.Same.{same_vote-true, same_vote_self, same_proposal-true, same_proposal_self}
 
 -- a test that some note of a front passes, some note of the whole passes
 pub any_front : (test : Note → Bool) (xs ys : List Note) → list_any test xs ≡ true → list_any test (xs ++ ys) ≡ true

@@ -21,7 +21,7 @@ use Rattle.cw_rules.specs.Notes.{enters, entry, epoch_of, has_begun, has_cert, h
 use Rattle.cw_rules.specs.Owed.{all_nullified, block_owed, cert_owed, certified_owed, epoch_owed, finalize_owed, floor_owed, has_closed, has_voted, is_ready, is_single, known, knows, named_commitments, named_proposals, named_votes, notarize_owed, owed, reached_epoch, signers_in, signers_of, top_epoch, when}
 use Rattle.cw_rules.specs.Rules.{Chunk, Rules, block_of, commit, genesis_commitment}
 use Rattle.cw_rules.specs.Stands.{IsSettled}
-use Rattle.cw_rules.proofs.SameLemmas.{same_vote-true, same_commitment-true}
+use Rattle.cw_types.proofs.Same.{same_vote-true, same_commitment-true}
 use Rattle.std.proofs.Common.{take, filter_map, option_and_then}
 use Rattle.cw_rules.proofs.Lists.{or_some, when_some, first_some_at, all_true, and_then_some, map_some, map_or_true, is_in, filter_rises, filter_in}
 

@@ -25,7 +25,7 @@ use Rattle.cw_rules.specs.Reached.{In}
 use Rattle.cw_rules.specs.Rules.{Rules, genesis, genesis_commitment}
 use Rattle.cw_rules.specs.Step.{marks, settle, step_notes, with_notes}
 use Rattle.std.proofs.lemmas.Option.{same_Some}
-use Rattle.cw_rules.proofs.SameLemmas.{same_vote_self, same_proposal_self, same_commitment_self}
+use Rattle.cw_types.proofs.Same.{same_vote_self, same_proposal_self, same_commitment_self}
 use Rattle.cw_rules.proofs.Lists.{or_some, when_some, first_some_at, and_then_some, map_some}
 use Rattle.cw_rules.proofs.NoteLemmas.{any_front, any_back, any_weaker, vote_note}
 use Rattle.cw_rules.proofs.KeptNotes.{vote_in, of_itself}

@@ -45,7 +45,7 @@ use Rattle.cw_rules.proofs.Fits.{plus_mul}
 use Rattle.cw_rules.proofs.Heights.{at_is_at}
 use Rattle.cw_rules.proofs.Lists.{all_true, and_then_some, first_some_at, map_some, or_some, when_some}
 use Rattle.cw_rules.proofs.OwedKeeps.{shown_under}
-use Rattle.cw_rules.proofs.SameLemmas.{same_commitment-true}
+use Rattle.cw_types.proofs.Same.{same_commitment-true}
 use Rattle.cw_rules.proofs.StepKeeps.{IsParent, parent_found}
 use Rattle.cw_rules.proofs.Worlds.{frames_join, get-map_from, get-set, member_there}
 

@@ -26,7 +26,7 @@ use Rattle.cw_rules.specs.World.{Line, World, opening, signed}
 use Rattle.cw_rules.proofs.Blocks.{noted_commit, under_held}
 use Rattle.cw_rules.proofs.Lists.{and_then_some, map_some}
 use Rattle.cw_rules.proofs.Runs.{IsClearRun, clear_reached, handed_by, opening_handed}
-use Rattle.cw_rules.proofs.SameLemmas.{same_block_self, same_commitment_self}
+use Rattle.cw_types.proofs.Same.{same_block_self, same_commitment_self}
 use Rattle.cw_rules.proofs.Worlds.{kept_keep}
 use Rattle.cw_light.specs.Believing.{IsLinkAt}
 use Rattle.cw_light.specs.Checking.{answer, broken_at, broken_below, is_named_by, is_parent_of, path_answer}

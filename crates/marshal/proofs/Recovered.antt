@@ -12,7 +12,7 @@ use Rattle.cw_rules.specs.Accepted.{first_some}
 use Rattle.cw_rules.specs.Held.{held, noted_block_of}
 use Rattle.cw_rules.specs.Notes.{has_block}
 use Rattle.cw_rules.specs.Rules.{Rules, commit, genesis_commitment}
-use Rattle.cw_rules.proofs.SameLemmas.{same_commitment-true, same_commitment_self}
+use Rattle.cw_types.proofs.Same.{same_commitment-true, same_commitment_self}
 use Rattle.marshal.specs.Promises.{IsUnpruned, first_noted}
 use Rattle.marshal.specs.Writing.{block_note, certified_notes, verified_notes}
 use Rattle.marshal.proofs.Growing.{first_behind, first_front, holds_noted, none_noted}

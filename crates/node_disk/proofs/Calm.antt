@@ -4,7 +4,7 @@ use Rattle.std.specs.List.{list_all}
 use Rattle.std.proofs.lemmas.List.{append_cancel_left, map-append}
 use Rattle.std.proofs.lemmas.List.Folds.{list_all-append}
 use Rattle.node_disk.specs.Disk.{DeviceCall, IsCutShort, Synced, Wrote, failing}
-pub use Rattle.node_disk.specs.MemoryLaws.{calm_stop, calm_failing, calm_of, calm_stays}
+use Rattle.node_disk.specs.MemoryLaws.{calm_stop, calm_failing}
 use Rattle.node_disk.specs.Memory.{Continues, MemoryState, is_calm, is_stopped, memory_state, next_fails}
 use Rattle.node_disk.specs.Record.{Entry, Request, Sync, Write, decided, told_calls, told_entry, told_request}
 

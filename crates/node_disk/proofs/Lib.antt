@@ -1,3 +1,4 @@
+pub mod Compose
 pub mod AddFrame
 pub mod AtRest
 pub mod Calm

@@ -8,7 +8,8 @@ use Rattle.node_disk.specs.Errors.{store_error}
 use Rattle.node_disk.specs.declared.disk.DiskError.{DiskError}
 use Rattle.node_disk.specs.declared.disk.DiskError.TheVariants.{Failed, NoMemory}
 use Rattle.node_disk.specs.declared.log.StoreError.TheVariants as store
-use Rattle.node_disk.proofs.Moments.{goes_on, weakens, told_twice}
+use Rattle.node_disk.proofs.Compose.{goes_on, weakens}
+use Rattle.node_disk.proofs.Moments.{told_twice}
 use Rattle.node_disk.proofs.AddFrame.{cut_earlier, cut_later, front_earlier, front_later}
 
 pub read_short : (bytes : List ℕ) → length bytes < 2 → read_log bytes ≡ Ok []

@@ -1,5 +1,4 @@
 pub mod Disk
-pub mod Compose
 pub mod Frames
 pub mod Images
 pub mod Log

@@ -1,4 +1,5 @@
--- What a disk in memory gives is one of its images, and its calls go on one after another.
+-- What a disk in memory gives is one of its images, and its calls go on one after another. These proofs stand in specs/,
+-- since the code gives them as the laws of a disk.
 use Rattle.std.proofs.Common.{◌≡◌, inl, inr, ℕ, suc, ◌+◌, ◌-◌, ◌<◌, ◌≤◌, List, [], ◌∷◌, ◌++◌, length, take, drop, get_or, map, Bool, true, false, refl, sym, ◌∙◌, ap, subst, arith, replicate, if◌then◌else◌, ◌&&◌, Option, Some, None, append_assoc, length-append, length-take, length-drop}
 use Rattle.std.proofs.lemmas.Bool.{cases_lt}
 use Rattle.std.proofs.lemmas.List.{get_or_append_left, get_or-append_right, get_or-take, get_or-drop, map-append, append-nil, length-replicate}

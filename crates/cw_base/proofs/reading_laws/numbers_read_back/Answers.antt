@@ -1,4 +1,4 @@
-use Rattle.cw_base.specs.ReadingLaws.{bytes_read_back, byte_reads_back, be16_reads_back, be32_reads_back, be64_reads_back, varint_reads_back, config_reads_back}
+use Rattle.cw_base.proofs.ReadingLaws.{bytes_read_back, byte_reads_back, be16_reads_back, be32_reads_back, be64_reads_back, varint_reads_back, config_reads_back}
 use Rattle.cw_base.proofs.reading_laws.numbers_read_back.Goals as goal
 
 pub returns : goal.returns

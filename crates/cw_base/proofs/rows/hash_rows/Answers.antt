@@ -1,5 +1,5 @@
 use Rattle.std.proofs.Common.{map, ap, ◌∙◌}
-use Rattle.cw_base.specs.Rows.{mapped_items, hashes_are}
+use Rattle.cw_base.proofs.Hashed.{mapped_items, hashes_are}
 use Rattle.cw_base.proofs.rows.hash_rows.Goals as goal
 
 pub returns : goal.returns

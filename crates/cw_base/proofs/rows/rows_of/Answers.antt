@@ -1,6 +1,6 @@
 use Rattle.std.proofs.Common.{ap, sym, ◌∙◌, map}
 use Rattle.std.proofs.lemmas.List.{map-append}
-use Rattle.cw_base.specs.Rows.{listed_none, push_listed}
+use Rattle.cw_base.proofs.Listed.{listed_none, push_listed}
 use Rattle.cw_base.proofs.rows.rows_of.Goals as goal
 
 pub loop-i-init : goal.loop-i-init

@@ -1,4 +1,5 @@
-use Rattle.cw_base.specs.Mapping.{GivesItems, GivesItems_halves}
+use Rattle.cw_base.specs.Mapping.{GivesItems}
+use Rattle.cw_base.proofs.Mapping.{GivesItems_halves}
 use Rattle.cw_base.proofs.strategy.+fn-map_pieces-join+arg3+map_pieces.Goals as goal
 
 pub returns : goal.returns

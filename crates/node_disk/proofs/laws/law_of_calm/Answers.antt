@@ -1,4 +1,5 @@
-use Rattle.node_disk.proofs.Calm.{calm_stays, never_cut}
+use Rattle.node_disk.specs.MemoryLaws.{calm_stays}
+use Rattle.node_disk.proofs.Calm.{never_cut}
 use Rattle.node_disk.specs.Log.{calls_of_append}
 use Rattle.node_disk.proofs.laws.law_of_calm.Goals as goal
 

@@ -1,5 +1,5 @@
 use Rattle.std.proofs.Common.{◌≡◌, true}
-use Rattle.node_disk.specs.Compose.{goes_on}
+use Rattle.node_disk.proofs.Compose.{goes_on}
 use Rattle.node_disk.proofs.laws.law_of_moments.Goals as goal
 
 pub returns-clause-composed : goal.returns-clause-composed

@@ -1,5 +1,5 @@
--- What is read at the front of bytes is in its format, and what is in its format is read as itself.
-use Rattle.std.proofs.Common.{◌≡◌, ℕ, zero, suc, ◌+◌, ◌*◌, ◌-◌, ◌/◌, ◌%◌, ◌^◌, ◌<◌, ◌≤◌, eqb, Bool, true, false, cond, nat_lt, List, [], ◌∷◌, ◌++◌, length, get_or, take, drop, Result, Ok, Err, refl, sym, ap, subst, ◌∙◌, append_assoc, arith, inl, inr}
+-- The formats of numbers and configs read back.
+use Rattle.std.proofs.Common.{◌≡◌, ℕ, zero, suc, ◌+◌, ◌*◌, ◌-◌, ◌/◌, ◌%◌, ◌^◌, ◌<◌, ◌≤◌, eqb, Bool, true, false, cond, nat_lt, List, [], ◌∷◌, ◌++◌, length, take, drop, Result, Ok, Err, refl, sym, ap, subst, ◌∙◌, append_assoc, arith, inl, inr}
 use Rattle.std.specs.Int.{Width, w16, w32, w64, byte_len, from_be_bytes, to_be_bytes}
 use Rattle.std.proofs.lemmas.Bool.{cases_lt, ltb-true, ltb-false, lt-ltb, le-ltb, eqb-false}
 use Rattle.std.proofs.lemmas.List.{take_at, drop_at, take-append-drop, length-append, length-take, get_or-drop, get_or-take, get_or_past}
@@ -11,18 +11,8 @@ use Rattle.cw_base.specs.declared.reader.CodecError.TheVariants.{EndOfBuffer, In
 use Rattle.cw_base.specs.Bytes.{be16, be32, be64, varint, varint_within}
 use Rattle.cw_base.specs.Config.{config_bytes}
 use Rattle.cw_base.specs.Counts.{Counts}
+use Rattle.cw_base.specs.ReadsBack.{IsBytes, ReadsBack, IsPositive16, IsConfig}
 use Rattle.cw_base.specs.Reading.{Reading, ◌>>=◌, byte_at, bytes_at, number_at, be16_at, be32_at, be64_at, varint_from, varint_at, last_byte, low_byte, or_all_left, nonzero_at, config_at}
-
--- every number is a byte
-abbrev pub IsBytes : List ℕ → Type 0
-IsBytes bytes = (i : ℕ) → get_or bytes i 0 < 256
-
--- a format of the values that fit, and how it is read
-pub record ReadsBack {A : Type 0} (format : A → List ℕ) (fits : A → Type 0) (read : List ℕ → Reading A) : Type 0 where
-  -- what is read is in the format
-  pub found : (bytes rest : List ℕ) (x : A) → IsBytes bytes → read bytes ≡ Ok (x, rest) → (bytes ≡ format x ++ rest) × fits x
-  -- what is in the format is read as itself, whatever follows it
-  pub again : (x : A) (rest : List ℕ) → fits x → read (format x ++ rest) ≡ Ok (x, rest)
 
 pub IsBytes-drop : (n : ℕ) (bytes : List ℕ) → IsBytes bytes → IsBytes (drop n bytes)
 IsBytes-drop n bytes h i = rw get_or-drop (h (n + i))
@@ -49,6 +39,11 @@ bind_ok (Err d) f y e = absurd cc
 pub guard_ok : {A D : Type 0} (b : Bool) (d : D) (x y : A) → ◌≡◌ {A = Result A D} (cond b (Err d) (Ok x)) (Ok y) → (b ≡ false) × (x ≡ y)
 guard_ok true d x y e = absurd cc
 guard_ok false d x y e = (refl, cc)
+
+-- a test that did not refuse, before what is read then
+pub guard_then : {A : Type 0} (b : Bool) (d : CodecError × List ℕ) (r : Reading A) (y : A × List ℕ) → cond b (Err d) r ≡ Ok y → (b ≡ false) × (r ≡ Ok y)
+guard_then true d r y e = absurd cc
+guard_then false d r y e = (refl, e)
 
 abbrev taken : {A : Type 0} → A × List ℕ → Reading A
 taken x = Ok x
@@ -263,10 +258,6 @@ varint_reads_back = record { found = found; again = again }
 
 -- ---- configs
 
--- a number of two bytes that isn't zero
-abbrev pub IsPositive16 : ℕ → Type 0
-IsPositive16 n = (0 < n) × (n < 2 ^ 16)
-
 abbrev unless_zero : ℕ × List ℕ → Reading ℕ
 unless_zero n = cond (eqb n.0 0) (Err (Invalid, n.1)) (Ok n)
 
@@ -286,11 +277,6 @@ nonzero_reads_back = record { found = found; again = again }
     again : (n : ℕ) (rest : List ℕ) → IsPositive16 n → nonzero_at (be16 n ++ rest) ≡ Ok (n, rest)
     again zero rest fits = absurd (omega arith)
     again (suc n) rest fits = rw (be16_reads_back.again (suc n) rest fits.1, eqb-suc-zero n) refl
-
--- a config, both of whose numbers are positive numbers of two bytes
-pub record IsConfig (c : Counts) : Type 0 where
-  pub minimum : IsPositive16 c.minimum
-  pub extra : IsPositive16 c.extra
 
 abbrev with_extra : ℕ → ℕ × List ℕ → Reading Counts
 with_extra m x = Ok (record { minimum = m; extra = x.0 }, x.1)
