@@ -19,7 +19,7 @@ use Rattle.cw_coding.specs.Encoding.{IsEncoding}
 use Rattle.cw_coding.specs.Layout.{layout, row_at}
 use Rattle.cw_coding.specs.Laws.{IsChunkOf, AreDecodedTo}
 use Rattle.cw_coding.specs.Totals.{total_of, IsWidth}
-use Rattle.cw_coding.proofs.IndexLaws.{sound_range, sound_apart}
+use Rattle.rs_code.proofs.IndexLaws.{AreSound-in_range, AreSound-distinct}
 use Rattle.cw_coding.proofs.Joined.{joined_same}
 use Rattle.cw_coding.proofs.LayoutLaws.{length-row_at, length-layout, bytes_layout}
 use Rattle.cw_coding.proofs.DecodingLaws.{same_text}
@@ -30,7 +30,7 @@ pub before_other : (total : ℕ) (xs : List ℕ) (p y : ℕ) → AreSound total 
 before_other total xs p y sound l is h =
     let less : h.0 < p = omega (arith, h.1, length-take-le p xs (omega arith)) in
     let there : get_or xs h.0 0 ≡ y = sym (get_or-take p xs h.0 0 less) ∙ get_or_default (take p xs) h.0 0 y h.1 ∙ h.2 in
-    absurd (let same = sound_apart total xs sound h.0 p (omega arith) l (there ∙ sym is) in omega arith)
+    absurd (let same = AreSound-distinct total xs sound h.0 p (omega arith) l (there ∙ sym is) in omega arith)
 
 -- a text whose rows at k different places are those of another is that text
 pub same_by_rows : OriginalsComeFirst → RowsFixCodeword → (k : ℕ) (first second : List ℕ) (P : ℕ → ℕ) → 1 ≤ k → k ≤ 65535 →
@@ -138,8 +138,8 @@ module _ {D : Type 0} (hash : List ℕ → D) (content : D → List ℕ) (c : Co
             let few : compared k chunks ≤ length ordered = omega (arith, compared-le k chunks enough, length-in_order k chunks) in
             let total = e.total in
             let points : ArePoints k P = record {
-              fit = λ s l. omega (arith, sound_range (total_of c) (indices_of ordered) sorted s (omega (arith, long, enough, l)));
-              distinct = λ s u ls lu same. sound_apart (total_of c) (indices_of ordered) sorted s u (omega (arith, long, enough, ls)) (omega (arith, long, enough, lu)) same;
+              fit = λ s l. omega (arith, AreSound-in_range (total_of c) (indices_of ordered) sorted s (omega (arith, long, enough, l)));
+              distinct = λ s u ls lu same. AreSound-distinct (total_of c) (indices_of ordered) sorted s u (omega (arith, long, enough, ls)) (omega (arith, long, enough, lu)) same;
             } in
             let row : (t : List ℕ) → IsDecoding hash content c root chunks t → (s : ℕ) → s < k → (get_or ordered s y).shard ≡ row_at k t (P s) =
             λ t dt s l.

@@ -8,7 +8,6 @@ use Rattle.std.proofs.Math.Nat.{le-min}
 use Rattle.cw_base.specs.Rows.{listed, length-listed}
 use Rattle.cw_tree.specs.Chunks.{Piece}
 use Rattle.cw_tree.specs.Formats.{chunk_bytes, widest, piece_of_bytes}
-use Rattle.cw_tree.proofs.FormatLaws.{AreDigests}
 use Rattle.cw_tree.specs.Fits.{FitsChunk}
 use Rattle.cw_tree.specs.Sizes.{AreSized}
 use Rattle.cw_tree.proofs.Bounds.{chunk_bytes-le, sized_path}
@@ -42,7 +41,7 @@ listed_get n f i x e =
     (less, sym (get_or_from_slice_get (listed n f) i x x e) ∙ listed_at n f i x less)
 
 -- the bytes of digests that have so many bytes each
-digests_of : {D : Type 0} (content : D → List ℕ) (size : ℕ) (ds : List D) → AreSized content size ds → AreDigests size (map content ds)
+digests_of : {D : Type 0} (content : D → List ℕ) (size : ℕ) (ds : List D) → AreSized content size ds → AreSized (λ digest. digest) size (map content ds)
 digests_of content size [] sized = tt
 digests_of content size (d ∷ ds) sized = (sized.0, digests_of content size ds sized.1)
 

@@ -1,87 +1,14 @@
--- What is hashed on the way up from a chunk.
-use Rattle.std.proofs.Common.{◌≡◌, ◌≢◌, ℕ, suc, zero, ◌+◌, ◌/◌, ◌%◌, ◌<◌, ◌≤◌, ◌&&◌, Bool, true, false, cond, eqb, nat_lt, nat_le, List, [], ◌∷◌, ◌++◌, length, drop, take, get_or, slice_get, Option, Some, None, refl, sym, ap, subst, ◌∙◌, arith, append_assoc, inl, inr}
-use Rattle.std.proofs.lemmas.Bool.{leb-true, cases_lt}
-use Rattle.std.proofs.lemmas.List.{length-append, append_cancel_left, take_at, drop_at, drop-drop}
+-- What is hashed from two chunks under one root.
+use Rattle.std.proofs.Common.{◌≡◌, ◌≢◌, ℕ, suc, zero, ◌+◌, ◌/◌, ◌%◌, ◌<◌, ◌≤◌, Bool, true, false, cond, eqb, List, [], ◌∷◌, ◌++◌, length, drop, take, get_or, slice_get, Option, Some, None, refl, sym, ap, subst, ◌∙◌, arith, inl, inr}
+use Rattle.std.specs.Prelude.{option_map, IsSome}
+use Rattle.std.proofs.lemmas.Bool.{cases_lt}
+use Rattle.std.proofs.lemmas.List.{length-append, append_cancel_left, take_at, drop_at}
 use Rattle.std.proofs.lemmas.Option.{none-some, same_Some, slice_get_read, slice_get_within}
 use Rattle.cw_base.specs.Bytes.{be32}
 use Rattle.cw_tree.specs.Chunks.{Piece}
-use Rattle.cw_tree.specs.Tree.{leaf, above, rooted, rooted_some, climb, alone, with_first, root_by}
-use Rattle.cw_coding.specs.Clash.{is_odd_last, partner_of, siblings_above, pair_bytes, way_from, way_of, IsFirstClash, AreTold, AreRivals}
-
-leb_not : (a b : ℕ) → b < a → nat_le a b ≡ false
-leb_not a b lt = go (nat_le a b) refl
-  where
-    go : (t : Bool) → nat_le a b ≡ t → t ≡ false
-    go false e = refl
-    go true e = absurd (let h = leb-true a b e in omega arith)
-
-leb_yes : (a b : ℕ) → a ≤ b → nat_le a b ≡ true
-leb_yes a b le = go (nat_le a b) refl
-  where
-    go : (t : Bool) → nat_le a b ≡ t → t ≡ true
-    go true e = refl
-    go false e = absurd (grind (arith, e))
-
-module _ {D : Type 0} (hash : List ℕ → D) (content : D → List ℕ) (count : ℕ) where
-  -- the top of a way
-  pub way_top : (n width i : ℕ) (x : D) (siblings : List D) → width ≤ 1 → way_from hash content count (suc n) width i x siblings ≡ (be32 count ++ content x) ∷ []
-  unfolding way_from
-  way_top n width i x siblings h = rw (leb_yes width 1 h) refl
-
-  -- one level up
-  pub way_more : (n width i : ℕ) (x : D) (siblings : List D) → 1 < width →
-      way_from hash content count (suc n) width i x siblings ≡ (pair_bytes content i x (partner_of width i x siblings))
-      ∷ way_from hash content count n ((width + 1) / 2) (i / 2) (hash (pair_bytes content i x (partner_of width i x siblings))) (siblings_above width i siblings)
-  unfolding way_from
-  way_more n width i x siblings h = rw (leb_not width 1 h) refl
-
-  -- how far the texts on a way up have been taken
-  pub record WayTo (width i : ℕ) (x : D) (siblings : List D) (taken whole : List (List ℕ)) : Type 0 where
-    pub fuel : ℕ
-    pub enough : width ≤ fuel
-    pub some : 1 ≤ width
-    pub same : taken ++ way_from hash content count fuel width i x siblings ≡ whole
-
-  pub way_up : (width i : ℕ) (x y : D) (siblings rest : List D) (t : List ℕ) (taken after whole : List (List ℕ)) →
-      1 < width → t ≡ pair_bytes content i x (partner_of width i x siblings) → y ≡ hash t → rest ≡ siblings_above width i siblings → after ≡ taken ++ t ∷ [] →
-      WayTo width i x siblings taken whole → WayTo (width / 2 + width % 2) (i / 2) y rest after whole
-  way_up width i x y siblings rest t taken after whole wide is digest left more l = go l.fuel l.enough l.same
-    where
-      go : (n : ℕ) → width ≤ n → taken ++ way_from hash content count n width i x siblings ≡ whole → WayTo (width / 2 + width % 2) (i / 2) y rest after whole
-      go zero e same = absurd (omega arith)
-      go (suc n) e same =
-          let half : width / 2 + width % 2 ≡ (width + 1) / 2 = omega arith in
-          let above : y ≡ hash (pair_bytes content i x (partner_of width i x siblings)) = digest ∙ ap hash is in
-          record {
-            fuel = n;
-            enough = omega arith;
-            some = omega arith;
-            same = rw (half, more, above, left, is) (append_assoc taken (pair_bytes content i x (partner_of width i x siblings) ∷ []) _
-                ∙ ap (λ ts. taken ++ ts) (sym (way_more n width i x siblings wide)) ∙ same);
-          }
-
-  pub way_end : (width i : ℕ) (x : D) (siblings : List D) (t : List ℕ) (taken after whole : List (List ℕ)) →
-      width ≤ 1 → t ≡ be32 count ++ content x → after ≡ taken ++ t ∷ [] → WayTo width i x siblings taken whole → after ≡ whole
-  way_end width i x siblings t taken after whole low is more l = go l.fuel l.enough l.same
-    where
-      go : (n : ℕ) → width ≤ n → taken ++ way_from hash content count n width i x siblings ≡ whole → after ≡ whole
-      go zero e same = absurd (let s = l.some in omega arith)
-      go (suc n) e same = more ∙ ap (λ u. taken ++ u ∷ []) is ∙ ap (λ ts. taken ++ ts) (sym (way_top n width i x siblings low)) ∙ same
-
--- the siblings that are left where a node isn't alone
-pub above_next : {D : Type 0} (width i used : ℕ) (b : Bool) (siblings : List D) → b ≡ is_odd_last width i → b ≡ false →
-    drop (used + 1) siblings ≡ siblings_above width i (drop used siblings)
-above_next width i used b siblings is other =
-    subst (λ (t : Bool). drop (used + 1) siblings ≡ cond t (drop used siblings) (drop 1 (drop used siblings))) (sym (sym is ∙ other)) (sym (drop-drop 1 used siblings))
-
--- what is hashed on the way up from a chunk, as it is put together
-pub way_is : {D : Type 0} (hash : List ℕ → D) (content : D → List ℕ) (p : Piece D) (count index : ℕ) (siblings : List D) (shard t : List ℕ) (digest x : D)
-    (two all : List (List ℕ)) → shard ≡ p.shard → digest ≡ hash shard → index ≡ p.index → t ≡ be32 index ++ content digest → x ≡ hash t →
-    count ≡ p.leaf_count → siblings ≡ p.siblings → two ≡ shard ∷ (t ∷ []) → all ≡ two ++ way_from hash content count count count index x siblings →
-    all ≡ way_of hash content p
-unfolding way_of
-way_is hash content p count index siblings shard t digest x two all s d i is above n left both whole =
-    rw (whole, both, above, is, d, s, i, n, left) refl
+use Rattle.cw_tree.specs.Tree.{last_digest, pair_bytes, way_from, way_by}
+use Rattle.cw_tree.proofs.WayLaws.{way_more, way_top, way_behind, way_to_root}
+use Rattle.cw_coding.specs.Clash.{way_of, Leads, IsFirstClash, AreTold, AreRivals}
 
 -- ---- one digest at the end, and different texts at the start
 
@@ -123,178 +50,142 @@ pair_tells content i x y p q l h = go (eqb (i % 2) 0) h
     go true h = same_front (content x) (content p) (content y) (content q) l h
     go false h = same_back (content p) (content x) (content q) (content y) l h
 
--- one level up, where the way leads to a top
-climb_step : {D : Type 0} (hash : List ℕ → D) (content : D → List ℕ) (n width i : ℕ) (x : D) (siblings : List D) (top : D) → 1 < width →
-    climb hash content (suc n) width i x siblings ≡ Some top →
-    climb hash content n ((width + 1) / 2) (i / 2) (hash (pair_bytes content i x (partner_of width i x siblings))) (siblings_above width i siblings) ≡ Some top
-unfolding above
-climb_step {D = D} hash content n width i x siblings top wide h = go (eqb (i % 2) 0) (eqb (i + 1) width) siblings (rw (leb_not width 1 wide) at h)
-  where
-    up : D → List D → Option D
-    up y rest = climb hash content n ((width + 1) / 2) (i / 2) y rest
+-- texts that are chained are as many
+chained_long : {D : Type 0} (hash : List ℕ → D) (x y : D) (ours theirs : List (List ℕ)) → Chained hash x y ours theirs → length ours ≡ length theirs
+chained_long hash x y [] [] ch = refl
+chained_long hash x y [] (b ∷ ys) ch = absurd ch
+chained_long hash x y (a ∷ xs) [] ch = absurd ch
+chained_long hash x y (a ∷ xs) (b ∷ ys) ch = ap suc (chained_long hash (hash a) (hash b) xs ys ch.1)
 
-    go : (e l : Bool) (s : List D) →
-        cond e (cond l (up (hash (content x ++ content x)) s) (with_first s (λ t rest. up (hash (content x ++ content t)) rest))) (with_first s (λ t rest. up (hash (content t ++ content x)) rest)) ≡ Some top →
-        up (hash (cond e (content x ++ content (cond (e && l) x (get_or s 0 x))) (content (cond (e && l) x (get_or s 0 x)) ++ content x))) (cond (e && l) s (drop 1 s)) ≡ Some top
-    go true true s h = h
-    go true false [] h = absurd (none-some top h)
-    go true false (t ∷ rest) h = h
-    go false l [] h = absurd (none-some top h)
-    go false l (t ∷ rest) h = h
-
-alone_is : {D : Type 0} (x top : D) (s : List D) → alone x s ≡ Some top → x ≡ top
-alone_is x top [] h = same_Some x top h
-alone_is x top (t ∷ rest) h = absurd (none-some top h)
-
-module _ {D : Type 0} (hash : List ℕ → D) (content : D → List ℕ) (laws : TellsDigests hash content) (count : ℕ) where
-  chained_top : (n width i : ℕ) (x y : D) (s r : List D) (top end : D) → width ≤ 1 →
-      climb hash content (suc n) width i x s ≡ Some top → climb hash content (suc n) width i y r ≡ Some end →
-      hash (be32 count ++ content top) ≡ hash (be32 count ++ content end) →
-      Chained hash x y (way_from hash content count (suc n) width i x s) (way_from hash content count (suc n) width i y r)
-  chained_top n width i x y s r top end low a b same =
-      let ours : x ≡ top = alone_is x top s (rw (leb_yes width 1 low) at a) in
-      let theirs : y ≡ end = alone_is y end r (rw (leb_yes width 1 low) at b) in
-      rw (way_top hash content count n width i x s low, way_top hash content count n width i y r low) (
-        λ h. laws.told x y (append_cancel_left (be32 count) (content x) (content y) h),
-        ap (λ z. hash (be32 count ++ content z)) ours ∙ same ∙ ap (λ z. hash (be32 count ++ content z)) (sym theirs),
-      )
-
-  chained_up : (n width i : ℕ) (x y : D) (s r : List D) → 1 < width → length (content x) ≡ length (content y) →
-      Chained hash (hash (pair_bytes content i x (partner_of width i x s))) (hash (pair_bytes content i y (partner_of width i y r)))
-      (way_from hash content count n ((width + 1) / 2) (i / 2) (hash (pair_bytes content i x (partner_of width i x s))) (siblings_above width i s))
-      (way_from hash content count n ((width + 1) / 2) (i / 2) (hash (pair_bytes content i y (partner_of width i y r))) (siblings_above width i r)) →
-      Chained hash x y (way_from hash content count (suc n) width i x s) (way_from hash content count (suc n) width i y r)
-  chained_up n width i x y s r wide l above =
-      rw (way_more hash content count n width i x s wide, way_more hash content count n width i y r wide)
-      (λ h. laws.told x y (pair_tells content i x y (partner_of width i x s) (partner_of width i y r) l h), above)
-
-  chained_from : (n width i : ℕ) (x y : D) (s r : List D) (top end : D) → width ≤ n → length (content x) ≡ length (content y) →
-      climb hash content n width i x s ≡ Some top → climb hash content n width i y r ≡ Some end →
-      hash (be32 count ++ content top) ≡ hash (be32 count ++ content end) →
-      Chained hash x y (way_from hash content count n width i x s) (way_from hash content count n width i y r)
-  chained_from zero width i x y s r top end few l a b same = absurd (none-some top a)
-  chained_from (suc n) width i x y s r top end few l a b same =
+module _ {D : Type 0} (hash : List ℕ → D) (content : D → List ℕ) (laws : TellsDigests hash content) where
+  -- the ways up from two nodes of one place to one root
+  chained_from : (leaves n width i : ℕ) (x y : D) (s r : List D) (ours theirs : List (List ℕ)) → length (content x) ≡ length (content y) →
+      way_from hash content leaves n width i x s ≡ Some ours → way_from hash content leaves n width i y r ≡ Some theirs →
+      last_digest hash x ours ≡ last_digest hash y theirs → Chained hash x y ours theirs
+  chained_from leaves zero width i x y s r ours theirs long a b end = absurd (none-some ours a)
+  chained_from leaves (suc n) width i x y s r ours theirs long a b end =
       elim (cases_lt 1 width) [
         | inl wide ↦
-            let t : List ℕ = pair_bytes content i x (partner_of width i x s) in
-            let u : List ℕ = pair_bytes content i y (partner_of width i y r) in
-            chained_up n width i x y s r wide l (chained_from n ((width + 1) / 2) (i / 2) (hash t) (hash u) (siblings_above width i s) (siblings_above width i r) top end
-            (omega arith) (laws.sized t ∙ sym (laws.sized u))
-            (climb_step hash content n width i x s top wide a) (climb_step hash content n width i y r end wide b) same)
-        | inr low ↦ chained_top n width i x y s r top end low a b same
+            let one = way_more hash content leaves n width i x s ours wide a in
+            let other = way_more hash content leaves n width i y r theirs wide b in
+            let t : List ℕ = pair_bytes content i x one.partner in
+            let u : List ℕ = pair_bytes content i y other.partner in
+            let on : last_digest hash (hash t) one.others ≡ last_digest hash (hash u) other.others =
+            ap (last_digest hash x) (sym one.whole) ∙ end ∙ ap (last_digest hash y) other.whole in
+            let chain = chained_from leaves n ((width + 1) / 2) (i / 2) (hash t) (hash u) one.left other.left one.others other.others
+            (laws.sized t ∙ sym (laws.sized u)) one.above other.above on in
+            rw (one.whole, other.whole) (λ h. laws.told x y (pair_tells content i x y one.partner other.partner long h), chain)
+        | inr low ↦
+            let one = way_top hash content leaves n width i x s ours low a in
+            let other = way_top hash content leaves n width i y r theirs low b in
+            let on : hash (be32 leaves ++ content x) ≡ hash (be32 leaves ++ content y) =
+            ap (last_digest hash x) (sym one) ∙ end ∙ ap (last_digest hash y) other in
+            rw (one, other) (λ h. laws.told x y (append_cancel_left (be32 leaves) (content x) (content y) h), on)
       ]
 
-  -- the way up from a digest leads to a top, and its root
-  top_of : (i : ℕ) (d : D) (s : List D) (root : D) → root_by hash content count s i d ≡ Some root →
-      (top : D) × (climb hash content count count i (hash (be32 i ++ content d)) s ≡ Some top) × (hash (be32 count ++ content top) ≡ root)
-  unfolding root_by leaf rooted
-  top_of i d s root h = go (nat_lt i count) (climb hash content count count i (hash (be32 i ++ content d)) s) refl h
+  -- the ways from two digests of one place to one root
+  chained_by : (count i : ℕ) (d e : D) (s r : List D) (ours theirs : List (List ℕ)) →
+      way_by hash content count s i d ≡ Some ours → way_by hash content count r i e ≡ Some theirs →
+      last_digest hash d ours ≡ last_digest hash e theirs → Chained hash d e ours theirs
+  chained_by count i d e s r ours theirs a b end =
+      let one = way_behind hash content count s i d ours a in
+      let other = way_behind hash content count r i e theirs b in
+      let t : List ℕ = be32 i ++ content d in
+      let u : List ℕ = be32 i ++ content e in
+      let on : last_digest hash (hash t) one.0 ≡ last_digest hash (hash u) other.0 = ap (last_digest hash d) (sym one.2) ∙ end ∙ ap (last_digest hash e) other.2 in
+      let chain = chained_from count count count i (hash t) (hash u) s r one.0 other.0 (laws.sized t ∙ sym (laws.sized u)) one.1 other.1 on in
+      rw (one.2, other.2) (λ h. laws.told d e (append_cancel_left (be32 i) (content d) (content e) h), chain)
+
+  -- what is hashed from rivals
+  record AreChained (p q : Piece D) (ours theirs : List (List ℕ)) : Type 0 where
+    above : List (List ℕ)
+    others : List (List ℕ)
+    our_texts : ours ≡ p.shard ∷ above
+    their_texts : theirs ≡ q.shard ∷ others
+    chained : Chained hash (hash p.shard) (hash q.shard) above others
+
+  rivals_chained : (p q : Piece D) → AreRivals hash content p q → (ours theirs : List (List ℕ)) →
+      way_of hash content p ≡ Some ours → way_of hash content q ≡ Some theirs → AreChained p q ours theirs
+  unfolding way_of
+  rivals_chained p q rivals ours theirs a b =
+      let one = way_to_root hash content p.leaf_count p.siblings p.index (hash p.shard) rivals.root rivals.ours in
+      let other = way_to_root hash content q.leaf_count q.siblings q.index (hash q.shard) rivals.root rivals.theirs in
+      let moved : way_by hash content p.leaf_count q.siblings p.index (hash q.shard) ≡ Some other.0 =
+      ap (λ (m : ℕ). way_by hash content m q.siblings p.index (hash q.shard)) rivals.leaves
+      ∙ ap (λ (j : ℕ). way_by hash content q.leaf_count q.siblings j (hash q.shard)) rivals.index ∙ other.1 in
+      record {
+        above = one.0;
+        others = other.0;
+        our_texts = same_Some ours (p.shard ∷ one.0) (sym a ∙ ap (option_map (λ texts. p.shard ∷ texts)) one.1);
+        their_texts = same_Some theirs (q.shard ∷ other.0) (sym b ∙ ap (option_map (λ texts. q.shard ∷ texts)) other.1);
+        chained = chained_by p.leaf_count p.index (hash p.shard) (hash q.shard) p.siblings q.siblings one.0 other.0 one.1 moved (one.2 ∙ sym other.2);
+      }
+
+  pub rivals_long : (p q : Piece D) → AreRivals hash content p q → (ours theirs : List (List ℕ)) →
+      way_of hash content p ≡ Some ours → way_of hash content q ≡ Some theirs → length ours ≡ length theirs
+  rivals_long p q rivals ours theirs a b =
+      let r = rivals_chained p q rivals ours theirs a b in
+      ap length r.our_texts ∙ ap suc (chained_long hash (hash p.shard) (hash q.shard) r.above r.others r.chained) ∙ ap length (sym r.their_texts)
+
+  -- among what is hashed from rivals there is a text that doesn't tell itself from another by its digest
+  pub rivals_meet : (p q : Piece D) → AreRivals hash content p q → (ours theirs : List (List ℕ)) →
+      way_of hash content p ≡ Some ours → way_of hash content q ≡ Some theirs → (n : ℕ) → length ours ≤ n → AreTold hash n ours theirs → ⊥
+  rivals_meet p q rivals ours theirs a b n few told = rivals.shards (tell 0 p.shard q.shard refl refl digests)
     where
-      go : (b : Bool) (o : Option D) → climb hash content count count i (hash (be32 i ++ content d)) s ≡ o → cond b (rooted_some hash content count o) None ≡ Some root →
-          (top : D) × (climb hash content count count i (hash (be32 i ++ content d)) s ≡ Some top) × (hash (be32 count ++ content top) ≡ root)
-      go true (Some top) is h = (top, is, same_Some _ _ h)
-      go true None is h = absurd (none-some root h)
-      go false o is h = absurd (none-some root h)
+      r : AreChained p q ours theirs
+      r = rivals_chained p q rivals ours theirs a b
 
-choice : {X : Type 0} (b : Bool) (t u v w : X) (ts us : List X) → length ts ≡ length us → length (cond b (t ∷ []) (v ∷ ts)) ≡ length (cond b (u ∷ []) (w ∷ us))
-choice true t u v w ts us e = refl
-choice false t u v w ts us e = ap suc e
+      tell : (k : ℕ) (one other : List ℕ) → slice_get (p.shard ∷ r.above) k ≡ Some one → slice_get (q.shard ∷ r.others) k ≡ Some other → hash one ≡ hash other → one ≡ other
+      tell k one other here there =
+          let ga : slice_get ours k ≡ Some one = ap (λ (ts : List (List ℕ)). slice_get ts k) r.our_texts ∙ here in
+          let gb : slice_get theirs k ≡ Some other = ap (λ (ts : List (List ℕ)). slice_get ts k) r.their_texts ∙ there in
+          let l = slice_get_within ours k one ga in
+          told k one other (omega arith) ga gb
 
--- ways of one height have one length
-length-way : {D : Type 0} (hash : List ℕ → D) (content : D → List ℕ) (count n width i j : ℕ) (x y : D) (s r : List D) →
-    length (way_from hash content count n width i x s) ≡ length (way_from hash content count n width j y r)
-unfolding way_from
-length-way hash content count zero width i j x y s r = refl
-length-way hash content count (suc n) width i j x y s r =
-    choice (nat_le width 1) _ _ _ _ _ _ (length-way hash content count n ((width + 1) / 2) (i / 2) (j / 2) _ _ _ _)
+      digests : hash p.shard ≡ hash q.shard
+      digests = told_back hash (hash p.shard) (hash q.shard) r.above r.others r.chained (λ k. tell (suc k))
 
-pub ways_long : {D : Type 0} (hash : List ℕ → D) (content : D → List ℕ) (p q : Piece D) → p.leaf_count ≡ q.leaf_count →
-    length (way_of hash content p) ≡ length (way_of hash content q)
+-- a chunk that leads to a root has a way
+pub leads_on : {D : Type 0} (hash : List ℕ → D) (content : D → List ℕ) (p : Piece D) (root : D) → Leads hash content p root → IsSome (way_of hash content p)
 unfolding way_of
-ways_long hash content p q e =
-    ap (λ (n : ℕ). suc (suc n)) (ap (λ (n : ℕ). length (way_from hash content n n n p.index (hash (be32 p.index ++ content (hash p.shard))) p.siblings)) e
-    ∙ length-way hash content q.leaf_count q.leaf_count q.leaf_count p.index q.index _ _ _ _)
+leads_on hash content p root leads =
+    let way = way_to_root hash content p.leaf_count p.siblings p.index (hash p.shard) root leads in
+    rw way.1 refl
 
--- on the ways up from rivals there is a text that doesn't tell itself from another by its digest
-pub rivals_meet : {D : Type 0} (hash : List ℕ → D) (content : D → List ℕ) → TellsDigests hash content → (p q : Piece D) → AreRivals hash content p q →
-    (n : ℕ) → length (way_of hash content p) ≤ n → AreTold hash n (way_of hash content p) (way_of hash content q) → ⊥
+-- a way isn't both there and not
+pub way_there : (way : Option (List (List ℕ))) → way ≡ None → IsSome way → ⊥
+way_there None e h = cc
+way_there (Some texts) e h = none-some texts (sym e)
+
+-- the way of a chunk, by the texts behind its shard
+pub way_is : {D : Type 0} (hash : List ℕ → D) (content : D → List ℕ) (p : Piece D) (count index : ℕ) (siblings : List D) (digest : D) (shard : List ℕ) (texts : Option (List (List ℕ))) →
+    count ≡ p.leaf_count → index ≡ p.index → siblings ≡ p.siblings → shard ≡ p.shard → digest ≡ hash shard →
+    texts ≡ way_by hash content count siblings index digest → way_of hash content p ≡ option_map (λ above. shard ∷ above) texts
 unfolding way_of
-rivals_meet hash content laws p q rivals n few told = rivals.shards (tell 0 p.shard q.shard refl refl (laws.told _ _ digests))
-  where
-    tell : (k : ℕ) (a b : List ℕ) → slice_get (way_of hash content p) k ≡ Some a → slice_get (way_of hash content q) k ≡ Some b → hash a ≡ hash b → a ≡ b
-    tell k a b ga gb = let l = slice_get_within (way_of hash content p) k a ga in told k a b (omega arith) ga gb
+way_is hash content p count index siblings digest shard texts n i left s d is = rw (is, d, n, i, left, s) refl
 
-    ours : List ℕ
-    ours = be32 p.index ++ content (hash p.shard)
-
-    theirs : List ℕ
-    theirs = be32 q.index ++ content (hash q.shard)
-
-    up : hash ours ≡ hash theirs
-    up =
-        let one = top_of hash content laws p.leaf_count p.index (hash p.shard) p.siblings rivals.root rivals.ours in
-        let other = top_of hash content laws q.leaf_count q.index (hash q.shard) q.siblings rivals.root rivals.theirs in
-        let moved : climb hash content p.leaf_count p.leaf_count p.index (hash theirs) q.siblings ≡ Some other.0 =
-        subst (λ (m : ℕ). climb hash content m m p.index (hash theirs) q.siblings ≡ Some other.0) (sym rivals.leaves)
-        (subst (λ (j : ℕ). climb hash content q.leaf_count q.leaf_count j (hash theirs) q.siblings ≡ Some other.0) (sym rivals.index) other.1) in
-        let root : hash (be32 p.leaf_count ++ content one.0) ≡ hash (be32 p.leaf_count ++ content other.0) =
-        one.2 ∙ sym other.2 ∙ ap (λ (m : ℕ). hash (be32 m ++ content other.0)) (sym rivals.leaves) in
-        let chain = chained_from hash content laws p.leaf_count p.leaf_count p.leaf_count p.index (hash ours) (hash theirs) p.siblings q.siblings one.0 other.0
-        (omega arith) (laws.sized ours ∙ sym (laws.sized theirs)) one.1 moved root in
-        let there = subst (λ (m : ℕ). Chained hash (hash ours) (hash theirs) (way_from hash content p.leaf_count p.leaf_count p.leaf_count p.index (hash ours) p.siblings)
-        (way_from hash content m m m p.index (hash theirs) q.siblings)) rivals.leaves chain in
-        let here = subst (λ (j : ℕ). Chained hash (hash ours) (hash theirs) (way_from hash content p.leaf_count p.leaf_count p.leaf_count p.index (hash ours) p.siblings)
-        (way_from hash content q.leaf_count q.leaf_count q.leaf_count j (hash theirs) q.siblings)) rivals.index there in
-        told_back hash (hash ours) (hash theirs) _ _ here (λ k a b ga gb. tell (suc (suc k)) a b ga gb)
-
-    digests : content (hash p.shard) ≡ content (hash q.shard)
-    digests = append_cancel_left (be32 p.index) (content (hash p.shard)) (content (hash q.shard))
-        (tell 1 ours theirs refl refl up ∙ ap (λ (j : ℕ). be32 j ++ content (hash q.shard)) (sym rivals.index))
-
--- ---- the first place of two lists
-
-module _ {X : Type 0} (ours theirs : List X) (i : ℕ) (x y : X) (within : i < length ours) (there : i < length theirs) (isx : x ≡ get_or ours i x) (isy : y ≡ get_or theirs i y) where
-  at_x : (p : X) → slice_get ours i ≡ Some p → p ≡ x
-  at_x p h = same_Some p x (sym h ∙ slice_get_read ours (length ours) i x refl within isx)
-
-  at_y : (q : X) → slice_get theirs i ≡ Some q → q ≡ y
-  at_y q h = same_Some q y (sym h ∙ slice_get_read theirs (length theirs) i y refl there isy)
-
-  -- what holds of the items here, and at each place below, holds below the next
-  pub below_next : (R : X → X → Type 0) → R x y → ((j : ℕ) (p q : X) → j < i → slice_get ours j ≡ Some p → slice_get theirs j ≡ Some q → R p q) →
-      (j : ℕ) (p q : X) → j < i + 1 → slice_get ours j ≡ Some p → slice_get theirs j ≡ Some q → R p q
-  below_next R here before j p q l atp atq =
-      elim (cases_lt j i) [
-        | inl lt ↦ before j p q lt atp atq
-        | inr ge ↦
-            let e : j ≡ i = omega arith in
-            let px : p ≡ x = at_x p (ap (slice_get ours) (sym e) ∙ atp) in
-            let qy : q ≡ y = at_y q (ap (slice_get theirs) (sym e) ∙ atq) in
-            subst (λ (z : X). R z q) (sym px) (subst (λ (z : X). R x z) (sym qy) here)
-      ]
-
-  -- what holds of the items here holds of those at this place
-  pub at_place : (R : X → X → Type 0) → R x y → (p q : X) → slice_get ours i ≡ Some p → slice_get theirs i ≡ Some q → R p q
-  at_place R here p q atp atq = subst (λ (z : X). R z q) (sym (at_x p atp)) (subst (λ (z : X). R x z) (sym (at_y q atq)) here)
-
--- two texts that were found side by side on two ways are where these clash first
-pub clash_there : {D : Type 0} (hash : List ℕ → D) (s t ours theirs way other_way : List (List ℕ)) (p : ℕ) (x y a b : List ℕ) →
-    s ≡ ours → t ≡ theirs → ours ≡ way → theirs ≡ other_way → length way ≡ length other_way → p < length s →
-    x ≡ get_or ours p x → y ≡ get_or theirs p y → a ≡ x → b ≡ y →
-    ((u v : List ℕ) → slice_get s p ≡ Some u → slice_get t p ≡ Some v → (u ≢ v) × (hash u ≡ hash v)) → AreTold hash p s t →
-    IsFirstClash hash way other_way a b
-clash_there hash s t ours theirs way other_way p x y a b es et eo ew long within isx isy ea eb collide told =
-    let l : p < length ours = omega (arith, ap length es) in
-    let m : p < length theirs = omega (arith, ap length es, ap length eo, ap length ew, long) in
-    let first : slice_get ours p ≡ Some x = slice_get_read ours (length ours) p x refl l isx in
-    let second : slice_get theirs p ≡ Some y = slice_get_read theirs (length theirs) p y refl m isy in
-    let meet = collide x y (ap (λ (xs : List (List ℕ)). slice_get xs p) es ∙ first) (ap (λ (xs : List (List ℕ)). slice_get xs p) et ∙ second) in
+-- two texts that were found side by side in what is hashed from two chunks are where it clashes first
+pub clash_there : {D : Type 0} (hash : List ℕ → D) (content : D → List ℕ) (s t ours theirs : List (List ℕ)) (p q : Piece D) (i : ℕ) (x y a b : List ℕ) →
+    s ≡ ours → t ≡ theirs → way_of hash content p ≡ Some ours → way_of hash content q ≡ Some theirs → length ours ≡ length theirs → i < length s →
+    x ≡ get_or ours i x → y ≡ get_or theirs i y → a ≡ x → b ≡ y →
+    ((u v : List ℕ) → slice_get s i ≡ Some u → slice_get t i ≡ Some v → (u ≢ v) × (hash u ≡ hash v)) → AreTold hash i s t →
+    IsFirstClash hash content p q a b
+clash_there hash content s t ours theirs p q i x y a b es et eo ew long within isx isy ea eb collide told =
+    let l : i < length ours = omega (arith, ap length es) in
+    let m : i < length theirs = omega (arith, ap length es, long) in
+    let first : slice_get ours i ≡ Some x = slice_get_read ours (length ours) i x refl l isx in
+    let second : slice_get theirs i ≡ Some y = slice_get_read theirs (length theirs) i y refl m isy in
+    let meet = collide x y (ap (λ (xs : List (List ℕ)). slice_get xs i) es ∙ first) (ap (λ (xs : List (List ℕ)). slice_get xs i) et ∙ second) in
     record {
+      ours = ours;
+      theirs = theirs;
+      our_way = eo;
+      their_way = ew;
       lengths = long;
-      place = p;
-      ours_there = ap (λ (xs : List (List ℕ)). slice_get xs p) (sym eo) ∙ first ∙ ap Some (sym ea);
-      theirs_there = ap (λ (xs : List (List ℕ)). slice_get xs p) (sym ew) ∙ second ∙ ap Some (sym eb);
+      place = i;
+      ours_there = first ∙ ap Some (sym ea);
+      theirs_there = second ∙ ap Some (sym eb);
       differ = λ h. meet.0 (sym ea ∙ h ∙ eb);
       one_digest = ap hash ea ∙ meet.1 ∙ ap hash (sym eb);
-      before = subst (λ (xs : List (List ℕ)). AreTold hash p xs other_way) (es ∙ eo) (subst (λ (ys : List (List ℕ)). AreTold hash p s ys) (et ∙ ew) told);
+      before = subst (λ (xs : List (List ℕ)). AreTold hash i xs theirs) es (subst (λ (ys : List (List ℕ)). AreTold hash i s ys) et told);
     }

@@ -1,5 +1,5 @@
 -- Chunks that fit together, the text of a layout, and rows that are rebuilt.
-use Rattle.std.proofs.Common.{◌≡◌, ℕ, suc, zero, ◌+◌, ◌-◌, ◌*◌, ◌/◌, ◌%◌, ◌^◌, ◌<◌, ◌≤◌, List, [], ◌∷◌, ◌++◌, length, drop, take, get_or, Contains, All, refl, sym, ap, ◌∙◌, arith, Some}
+use Rattle.std.proofs.Common.{◌≡◌, ℕ, suc, zero, ◌+◌, ◌-◌, ◌*◌, ◌/◌, ◌%◌, ◌^◌, ◌<◌, ◌≤◌, List, [], ◌∷◌, ◌++◌, length, drop, take, get_or, Contains, All, refl, sym, ap, subst, ◌∙◌, arith, Some, ◌⊎◌, inl, inr, ⊎_elim}
 use Rattle.std.specs.Int.{w32, from_be_bytes}
 use Rattle.std.proofs.Math.Nat.{mul-le-mul_right, eq_of_mul-eq-mul_left}
 use Rattle.std.proofs.lemmas.Nat.{from_be_bytes-to_be_bytes_4}
@@ -14,8 +14,12 @@ use Rattle.cw_tree.specs.Widths.{shard_len}
 use Rattle.cw_base.specs.Rows.{row_hashes}
 use Rattle.cw_coding.specs.Layout.{layout, row_at, row_digests}
 use Rattle.cw_tree.specs.Tree.{root_of}
-use Rattle.cw_coding.proofs.IndexLaws.{sound_push}
-use Rattle.cw_coding.specs.Decoding.{FitTogether, indices_of, Fits}
+use Rattle.rs_code.proofs.IndexLaws.{AreSound-push}
+use Rattle.cw_base.specs.Counts.{Counts}
+use Rattle.cw_coding.specs.declared.error.ReedSolomonError.{ReedSolomonError}
+use Rattle.cw_coding.specs.declared.error.ReedSolomonError.TheVariants.{ReedSolomon, Inconsistent, InvalidProof, NotEnoughChunks, DuplicateIndex, InvalidDataLength, InvalidIndex, TooManyTotalShards, CommitmentMismatch, NoMemory}
+use Rattle.cw_coding.specs.Totals.{total_of, IsWidth}
+use Rattle.cw_coding.specs.Decoding.{FitTogether, IsFirstMisfit, IsChunkRefusal, indices_of, width_of, Fits}
 use Rattle.cw_tree.proofs.WidthLaws.{shard_len-covers, shard_len-even, shard_len-some}
 use Rattle.cw_coding.proofs.LayoutLaws.{length-layout, row_of-text, length-row_at, bytes_layout, text_hashes}
 
@@ -36,7 +40,7 @@ fit_more {D = D} total root width chunks i x l is f r w h new =
     record {
       roots = All-append (λ c. c.root ≡ root) _ _ f.roots (All-one (λ c. c.root ≡ root) x r);
       widths = All-append (λ c. length c.shard ≡ width) _ _ f.widths (All-one (λ c. length c.shard ≡ width) x w);
-      indices = rw split (sound_push total _ _ f.indices h new);
+      indices = rw split (AreSound-push total _ _ f.indices h new);
     } in
     rw more all
 
@@ -172,3 +176,27 @@ pub no_width : {D : Type 0} (hash : List ℕ → D) (content : D → List ℕ) (
 no_width hash content k m root width indices rows n text positive some h long f =
     let w = fits_width hash content k m root width indices rows n text some h long f in
     (rw (← w) (shard_len-some (length text) k positive), rw (← w) (shard_len-even (length text) k))
+
+-- a chunk that doesn't fit those before it is a cause to refuse them
+pub misfit_refuses : {D : Type 0} (c : Counts) (root : D) (chunks : List (Checked D)) (total width : ℕ) (e : ReedSolomonError) →
+    total ≡ total_of c → width ≡ width_of chunks → total ≤ 65535 → IsWidth total width →
+    (e ≡ NoMemory) ⊎ IsFirstMisfit total root width chunks e → (e ≡ NoMemory) ⊎ IsChunkRefusal c root chunks e
+misfit_refuses {D = D} c root chunks total width e t w small wide why = ⊎_elim (λ none. inl none) (λ m. inr (go e small wide m)) why
+  where
+    there : (e : ReedSolomonError) → total ≤ 65535 → IsWidth total width → IsFirstMisfit total root width chunks e →
+        (total_of c ≤ 65535) × IsWidth (total_of c) (width_of chunks) × IsFirstMisfit (total_of c) root (width_of chunks) chunks e
+    there e small wide m =
+        subst (λ (n : ℕ). (n ≤ 65535) × IsWidth n (width_of chunks) × IsFirstMisfit n root (width_of chunks) chunks e) t
+        (subst (λ (v : ℕ). (total ≤ 65535) × IsWidth total v × IsFirstMisfit total root v chunks e) w (small, wide, m))
+
+    go : (e : ReedSolomonError) → total ≤ 65535 → IsWidth total width → IsFirstMisfit total root width chunks e → IsChunkRefusal c root chunks e
+    go CommitmentMismatch small wide m = there CommitmentMismatch small wide m
+    go Inconsistent small wide m = there Inconsistent small wide m
+    go (InvalidIndex i) small wide m = there (InvalidIndex i) small wide m
+    go (DuplicateIndex i) small wide m = there (DuplicateIndex i) small wide m
+    go (ReedSolomon x) small wide m = absurd m.misfit
+    go InvalidProof small wide m = there InvalidProof small wide m
+    go NotEnoughChunks small wide m = absurd m.misfit
+    go (InvalidDataLength n) small wide m = there (InvalidDataLength n) small wide m
+    go (TooManyTotalShards n) small wide m = absurd m.misfit
+    go NoMemory small wide m = there NoMemory small wide m

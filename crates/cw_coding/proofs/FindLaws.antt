@@ -7,7 +7,7 @@ use Rattle.rs_code.specs.Codeword.{ArePoints}
 use Rattle.rs_code.specs.Rows.{OriginalsComeFirst, RowsFixCodeword}
 use Rattle.cw_tree.specs.Chunks.{Piece}
 use Rattle.cw_tree.specs.Tree.{root_by}
-use Rattle.cw_coding.specs.Clash.{AreAlike, AreRivals, AreClash, IsFirstClash, IsFirstDifference, Leads, way_of}
+use Rattle.cw_coding.specs.Clash.{AreAlike, AreRivals, AreClash, IsFirstClash, IsFirstDifference, Leads}
 use Rattle.cw_coding.specs.Encoding.{IsEncoding, piece_of}
 use Rattle.cw_coding.specs.Totals.{total_of}
 use Rattle.cw_coding.proofs.AnyLaws.{same_by_rows}
@@ -64,7 +64,6 @@ module _ {D : Type 0} (hash : List ℕ → D) (content : D → List ℕ) (c : Co
           record {
             leaves = one.0 ∙ sym two.0;
             index = one.1 ∙ sym two.1;
-            some = omega (arith, one.0, some);
             shards = differ x y (ap (λ (ps : List (Piece D)). slice_get ps i) es ∙ atx) (ap (λ (ps : List (Piece D)). slice_get ps i) et ∙ aty);
             root = root;
             ours = one.2;
@@ -86,7 +85,7 @@ module _ {D : Type 0} (hash : List ℕ → D) (content : D → List ℕ) (c : Co
           }
 
       pub clash_is : first ≢ second → AreAlike i s t → (a b : List ℕ) →
-          IsFirstClash hash (way_of hash content x) (way_of hash content y) a b → AreClash hash content c first second a b
+          IsFirstClash hash content x y a b → AreClash hash content c first second a b
       clash_is texts before a b clash =
           let one = listed_get (total_of c) (piece_of hash content c first) i x (ap (λ (ps : List (Piece D)). slice_get ps i) (sym e.each) ∙ atx) in
           let two = listed_get (total_of c) (piece_of hash content c second) i y (ap (λ (ps : List (Piece D)). slice_get ps i) (sym f.each) ∙ aty) in
@@ -95,6 +94,6 @@ module _ {D : Type 0} (hash : List ℕ → D) (content : D → List ℕ) (c : Co
             one_root = e.rooted ∙ ap Some (sym same) ∙ sym f.rooted;
             index = i;
             lowest = lowest before;
-            clash = subst (λ (p : Piece D). IsFirstClash hash (way_of hash content p) (way_of hash content (piece_of hash content c second i)) a b) one.1
-                (subst (λ (q : Piece D). IsFirstClash hash (way_of hash content x) (way_of hash content q) a b) two.1 clash);
+            clash = subst (λ (p : Piece D). IsFirstClash hash content p (piece_of hash content c second i) a b) one.1
+                (subst (λ (q : Piece D). IsFirstClash hash content x q a b) two.1 clash);
           }

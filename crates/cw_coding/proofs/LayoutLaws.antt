@@ -93,14 +93,6 @@ pub row_of-text : (k m : ℕ) (text rows : List ℕ) (width i : ℕ) → width �
 row_of-text k m text rows width i w r l =
     ap (λ xs. row_of xs width i) r ∙ row_of-joined (k + m) width (row_at k text) (λ j h. length-row_at k text j ∙ sym w) i l
 
--- the digests of rows that are joined
-pub digests_are : {D : Type 0} (hash : List ℕ → D) (k m : ℕ) (text rows : List ℕ) (width : ℕ) →
-    width ≡ shard_len (length text) k → rows ≡ joined (k + m) (row_at k text) →
-    listed (k + m) (λ i. hash (row_of rows width i)) ≡ row_digests hash k m text
-digests_are hash k m text rows width w r =
-    listed_same (k + m) (λ i. hash (row_of rows width i)) (λ i. hash (row_at k text i))
-    (λ i l. ap hash (row_of-text k m text rows width i w r l))
-
 pub rows_long : (k m : ℕ) (text out rows recovery : List ℕ) (width : ℕ) → 1 ≤ k → width % 2 ≡ 0 → width ≡ shard_len (length text) k →
     rows ≡ layout k text → recovery ≡ joined m (λ i. code_row k rows width (k + i)) → out ≡ rows ++ recovery →
     length out ≡ (k + m) * shard_len (length text) k

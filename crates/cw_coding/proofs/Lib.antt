@@ -1,7 +1,6 @@
 pub mod Joined
 pub mod LayoutLaws
 pub mod EncodingLaws
-pub mod IndexLaws
 pub mod OrderLaws
 pub mod DecodingLaws
 pub mod Heights

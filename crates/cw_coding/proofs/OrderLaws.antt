@@ -8,7 +8,7 @@ use Rattle.rs_code.specs.Indices.{AreSound}
 use Rattle.cw_coding.specs.Checked.{Checked}
 use Rattle.cw_base.specs.Counts.{Counts}
 use Rattle.cw_coding.specs.Layout.{row_at}
-use Rattle.cw_coding.proofs.IndexLaws.{sound_split}
+use Rattle.rs_code.proofs.IndexLaws.{AreSound-split}
 use Rattle.cw_coding.specs.Decoding.{indices_of, in_order, compared, width_of, AreDecodable, IsDecoding, Fits}
 
 indices_filter : {D : Type 0} (q : ℕ → Bool) (cs : List (Checked D)) → indices_of (filter (λ c. q c.index) cs) ≡ filter q (indices_of cs)
@@ -26,7 +26,7 @@ sound_in_order {D = D} k total cs a =
     let second = indices_filter (λ i. not (nat_lt i k)) cs in
     let split : indices_of (in_order k cs) ≡ indices_of (filter (λ c. nat_lt c.index k) cs) ++ indices_of (filter (λ c. not (nat_lt c.index k)) cs) =
     map-append (λ (c : Checked D). c.index) (filter (λ c. nat_lt c.index k) cs) (filter (λ c. not (nat_lt c.index k)) cs) in
-    rw (split, first, second) (sound_split (λ i. nat_lt i k) total (indices_of cs) a)
+    rw (split, first, second) (AreSound-split (λ i. nat_lt i k) total (indices_of cs) a)
 
 pub length-split : {X : Type 0} (p : X → Bool) (xs : List X) → length (filter p xs) + length (filter (λ x. not (p x)) xs) ≡ length xs
 length-split p [] = refl

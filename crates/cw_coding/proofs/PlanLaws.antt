@@ -4,7 +4,7 @@ use Rattle.std.proofs.lemmas.List.{get_or_default}
 use Rattle.rs_code.specs.Plans.{AreSound, IsRefusal, Shape}
 use Rattle.rs_code.specs.declared.plan.PlanError.{PlanError}
 use Rattle.rs_code.specs.declared.plan.PlanError.TheVariants.{TooFew, OutOfRange, Duplicate, NoMemory}
-use Rattle.cw_coding.proofs.IndexLaws.{sound_range}
+use Rattle.rs_code.proofs.IndexLaws.{AreSound-in_range}
 use Rattle.cw_coding.proofs.AnyLaws.{before_other}
 
 -- enough different indices in range are refused for want of memory alone
@@ -12,7 +12,7 @@ pub only_memory : (k m : ℕ) (present : List ℕ) → k ≤ length present → 
 only_memory k m present enough sound TooFew h = absurd (omega (arith, h.1))
 only_memory k m present enough sound (OutOfRange i) h =
     let first = h.1 in
-    let range = sound_range (k + m) present sound h.0 first.within in
+    let range = AreSound-in_range (k + m) present sound h.0 first.within in
     absurd (omega (arith, range, first.item, h.2))
 only_memory k m present enough sound (Duplicate i) h =
     let first = h.1 in

@@ -1,6 +1,6 @@
 //! Two texts of one root, and two texts of one digest that come of them.
 
-ghost use Rattle.std.specs.Prelude.{◌≡◌, ◌≢◌, ◌⊎◌, ℕ, ◌<◌, ◌↔◌, length, slice_get, IsTrue, IfOk};
+ghost use Rattle.std.specs.Prelude.{◌≡◌, ◌≢◌, ◌⊎◌, ℕ, ◌<◌, ◌↔◌, length, slice_get, IsTrue, IfOk, IsSome};
 ghost use Rattle.std.specs.Prelude.{IfErr, IfSome, IfNone, MatchBool, MatchOption, Some};
 ghost use Rattle.cw_tree.specs.Chunks.{Piece};
 ghost use Rattle.cw_coding.specs.Encoding.{IsEncodable, IsEncodeRefusal, root_of_text};
@@ -10,7 +10,6 @@ ghost use Rattle.cw_coding.specs.Clash.{way_of};
 use crate::encoding::encode_text;
 use crate::error::ReedSolomonError;
 use crate::recovering::same_bytes;
-use crate::ways::way_from_chunk;
 use cw_base::{Config, Digest, Hasher, Items, NoMemory, Strategy};
 use cw_tree::Chunk;
 use rs_code::laws::prove_rows;
@@ -64,16 +63,34 @@ fn first_collision<H: Hasher>(ours: &[Items<u8>], theirs: &[Items<u8>]) -> Optio
     None
 }
 
-// The first two different texts of one digest on the ways up from two chunks.
+// All that is hashed from a chunk up to a root that it leads to.
+fn way_from_chunk<H: Hasher>(
+    alloc: Global,
+    chunk: &Chunk<H::Digest>,
+) -> Result<Vec<Items<u8>>, NoMemory>
+    requires leads { IsSome (way_of H.digest_of H.Digest.content chunk.now) }
+    ensures { IfOk result
+        (λ texts. way_of H.digest_of H.Digest.content chunk.now ≡ Some texts.items) }
+{
+    let shard = Vec::from_slice(alloc, chunk.shard())?;
+    let digest = H::hash(&shard);
+    let index = u32::from(chunk.index());
+    let Some(above) = chunk.proof().hashed_texts::<H>(alloc, &digest, index)? else {
+        unreachable!();
+    };
+    let mut texts = above;
+    texts.insert(0, Items::from_vec(shard))?;
+    Ok(texts)
+}
+
+// The first two different texts of one digest that are hashed from two chunks.
 fn clash_of<H: Hasher>(
     alloc: Global,
     ours: &Chunk<H::Digest>,
     theirs: &Chunk<H::Digest>,
 ) -> Result<(Vec<u8>, Vec<u8>), NoMemory>
     requires { AreRivals H.digest_of H.Digest.content ours.now theirs.now }
-    ensures { IfOk result (λ found. IsFirstClash H.digest_of
-        (way_of H.digest_of H.Digest.content ours.now)
-        (way_of H.digest_of H.Digest.content theirs.now)
+    ensures { IfOk result (λ found. IsFirstClash H.digest_of H.Digest.content ours.now theirs.now
         found.0.items found.1.items) }
 {
     let ours = way_from_chunk::<H>(alloc, ours)?;

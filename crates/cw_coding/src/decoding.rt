@@ -27,7 +27,7 @@ fn decode_chunks<H: Hasher, R: Threads + Sync, S: Strategy>(
     ensures refused { IfErr result
         (λ e. IsRefusal H.digest_of H.Digest.content config.now commitment.now shards.now e) }
 {
-    let width = match decodable::<H>(config, commitment, shards) {
+    let width = match decodable::<H>(alloc, config, commitment, shards) {
         Ok(width) => width,
         Err(error) => return Err(error),
     };

@@ -1,10 +1,11 @@
 //! The chunks that are decoded: which fit together, and in which order they are used.
 
-ghost use Rattle.std.specs.Prelude.{◌≡◌, ℕ, ◌+◌, ◌-◌, ◌*◌, ◌^◌, ◌<◌, ◌≤◌, ◌==◌, [], ◌∷◌, ◌++◌, ◌↔◌};
+ghost use Rattle.std.specs.Prelude.{◌≡◌, ℕ, ◌+◌, ◌-◌, ◌*◌, ◌^◌, ◌<◌, ◌≤◌, ◌==◌, [], ◌∷◌, ◌++◌, ◌↔◌, ◌⊎◌};
 ghost use Rattle.std.specs.Prelude.{List, length, take, map, filter, nat_lt, not, if◌then◌else◌};
-ghost use Rattle.std.specs.Prelude.{IfOk, OnOk, IsTrue, MatchResult, Contains};
+ghost use Rattle.std.specs.Prelude.{IfOk, OnOk, IsTrue, MatchResult};
 ghost use Rattle.std.specs.List.{flat_map};
 ghost use Rattle.std.specs.Iterator.{IsFinite, Drains};
+ghost use Rattle.cw_coding.specs.Checked.{Checked};
 ghost use Rattle.cw_coding.specs.Totals.{IsWidth};
 ghost use Rattle.cw_coding.specs.Decoding.{IsMisfit, IsFirstMisfit, FitTogether, IsChunkRefusal};
 ghost use Rattle.cw_coding.specs.Decoding.{AreDecodable, indices_of, in_order, compared, width_of};
@@ -31,30 +32,18 @@ pub(crate) fn gathered<'a, H: Hasher + 'a, I: Iterator<Item = &'a CheckedChunk<H
     Ok(chunks)
 }
 
-// Whether a chunk of this index is among these.
-fn was_given<H: Hasher>(before: &[CheckedChunk<H>], index: u16) -> bool
-    ensures { IsTrue result ↔ Contains (indices_of before.now) index }
-{
-    for chunk in before {
-        if chunk.index() == index {
-            return true;
-        }
-    }
-    false
-}
-
-// Why a chunk is refused beside those before it.
-fn misfit<H: Hasher>(
+// Why a chunk is refused, whatever stands before it.
+fn stray<H: Hasher>(
     total: u32,
     root: &H::Digest,
     width: usize,
-    before: &[CheckedChunk<H>],
     chunk: &CheckedChunk<H>,
 ) -> Result<(), ReedSolomonError>
     ensures { MatchResult result
         (λ _. (chunk.now.root ≡ root.now) × (length chunk.now.shard ≡ width)
-        × (chunk.now.index < total) × (Contains (indices_of before.now) chunk.now.index → ⊥))
-        (λ e. IsMisfit total root.now width before.now chunk.now e) }
+        × (chunk.now.index < total))
+        (λ e. (before : List (Checked H.Digest)) →
+        IsMisfit total root.now width before chunk.now e) }
 {
     if !chunk.root().is_same(root) {
         return Err(ReedSolomonError::CommitmentMismatch);
@@ -65,9 +54,6 @@ fn misfit<H: Hasher>(
     let index = chunk.index();
     if u32::from(index) >= total {
         return Err(ReedSolomonError::InvalidIndex(index));
-    }
-    if was_given(before, index) {
-        return Err(ReedSolomonError::DuplicateIndex(index));
     }
     Ok(())
 }
@@ -80,8 +66,9 @@ fn is_width(total: u32, width: usize) -> bool
     width <= 0xffff_ffff && total as usize * width <= isize::MAX as usize
 }
 
-// Refuses the first chunk that doesn't fit those before it.
+// Refuses the first chunk that doesn't fit those before it. The index of each of these is marked.
 fn fitting<H: Hasher>(
+    alloc: Global,
     total: u32,
     root: &H::Digest,
     width: usize,
@@ -89,25 +76,36 @@ fn fitting<H: Hasher>(
 ) -> Result<(), ReedSolomonError>
     ensures { MatchResult result
         (λ _. FitTogether total root.now width shards.now)
-        (λ e. IsFirstMisfit total root.now width shards.now e) }
+        (λ e. (e ≡ ReedSolomonError.NoMemory)
+        ⊎ IsFirstMisfit total root.now width shards.now e) }
 {
-    for (place, chunk) in shards.iter().enumerate() {
-        if let Err(error) = misfit::<H>(total, root, width, &shards[..place], chunk) {
+    let Ok(mut given) = vec![in alloc; false; total as usize] else {
+        return Err(ReedSolomonError::NoMemory);
+    };
+    for chunk in shards {
+        if let Err(error) = stray::<H>(total, root, width, chunk) {
             return Err(error);
         }
+        let index = usize::from(chunk.index());
+        if given[index] {
+            return Err(ReedSolomonError::DuplicateIndex(chunk.index()));
+        }
+        given[index] = true;
     }
     Ok(())
 }
 
 // The width of chunks that can be decoded.
 pub(crate) fn decodable<H: Hasher>(
+    alloc: Global,
     config: &Config,
     root: &H::Digest,
     shards: &[CheckedChunk<H>],
 ) -> Result<usize, ReedSolomonError>
     ensures { MatchResult result
         (λ w. (w ≡ width_of shards.now) × AreDecodable config.now root.now shards.now)
-        (λ e. IsChunkRefusal config.now root.now shards.now e) }
+        (λ e. (e ≡ ReedSolomonError.NoMemory)
+        ⊎ IsChunkRefusal config.now root.now shards.now e) }
 {
     let total = config.total_shards();
     if total > 65535 {
@@ -120,7 +118,7 @@ pub(crate) fn decodable<H: Hasher>(
     if !is_width(total, width) {
         return Err(ReedSolomonError::ReedSolomon(RsError::InvalidShardSize { shard_bytes: width }));
     }
-    if let Err(error) = fitting::<H>(total, root, width, shards) {
+    if let Err(error) = fitting::<H>(alloc, total, root, width, shards) {
         return Err(error);
     }
     if shards.len() < usize::from(config.minimum_shards.get()) {

@@ -13,7 +13,6 @@ mod layout;
 mod recovering;
 mod scheme;
 mod sizes;
-mod ways;
 
 pub use checking::CheckedChunk;
 pub use clash::find_clash;

@@ -2,7 +2,7 @@ use Rattle.std.proofs.Common.{◌≡◌, ℕ, ◌+◌, ◌<◌, List, get_or, �
 use Rattle.rs_code.specs.Rows.{row_of, code_row, joined}
 use Rattle.cw_coding.specs.Layout.{layout, row_at, row_digests}
 use Rattle.cw_tree.specs.Tree.{root_of}
-use Rattle.cw_coding.proofs.IndexLaws.{sound_range}
+use Rattle.rs_code.proofs.IndexLaws.{AreSound-in_range}
 use Rattle.cw_coding.proofs.DecodingLaws.{no_width, fits_layout, same_text}
 use Rattle.cw_coding.proofs.recovering.recovered.Goals as goal
 use Rattle.cw_coding.proofs.recovering.recovered.Goals.{then-width-eq0-via-then-width-eq0, then-width-eq0-via-else-width-eq0+then-width-ne0}
@@ -56,4 +56,4 @@ returns g c =
     }
 
 pub confirmed-requires-clause-range : goal.confirmed-requires-clause-range
-confirmed-requires-clause-range g c = λ κs h s l. sound_range (c.args.k + c.args.m) c.args.given.now.indices.items c.requires.sound s l
+confirmed-requires-clause-range g c = λ κs h s l. AreSound-in_range (c.args.k + c.args.m) c.args.given.now.indices.items c.requires.sound s l
