@@ -59,6 +59,21 @@ pub fn spread(table: &mut [Eight], factors: &Eight)
     double_products(table, 128, factors, &each_by_16(&eight));
 }
 
+/// The products of eight factors with each number of four bits.
+pub fn spread_short(table: &mut [Eight], factors: &Eight)
+    requires { length table.old ≡ 16 }
+    ensures count { length table.new ≡ 16 }
+    ensures each { (b l : ℕ) → b < 16 → l < 8
+        → lane table.new b l ≡ times (slice_index factors.now l) b }
+{
+    let two = each_by_2(factors);
+    table[0] = [0; 8];
+    double_products(table, 1, factors, factors);
+    double_products(table, 2, factors, &two);
+    double_products(table, 4, factors, &each_by_4(factors));
+    double_products(table, 8, factors, &each_by_4(&two));
+}
+
 // Adds to the sums the products of eight factors with the row's symbols, from a first column on.
 // `low` has the factors' products with each lower byte, `high` with each upper byte.
 fn add_by_tables(
@@ -274,7 +289,7 @@ fn add_odd_row(
 
 /// For each of eight targets, one in a lane, the sums over the rows of a row's symbol times its
 /// factor for the target, in `count` columns from the column `first` on.
-pub fn group_sums(
+pub fn wide_sums(
     alloc: Global,
     factors: &[Eight],
     rows: &[u8],

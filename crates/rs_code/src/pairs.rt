@@ -1,9 +1,9 @@
 //! Sums of rows for two targets at once, where no more are left.
 
-ghost use Rattle.std.specs.Prelude.{◌≡◌, ℕ, ◌<◌, ◌≤◌, ◌+◌, ◌*◌, ◌/◌, bit_xor, length, slice_index};
+ghost use Rattle.std.specs.Prelude.{◌≡◌, ℕ, ◌<◌, ◌≤◌, ◌+◌, ◌*◌, ◌/◌, ◌%◌, bit_xor, length, slice_index};
 ghost use Rattle.std.specs.Prelude.{IfOk, OnOk};
 ghost use Rattle.rs_code.specs.Codeword.{sum_below};
-ghost use Rattle.rs_code.specs.Coefficients.{lane};
+ghost use Rattle.rs_code.specs.Coefficients.{lane, half};
 ghost use Rattle.rs_code.specs.Field.{times};
 ghost use Rattle.rs_code.specs.Rows.{symbol};
 
@@ -150,61 +150,53 @@ fn add_row(
     Ok(())
 }
 
-// The products of the first two of eight factors with each byte.
-fn pair_table(alloc: Global, factors: &Eight) -> Result<Vec<Pair>, AllocError>
+// The products of the first two of eight factors with each byte, both in a word.
+fn pair_table(alloc: Global, factors: &Eight) -> Result<Vec<u32>, AllocError>
     ensures count { IfOk result (λ v. length v.items ≡ 256) }
     ensures each { IfOk result (λ v. (b l : ℕ) → b < 256 → l < 2
-        → lane v.items b l ≡ times (slice_index factors.now l) b) }
+        → half (slice_index v.items b) l ≡ times (slice_index factors.now l) b) }
 {
     let mut table = vec![in alloc; [0u16; 8]; 256]?;
     spread(&mut table, factors);
-    let pairs = first_lanes(alloc, &table)?;
-    Ok(pairs)
+    let words = first_lanes(alloc, &table)?;
+    Ok(words)
 }
 
 // The first two lanes of each entry.
-fn first_lanes(alloc: Global, table: &[Eight]) -> Result<Vec<Pair>, AllocError>
+fn first_lanes(alloc: Global, table: &[Eight]) -> Result<Vec<u32>, AllocError>
     ensures count { IfOk result (λ v. length v.items ≡ length table.now) }
     ensures each { IfOk result (λ v. (b l : ℕ) → b < length table.now → l < 2
-        → lane v.items b l ≡ lane table.now b l) }
+        → half (slice_index v.items b) l ≡ lane table.now b l) }
 {
-    let mut pairs = Vec::with_capacity(alloc, table.len())?;
+    let mut words = Vec::with_capacity(alloc, table.len())?;
     for place in 0..table.len() {
-        pairs.push(first_two(&table[place]))?;
+        words.push(word_of(table[place][0], table[place][1]))?;
     }
-    Ok(pairs)
+    Ok(words)
 }
 
-// The first two lanes.
-fn first_two(eight: &Eight) -> Pair
-    ensures { (l : ℕ) → l < 2 → slice_index result l ≡ slice_index eight.now l }
+// Two lanes in a word, which is loaded and stored at once.
+fn word_of(first: u16, second: u16) -> u32
+    ensures { result ≡ second * 65536 + first }
 {
-    [eight[0], eight[1]]
+    u32::from(second) * 65536 + u32::from(first)
 }
 
-// The sum of two in each lane.
-fn sum_of_two(a: &Pair, b: &Pair) -> Pair
+// The sum with the lanes of a word.
+fn sum_with(pair: &Pair, word: u32) -> Pair
     ensures { (l : ℕ) → l < 2
-        → slice_index result l ≡ bit_xor (slice_index a.now l) (slice_index b.now l) }
+        → slice_index result l ≡ bit_xor (slice_index pair.now l) (half word l) }
 {
-    [a[0] ^ b[0], a[1] ^ b[1]]
-}
-
-// The sum of three in each lane.
-fn sum_of_three(a: &Pair, b: &Pair, c: &Pair) -> Pair
-    ensures { (l : ℕ) → l < 2 →
-        slice_index result l ≡ bit_xor (slice_index a.now l)
-        (bit_xor (slice_index b.now l) (slice_index c.now l)) }
-{
-    [a[0] ^ (b[0] ^ c[0]), a[1] ^ (b[1] ^ c[1])]
+    let sum = word_of(pair[0], pair[1]) ^ word;
+    [(sum % 65536) as u16, (sum / 65536) as u16]
 }
 
 // Adds to the sums the products of two factors with the row's symbols, from a first column on.
 // `low` has the factors' products with each lower byte, `high` with each upper byte.
 fn add_by_tables(
     sums: &mut [Pair],
-    low: &[Pair],
-    high: &[Pair],
+    low: &[u32],
+    high: &[u32],
     rows: &[u8],
     width: usize,
     row: usize,
@@ -216,14 +208,15 @@ fn add_by_tables(
     ensures count { length sums.new ≡ length sums.old }
     ensures each { (j l : ℕ) → j < length sums.old → l < 2
         → lane sums.new j l ≡ bit_xor (lane sums.old j l)
-        (bit_xor (lane high.now (slice_index rows.now (row * width + 2 * (first + j))) l)
-        (lane low.now (slice_index rows.now (row * width + 2 * (first + j) + 1)) l)) }
+        (bit_xor
+        (half (slice_index high.now (slice_index rows.now (row * width + 2 * (first + j)))) l)
+        (half (slice_index low.now (slice_index rows.now (row * width + 2 * (first + j) + 1))) l)) }
 {
     for column in 0..sums.len() {
         let place = row * width + 2 * (first + column);
-        let upper = &high[usize::from(rows[place])];
-        let lower = &low[usize::from(rows[place + 1])];
-        sums[column] = sum_of_three(&sums[column], upper, lower);
+        let upper = high[usize::from(rows[place])];
+        let lower = low[usize::from(rows[place + 1])];
+        sums[column] = sum_with(&sums[column], upper ^ lower);
     }
 }
 
@@ -231,10 +224,10 @@ fn add_by_tables(
 // next row's, from a first column on. The tables of the next row's are `next_low` and `next_high`.
 fn add_two_by_tables(
     sums: &mut [Pair],
-    low: &[Pair],
-    high: &[Pair],
-    next_low: &[Pair],
-    next_high: &[Pair],
+    low: &[u32],
+    high: &[u32],
+    next_low: &[u32],
+    next_high: &[u32],
     rows: &[u8],
     width: usize,
     row: usize,
@@ -246,25 +239,21 @@ fn add_two_by_tables(
     requires next_low { length next_low.now ≡ 256 }
     requires next_high { length next_high.now ≡ 256 }
     ensures count { length sums.new ≡ length sums.old }
-    ensures each { (j l : ℕ) → j < length sums.old → l < 2
-        → lane sums.new j l ≡ bit_xor (lane sums.old j l)
+    ensures each { (j l : ℕ) → j < length sums.old → l < 2 →
+        let place = row * width + 2 * (first + j) in
+        lane sums.new j l ≡ bit_xor (lane sums.old j l)
         (bit_xor
-        (bit_xor (lane high.now (slice_index rows.now (row * width + 2 * (first + j))) l)
-        (lane low.now (slice_index rows.now (row * width + 2 * (first + j) + 1)) l))
-        (bit_xor
-        (lane next_high.now (slice_index rows.now (row * width + 2 * (first + j) + width)) l)
-        (lane next_low.now (slice_index rows.now (row * width + 2 * (first + j) + width + 1)) l))) }
+        (bit_xor (half (slice_index high.now (slice_index rows.now place)) l)
+        (half (slice_index low.now (slice_index rows.now (place + 1))) l))
+        (bit_xor (half (slice_index next_high.now (slice_index rows.now (place + width))) l)
+        (half (slice_index next_low.now (slice_index rows.now (place + width + 1))) l))) }
 {
     for column in 0..sums.len() {
         let place = row * width + 2 * (first + column);
         let next = place + width;
-        let upper = &high[usize::from(rows[place])];
-        let lower = &low[usize::from(rows[place + 1])];
-        let next_upper = &next_high[usize::from(rows[next])];
-        let next_lower = &next_low[usize::from(rows[next + 1])];
-        let own = sum_of_two(upper, lower);
-        let others = sum_of_two(next_upper, next_lower);
-        sums[column] = sum_of_three(&sums[column], &own, &others);
+        let own = high[usize::from(rows[place])] ^ low[usize::from(rows[place + 1])];
+        let others = next_high[usize::from(rows[next])] ^ next_low[usize::from(rows[next + 1])];
+        sums[column] = sum_with(&sums[column], own ^ others);
     }
 }
 

@@ -12,8 +12,9 @@ ghost use Rattle.rs_code.specs.Rows.{symbol, symbol_bytes, joined, row_through};
 ghost use Rattle.rs_code.specs.Stripes.{stripe_start, stripe_bytes, AreStripes};
 
 use crate::basis::Basis;
-use crate::eights::{fill_lane, group_sums};
+use crate::eights::fill_lane;
 use crate::lanes::{Eight, next_eight};
+use crate::narrow::group_sums;
 use crate::pairs::{fill_pair_lane, pair_sums};
 use crate::stripes::{stripe, stripe_count};
 use cw_base::{NoMemory, Strategy};

@@ -1,4 +1,4 @@
-use Rattle.std.proofs.Common.{◌≡◌, ℕ, ◌+◌, ◌*◌, ◌≤◌, mul-le-mul_right, List, ◌++◌, length, take, drop, bit_xor, refl, sym, ap, ◌∙◌, arith}
+use Rattle.std.proofs.Common.{◌≡◌, ℕ, ◌+◌, ◌*◌, ◌≤◌, mul-le-mul_right, length, bit_xor, refl, sym, ap, ◌∙◌, arith}
 use Rattle.std.proofs.lemmas.List.{length-replicate}
 use Rattle.std.specs.Int.Bits.{xor_assoc}
 use Rattle.std.specs.List.{each_same}
@@ -7,7 +7,7 @@ use Rattle.rs_code.specs.Field.{times}
 use Rattle.rs_code.specs.Coefficients.{lane}
 use Rattle.rs_code.specs.Rows.{symbol}
 use Rattle.rs_code.proofs.Codewords.{sum_none, sum_more}
-use Rattle.rs_code.proofs.LaneLaws.{nothing, written_back}
+use Rattle.rs_code.proofs.LaneLaws.{nothing, table_written}
 use Rattle.rs_code.proofs.eights.add_row_pairs.Goals as goal
 
 pub loop-pair-init : goal.loop-pair-init
@@ -20,20 +20,14 @@ loop-pair-init c = record {
   each = λ none j i hj hi. none j i hj hi ∙ sym (sum_none _);
 }
 
--- a table that a call wrote is as long as before
-table : (items news : List (List ℕ)) (len : ℕ) → len ≡ length items → length items ≡ 256 → length news ≡ 256 →
-    length (take len (news ++ drop (length news) items)) ≡ 256
-table items news len whole before after =
-    ap length (written_back items news len (whole ∙ before ∙ sym after)) ∙ after
-
 pub loop-pair-preserved : goal.loop-pair-preserved
 unfolding lane
 loop-pair-preserved c = record {
   count = c.add_two_rows.ensures.count ∙ c.loop-pair.invariant.count;
-  low = table c.loop-pair.low.items c.add_two_rows.new.low c.loop-pair.low.len c.loop-pair.low.ok.0 c.loop-pair.invariant.low c.add_two_rows.ensures.low;
-  high = table c.loop-pair.high.items c.add_two_rows.new.high c.loop-pair.high.len c.loop-pair.high.ok.0 c.loop-pair.invariant.high c.add_two_rows.ensures.high;
-  next_low = table c.loop-pair.next_low.items c.add_two_rows.new.next_low c.loop-pair.next_low.len c.loop-pair.next_low.ok.0 c.loop-pair.invariant.next_low c.add_two_rows.ensures.next_low;
-  next_high = table c.loop-pair.next_high.items c.add_two_rows.new.next_high c.loop-pair.next_high.len c.loop-pair.next_high.ok.0 c.loop-pair.invariant.next_high c.add_two_rows.ensures.next_high;
+  low = table_written 256 c.loop-pair.low.items c.add_two_rows.new.low c.loop-pair.low.len c.loop-pair.low.ok.0 c.loop-pair.invariant.low c.add_two_rows.ensures.low;
+  high = table_written 256 c.loop-pair.high.items c.add_two_rows.new.high c.loop-pair.high.len c.loop-pair.high.ok.0 c.loop-pair.invariant.high c.add_two_rows.ensures.high;
+  next_low = table_written 256 c.loop-pair.next_low.items c.add_two_rows.new.next_low c.loop-pair.next_low.len c.loop-pair.next_low.ok.0 c.loop-pair.invariant.next_low c.add_two_rows.ensures.next_low;
+  next_high = table_written 256 c.loop-pair.next_high.items c.add_two_rows.new.next_high c.loop-pair.next_high.len c.loop-pair.next_high.ok.0 c.loop-pair.invariant.next_high c.add_two_rows.ensures.next_high;
   each = λ none j i hj hi.
       (let f : ℕ → ℕ = λ s. times (symbol c.args.rows.now c.args.width s (c.args.first + j)) (lane c.args.factors.now s i) in
       let n : ℕ = 2 * c.loop-pair.pair in

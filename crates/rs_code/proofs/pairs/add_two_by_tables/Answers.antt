@@ -1,6 +1,6 @@
 use Rattle.std.proofs.Common.{◌≢◌, ℕ, ◌+◌, ◌*◌, ap, ap₂, ◌∙◌, get_or, bit_xor, arith}
-use Rattle.rs_code.specs.Coefficients.{lane}
-use Rattle.rs_code.proofs.LaneLaws.{lane_set_other, summed}
+use Rattle.rs_code.specs.Coefficients.{lane, half}
+use Rattle.rs_code.proofs.LaneLaws.{lane_set_other, summed, half_xor}
 use Rattle.rs_code.proofs.pairs.add_two_by_tables.Goals as goal
 
 pub loop-column-preserved : goal.loop-column-preserved
@@ -8,18 +8,23 @@ unfolding lane
 loop-column-preserved c =
     let place : ℕ → ℕ = λ j. c.args.row * c.args.width + 2 * (c.args.first + j) in
     let next : ℕ → ℕ = λ j. place j + c.args.width in
+    let byte : ℕ → ℕ = λ n. get_or c.args.rows.now n 0 in
+    let upper : ℕ → ℕ = λ b. get_or c.args.high.now b 0 in
+    let lower : ℕ → ℕ = λ b. get_or c.args.low.now b 0 in
+    let next_upper : ℕ → ℕ = λ b. get_or c.args.next_high.now b 0 in
+    let next_lower : ℕ → ℕ = λ b. get_or c.args.next_low.now b 0 in
     record {
       done =
-          summed 2 c.loop-column.sums c.args.sums.now c.loop-column.column c.sum_of_three.result
+          summed 2 c.loop-column.sums c.args.sums.now c.loop-column.column c.sum_with.result
           (λ j i. bit_xor
-          (bit_xor (lane c.args.high.now (get_or c.args.rows.now (place j) 0) i) (lane c.args.low.now (get_or c.args.rows.now (place j + 1) 0) i))
-          (bit_xor (lane c.args.next_high.now (get_or c.args.rows.now (next j) 0) i) (lane c.args.next_low.now (get_or c.args.rows.now (next j + 1) 0) i)))
+          (bit_xor (half (upper (byte (place j))) i) (half (lower (byte (place j + 1))) i))
+          (bit_xor (half (next_upper (byte (next j))) i) (half (next_lower (byte (next j + 1))) i)))
           (omega arith) c.loop-column.invariant.done c.loop-column.invariant.rest
-          (λ i h. c.sum_of_three.ensures i h
-          ∙ ap (bit_xor (lane c.loop-column.sums c.loop-column.column i)) (ap₂ bit_xor
-          (c.sum_of_two-own.ensures i h ∙ ap₂ (λ (x y : ℕ). bit_xor (lane c.args.high.now x i) (lane c.args.low.now y i)) c.from.ensures c.from-in-loop-column.ensures)
-          (c.sum_of_two-others.ensures i h ∙ ap₂ (λ (x y : ℕ). bit_xor (lane c.args.next_high.now x i) (lane c.args.next_low.now y i)) c.from-in-loop-column-2.ensures c.from-in-loop-column-3.ensures)));
+          (λ i h. c.sum_with.ensures i h
+          ∙ ap (bit_xor (lane c.loop-column.sums c.loop-column.column i)) (half_xor _ _ i ∙ ap₂ bit_xor
+          (half_xor _ _ i ∙ ap₂ (λ (x y : ℕ). bit_xor (half (upper x) i) (half (lower y) i)) c.from.ensures c.from-in-loop-column.ensures)
+          (half_xor _ _ i ∙ ap₂ (λ (x y : ℕ). bit_xor (half (next_upper x) i) (half (next_lower y) i)) c.from-in-loop-column-2.ensures c.from-in-loop-column-3.ensures)));
       rest = λ j i h.
           let apart : j ≢ c.loop-column.column = omega arith in
-          lane_set_other c.loop-column.sums c.loop-column.column j c.sum_of_three.result i apart ∙ c.loop-column.invariant.rest j i (omega arith);
+          lane_set_other c.loop-column.sums c.loop-column.column j c.sum_with.result i apart ∙ c.loop-column.invariant.rest j i (omega arith);
     }

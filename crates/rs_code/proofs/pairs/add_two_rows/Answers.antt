@@ -1,6 +1,6 @@
 use Rattle.std.proofs.Common.{◌≡◌, ℕ, ◌+◌, ◌*◌, ◌<◌, List, get_or, bit_xor, sym, ap, ap₂, ◌∙◌, arith}
 use Rattle.rs_code.specs.Field.{times}
-use Rattle.rs_code.specs.Coefficients.{lane}
+use Rattle.rs_code.specs.Coefficients.{lane, half}
 use Rattle.rs_code.specs.Rows.{symbol}
 use Rattle.rs_code.proofs.LaneLaws.{by_bytes}
 use Rattle.rs_code.proofs.pairs.add_two_rows.Goals as goal
@@ -15,7 +15,7 @@ returns-clause-each c = λ j l hj hl.
     let fits : (n : ℕ) → byte n < 256 = λ n. omega (arith, c.type_inv.rows n) in
     let f : ℕ = get_or c.args.factors.now l 0 in
     let g : ℕ = get_or c.args.next_factors.now l 0 in
-    let read : (b : ℕ) → List (List ℕ) → ℕ = λ b xs. lane xs b l in
+    let read : (b : ℕ) → List ℕ → ℕ = λ b xs. half (get_or xs b 0) l in
     c.add_two_by_tables.ensures.each j l hj hl
     ∙ ap (bit_xor (lane c.args.sums.now j l))
     (ap₂ bit_xor

@@ -11,6 +11,6 @@ returns-clause-each c = λ b l hb hl.
     let back = written_back c.in_ok-table.table.items c.spread.new.table c.in_ok-table.table.len
     (omega (arith, c.in_ok-table.table.ok.0, ap length table ∙ length-replicate 256 nothing, c.spread.ensures.count)) in
     let whole = c.deref.ensures.value ∙ back in
-    c.in_ok-pairs.ensures.each b l (omega (arith, hb, ap length whole, c.spread.ensures.count)) hl
+    c.in_ok-words.ensures.each b l (omega (arith, hb, ap length whole, c.spread.ensures.count)) hl
     ∙ ap (λ (xs : List (List ℕ)). lane xs b l) whole
     ∙ c.spread.ensures.each b l hb (omega (arith, hl))
