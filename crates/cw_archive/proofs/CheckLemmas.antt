@@ -7,12 +7,13 @@ use Rattle.cw_coding.specs.Checking.{IsCheckRefusal, IsUnder}
 use Rattle.cw_coding.specs.declared.error.ReedSolomonError.{ReedSolomonError}
 use Rattle.cw_coding.specs.declared.error.ReedSolomonError.TheVariants.{NoMemory}
 use Rattle.cw_types.specs.declared.commitment.Commitment.{Commitment}
-use Rattle.cw_rules.specs.Rules.{Chunk, total_of}
+use Rattle.cw_rules.specs.Rules.{Chunk}
+use Rattle.cw_coding.specs.Totals.{total_of}
 use Rattle.cw_rules_coded.specs.Coded.{digest_bytes}
 use Rattle.shards.specs.Enough.{AreUnder, is_under_root, no_committees}
 use Rattle.shards.proofs.Standing.{refused_under, stands_under, under_stands}
 use Rattle.cw_archive.specs.Archived.{checks}
-use Rattle.cw_archive.specs.Showing.{AllCheck, AreEnough}
+use Rattle.cw_archive.specs.Showing.{AreChecked, AreSufficient}
 
 module _ (hash : List ℕ → Digest32) (c : Commitment) where
   pub check_taken : (x : Chunk) → IsUnder hash digest_bytes c.config c.root x.index x → checks hash c x ≡ true
@@ -32,11 +33,11 @@ module _ (hash : List ℕ → Digest32) (c : Commitment) where
   pub check_within : (x : Chunk) → checks hash c x ≡ true → x.index < total_of c.config
   check_within x h = let p = check_parts x h in (stands_under hash no_committees c x p.0 p.1).within
 
-  pub all_under : (xs : List Chunk) → AllCheck hash c xs → AreUnder hash c xs
+  pub all_under : (xs : List Chunk) → AreChecked hash c xs → AreUnder hash c xs
   all_under [] a = tt
   all_under (x ∷ xs) a = ((check_parts x a.0).1, all_under xs a.1)
 
   -- chunks that check, of which there are some, are of a config with few enough shards
-  pub few_of : (xs : List Chunk) → AreEnough hash c xs → total_of c.config ≤ 65535
+  pub few_of : (xs : List Chunk) → AreSufficient hash c xs → total_of c.config ≤ 65535
   few_of [] are = absurd (let some = are.some in let none = are.enough in omega arith)
   few_of (x ∷ xs) are = (check_parts x are.check.0).0

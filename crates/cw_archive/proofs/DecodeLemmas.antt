@@ -29,7 +29,7 @@ use Rattle.shards.specs.Enough.{AreOfText, AreUnder, checked_of, no_committees}
 use Rattle.shards.specs.Kept.{rules_of}
 use Rattle.shards.proofs.Decoded.{all_bytes, listed_at}
 use Rattle.shards.proofs.Standing.{stands_under}
-use Rattle.cw_archive.specs.Showing.{AreEnough}
+use Rattle.cw_archive.specs.Showing.{AreSufficient}
 use Rattle.cw_archive.proofs.CheckLemmas.{all_under, few_of}
 
 listed_from : {X : Type 0} (n : ℕ) (f : ℕ → X) (i : ℕ) (x : X) → slice_get (listed n f) i ≡ Some x → f i ≡ x
@@ -124,7 +124,7 @@ module _ (hash : List ℕ → Digest32) (c : Commitment) where
       (listed_at (c.config.minimum + c.config.extra) (row_at c.config.minimum text) x.index stands.within ∙ ap Some (sym a.0), rows_of_text text xs few u.1 a.1)
 
   -- chunks that are decoded to a text are rows of its codeword
-  pub of_text : (chunks : List Chunk) (text : List ℕ) → IsCoder (rules_of hash no_committees) → AreEnough hash c chunks → AreByteChunks chunks
+  pub of_text : (chunks : List Chunk) (text : List ℕ) → IsCoder (rules_of hash no_committees) → AreSufficient hash c chunks → AreByteChunks chunks
       → IsDecoding hash digest_bytes c.config c.root (map (checked_of hash c) chunks) text → AreOfText hash c chunks text
   of_text chunks text coder are bytes d =
       let some = are.some in
@@ -160,7 +160,7 @@ module _ (hash : List ℕ → Digest32) (c : Commitment) where
       (stands.within, λ h. elsewhere x.index xs a.0 h.0 h.1 h.2, sound_indices xs few u.1 a.1)
 
   -- chunks that are refused, and not for want of memory, are of no text
-  pub of_no_text : (chunks : List Chunk) (e : ReedSolomonError) → IsCoder (rules_of hash no_committees) → AnyEnoughDecode hash digest_bytes → AreEnough hash c chunks
+  pub of_no_text : (chunks : List Chunk) (e : ReedSolomonError) → IsCoder (rules_of hash no_committees) → AnyEnoughDecode hash digest_bytes → AreSufficient hash c chunks
       → IsRefusal hash digest_bytes c.config c.root (map (checked_of hash c) chunks) e → e ≢ NoMemory → (text : List ℕ) → length text ≤ 1048745 → AreOfText hash c chunks text → ⊥
   of_no_text chunks e coder any are refusal other text short of =
       let some = are.some in

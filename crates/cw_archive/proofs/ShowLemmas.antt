@@ -17,7 +17,8 @@ use Rattle.cw_types.specs.Same.{same_commitment, same_digest}
 use Rattle.cw_types.specs.declared.commitment.Commitment.{Commitment}
 use Rattle.cw_types.proofs.Same.{same_commitment-true, same_commitment_self, same_digest_self, same_counts_self}
 use Rattle.cw_rules.specs.Coding.{AreApart, AreByteChunks, AreRowsOf, IsCoder, IsText}
-use Rattle.cw_rules.specs.Rules.{Chunk, total_of}
+use Rattle.cw_rules.specs.Rules.{Chunk}
+use Rattle.cw_coding.specs.Totals.{total_of}
 use Rattle.cw_rules_coded.specs.Coded.{code_rows, decoded, digest_bytes, root_over}
 use Rattle.shards.specs.Enough.{AreOfText, IsRooted, no_committees}
 use Rattle.shards.specs.Kept.{rules_of}

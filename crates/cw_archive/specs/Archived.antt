@@ -8,7 +8,8 @@ use Rattle.cw_types.specs.Block.{Block}
 use Rattle.cw_types.specs.Encoding.{block_bytes, context_bytes}
 use Rattle.cw_types.specs.Same.{same_commitment}
 use Rattle.cw_types.specs.declared.commitment.Commitment.{Commitment}
-use Rattle.cw_rules.specs.Rules.{Chunk, block_of, rows_under, total_of}
+use Rattle.cw_rules.specs.Rules.{Chunk, block_of, rows_under}
+use Rattle.cw_coding.specs.Totals.{total_of}
 use Rattle.cw_rules_coded.specs.Coded.{root_over}
 use Rattle.shards.specs.Enough.{is_under_root, no_committees}
 use Rattle.shards.specs.Kept.{chunks_of, is_known, rules_of, with_chunk}

@@ -14,14 +14,14 @@ use Rattle.shards.specs.declared.pieces.KeptChunk.{KeptChunk}
 use Rattle.cw_archive.specs.Archived.{checks, name_of, used_of}
 
 -- each chunk checks under the commitment
-abbrev pub AllCheck : (List ℕ → Digest32) → Commitment → List Chunk → Type 0
-AllCheck hash c chunks = AllByRecursion (λ x. IsTrue (checks hash c x)) chunks
+abbrev pub AreChecked : (List ℕ → Digest32) → Commitment → List Chunk → Type 0
+AreChecked hash c chunks = AllByRecursion (λ x. IsTrue (checks hash c x)) chunks
 
 -- as many chunks as give a text back, which check under the commitment at different places
-pub record AreEnough (hash : List ℕ → Digest32) (c : Commitment) (chunks : List Chunk) : Type 0 where
+pub record AreSufficient (hash : List ℕ → Digest32) (c : Commitment) (chunks : List Chunk) : Type 0 where
   pub some : 1 ≤ c.config.minimum
   pub enough : length chunks ≡ c.config.minimum
-  pub check : AllCheck hash c chunks
+  pub check : AreChecked hash c chunks
   pub apart : AreApart chunks
 
 -- what an archive holds true of what it keeps: the bytes of all shards are counted and are within the limit, and each chunk checks under its commitment

@@ -3,7 +3,7 @@
 ghost use Rattle.std.specs.Prelude.{◌≡◌, ◌≤◌, IfOk, None, Some, if◌then◌else◌, map};
 ghost use Rattle.cw_rules.specs.Coding.{AreByteChunks, AreBytes};
 ghost use Rattle.cw_archive.specs.Archived.{checks};
-ghost use Rattle.cw_archive.specs.Showing.{AllCheck};
+ghost use Rattle.cw_archive.specs.Showing.{AreChecked};
 ghost use Rattle.shards.specs.Enough.{checked_of};
 
 use cw_base::{Digest32, Hasher, NoMemory, Strategy};
@@ -51,7 +51,7 @@ pub(crate) fn checked_all<H: Hasher<Digest = Digest32>, S: Strategy>(
     chunks: &[&Chunk<Digest32>],
     strategy: &S,
 ) -> Result<Vec<CheckedChunk<H>>, NoMemory>
-    requires { AllCheck H.digest_of commitment.now (map (λ chunk. chunk.now) chunks.now) }
+    requires { AreChecked H.digest_of commitment.now (map (λ chunk. chunk.now) chunks.now) }
     ensures checked { IfOk result
         (λ checked. checked.items
         ≡ map (checked_of H.digest_of commitment.now) (map (λ chunk. chunk.now) chunks.now)) }

@@ -17,6 +17,3 @@ mod showing;
 pub use archive::Archive;
 pub use laws::archives_show;
 pub use put::Put;
-
-#[cfg(test)]
-mod tests;

@@ -5,7 +5,7 @@ ghost use Rattle.std.specs.Prelude.{slice_get};
 ghost use Rattle.std.specs.List.{AllByRecursion};
 ghost use Rattle.std.specs.Option.{option_copied, option_map};
 ghost use Rattle.cw_archive.specs.Archived.{chunk_at};
-ghost use Rattle.cw_rules.specs.Rules.{total_of};
+ghost use Rattle.cw_coding.specs.Totals.{total_of};
 ghost use Rattle.shards.specs.Kept.{chunks_of, is_known, with_chunk};
 
 use crate::key::ChunkKey;

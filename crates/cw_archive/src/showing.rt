@@ -3,7 +3,7 @@
 ghost use Rattle.std.specs.Prelude.{◌≡◌, ◌≢◌, ◌&&◌, IfNone, IfOk, IfSome, IsNone, map};
 ghost use Rattle.std.specs.Prelude.{option_and_then};
 ghost use Rattle.cw_archive.specs.Archived.{if_named, least_chunks, name_of, shown_by};
-ghost use Rattle.cw_archive.specs.Showing.{AreEnough, IsOfNoBlock};
+ghost use Rattle.cw_archive.specs.Showing.{AreSufficient, IsOfNoBlock};
 ghost use Rattle.cw_types.specs.Encoding.{block_bytes};
 ghost use Rattle.cw_types.specs.Reading.{block_in};
 ghost use Rattle.cw_types.specs.Same.{same_commitment, same_digest};
@@ -51,7 +51,7 @@ fn decoded<H: Hasher<Digest = Digest32>, R: Threads + Sync, S: Strategy>(
     chunks: &[&Chunk<Digest32>],
     strategy: &S,
 ) -> Result<Option<Vec<u8>>, NoMemory>
-    requires { AreEnough H.digest_of commitment.now (map (λ chunk. chunk.now) chunks.now) }
+    requires { AreSufficient H.digest_of commitment.now (map (λ chunk. chunk.now) chunks.now) }
     ensures some { IfOk result (λ text. IfSome text (λ text.
         AreOfText H.digest_of commitment.now (map (λ chunk. chunk.now) chunks.now) text.items)) }
     ensures none { IfOk result (λ text. IfNone text (IsOfNoBlock H.digest_of commitment.now
@@ -141,7 +141,7 @@ pub(crate) fn shown<H: Hasher<Digest = Digest32>, R: Threads + Sync, S: Strategy
     chunks: &[&Chunk<Digest32>],
     strategy: &S,
 ) -> Result<Option<ChainBlock>, NoMemory>
-    requires { AreEnough H.digest_of commitment.now (map (λ chunk. chunk.now) chunks.now) }
+    requires { AreSufficient H.digest_of commitment.now (map (λ chunk. chunk.now) chunks.now) }
     ensures { IfOk result (λ block. block
         ≡ shown_by H.digest_of commitment.now (map (λ chunk. chunk.now) chunks.now)) }
 {

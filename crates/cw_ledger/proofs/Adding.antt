@@ -4,11 +4,11 @@ use Rattle.node_disk.proofs.Compose.{stays, weakens}
 use Rattle.node_disk.specs.Disk.{DeviceCall, DiskState, IsFront, LeavesOnly, told_more}
 use Rattle.node_disk.specs.Frames.{Finds, FindsWithOrWithout}
 use Rattle.node_disk.specs.Images.{Moment}
-use Rattle.node_disk.specs.Log.{IsBeforeOrSame, IsSettled, with_frame}
+use Rattle.node_disk.specs.Log.{IsBeforeOrSame, HasSettled, with_frame}
 use Rattle.node_disk.proofs.AtRest.{settled_images}
 use Rattle.cw_base.specs.Bytes.{be64}
-use Rattle.cw_ledger.specs.Frames.{FindsEither, FindsPayloads, IsBeforeOrFound, first_payload, payload_in, payloads_from, payloads_of, with_payload}
-use Rattle.cw_ledger.specs.Kept.{AreKept, amount_in, kept_payloads, payloads_or_none}
+use Rattle.cw_ledger.specs.Frames.{FindsEither, FindsPayloads, IsBeforeOrPayloads, first_payload, payload_in, payloads_from, payloads_of, with_payload}
+use Rattle.cw_ledger.specs.Kept.{KeepBalances, amount_in, kept_payloads, payloads_or_none}
 use Rattle.cw_ledger.specs.Ledger.{frame_of, frames_of}
 use Rattle.cw_ledger.specs.Transfers.{balances, moved_all, transfers}
 use Rattle.cw_ledger.proofs.Loading.{as_many, frames_more}
@@ -45,15 +45,15 @@ one_more place height (f ∷ fs) payloads frame payload e new = go (λ ps is. on
 pub finds_payloads : (frames payloads : List (List ℕ)) (image : List ℕ) → payloads_from 0 0 frames ≡ Ok payloads → Finds frames image → FindsPayloads payloads image
 finds_payloads frames payloads image found finds = ap payloads_of finds ∙ found
 
-pub before_or_found : (moment : Moment) (image : List ℕ) → IsBeforeOrSame moment image → IsBeforeOrFound moment image
+pub before_or_found : (moment : Moment) (image : List ℕ) → IsBeforeOrSame moment image → IsBeforeOrPayloads moment image
 before_or_found moment image (inl is) = inl is
 before_or_found moment image (inr same) = inr (ap payloads_of same)
 
-pub starts_so : (old new : DiskState) → LeavesOnly old new (IsBeforeOrSame old.now) → LeavesOnly old new (IsBeforeOrFound old.now)
-starts_so old new left = weakens old new (IsBeforeOrSame old.now) (IsBeforeOrFound old.now) (before_or_found old.now) left
+pub starts_so : (old new : DiskState) → LeavesOnly old new (IsBeforeOrSame old.now) → LeavesOnly old new (IsBeforeOrPayloads old.now)
+starts_so old new left = weakens old new (IsBeforeOrSame old.now) (IsBeforeOrPayloads old.now) (before_or_found old.now) left
 
 -- nothing was done to the disk
-pub stays_found : (frames payloads others : List (List ℕ)) (gate : ℕ) (disk : DiskState) → payloads_from 0 0 frames ≡ Ok payloads → IsSettled frames gate disk.now → LeavesOnly disk disk (FindsEither payloads others)
+pub stays_found : (frames payloads others : List (List ℕ)) (gate : ℕ) (disk : DiskState) → payloads_from 0 0 frames ≡ Ok payloads → HasSettled frames gate disk.now → LeavesOnly disk disk (FindsEither payloads others)
 stays_found frames payloads others gate disk found settled =
     stays disk disk (FindsEither payloads others) (record { now = refl; past = refl; calls = refl })
     (λ image is. inl (finds_payloads frames payloads image found (settled_images frames gate disk.now settled image is)))
@@ -81,10 +81,10 @@ added frames (b ∷ bs) long = refl
 
 -- how a replica stands once its log has the frame
 pub record IsAdded (frames more : List (List ℕ)) (payload : List ℕ) (entries : List (ℕ × ℕ)) : Type 0 where
-  pub kept_more : AreKept more entries
+  pub kept_more : KeepBalances more entries
   pub payloads : kept_payloads more ≡ kept_payloads frames ++ payload ∷ []
 
-module _ (frames : List (List ℕ)) (entries : List (ℕ × ℕ)) (are : AreKept frames entries) (payload : List ℕ) (fits : length frames < 2 ^ 64) where
+module _ (frames : List (List ℕ)) (entries : List (ℕ × ℕ)) (are : KeepBalances frames entries) (payload : List ℕ) (fits : length frames < 2 ^ 64) where
   abbrev frame : List ℕ
   frame = frame_of (length frames, payload)
 
@@ -117,7 +117,7 @@ module _ (frames : List (List ℕ)) (entries : List (ℕ × ℕ)) (are : AreKept
         ∙ ap (λ n. frames_of (kept_payloads frames) ++ frame_of (n, payload) ∷ []) (sym (as_many frames entries are))
         ∙ sym (frames_more (kept_payloads frames) payload) ∙ ap frames_of (sym payloads_are)
 
-    pub are_kept : (room passed : List (ℕ × ℕ)) → ((a : ℕ) → amount_in room a ≡ amount_in entries a) → ((a : ℕ) → amount_in passed a ≡ moved_all (amount_in room) (transfers payload) a) → AreKept more passed
+    pub are_kept : (room passed : List (ℕ × ℕ)) → ((a : ℕ) → amount_in room a ≡ amount_in entries a) → ((a : ℕ) → amount_in passed a ≡ moved_all (amount_in room) (transfers payload) a) → KeepBalances more passed
     are_kept room passed same moves = record {
       found = found_kept;
       written = written_more;
@@ -125,5 +125,5 @@ module _ (frames : List (List ℕ)) (entries : List (ℕ × ℕ)) (are : AreKept
     }
 
 -- the entries have what they had
-pub kept_same : (frames : List (List ℕ)) (old new : List (ℕ × ℕ)) → AreKept frames old → ((a : ℕ) → amount_in new a ≡ amount_in old a) → AreKept frames new
+pub kept_same : (frames : List (List ℕ)) (old new : List (ℕ × ℕ)) → KeepBalances frames old → ((a : ℕ) → amount_in new a ≡ amount_in old a) → KeepBalances frames new
 kept_same frames old new are same = record { found = are.found; written = are.written; balanced = λ a. same a ∙ are.balanced a }

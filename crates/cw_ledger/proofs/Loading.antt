@@ -4,7 +4,7 @@ use Rattle.std.specs.List.{enumerate_from, slice_get}
 use Rattle.std.proofs.lemmas.Option.{same_Some}
 use Rattle.cw_base.specs.ReadsBack.{IsBytes}
 use Rattle.cw_ledger.specs.Frames.{first_payload, payload_in, payloads_from, with_payload}
-use Rattle.cw_ledger.specs.Kept.{AreKept, amount_in, kept_payloads, payloads_or_none}
+use Rattle.cw_ledger.specs.Kept.{KeepBalances, amount_in, kept_payloads, payloads_or_none}
 use Rattle.cw_ledger.specs.Ledger.{frame_of, frames_of}
 use Rattle.cw_ledger.specs.Transfers.{balances, first_balance, moved_all, transfers}
 use Rattle.cw_ledger.proofs.Moving.{balances_more, moved_all_same, nothing_moved}
@@ -35,7 +35,7 @@ length_numbered n [] = refl
 length_numbered n (x ∷ xs) = ap suc (length_numbered (n + 1) xs)
 
 -- there are as many frames as payloads
-pub as_many : (frames : List (List ℕ)) (entries : List (ℕ × ℕ)) → AreKept frames entries → length (kept_payloads frames) ≡ length frames
+pub as_many : (frames : List (List ℕ)) (entries : List (ℕ × ℕ)) → KeepBalances frames entries → length (kept_payloads frames) ≡ length frames
 as_many frames entries are = sym (ap length are.written ∙ length_numbered 0 (kept_payloads frames))
 
 -- ---- frames that are read
@@ -99,7 +99,7 @@ refuses frames index place entries frame loading at none =
     ∙ ap (λ fs. with_all loading.payloads (payloads_from place index fs)) here.0
     ∙ ap (λ o. with_all loading.payloads (first_payload place o (payloads_from (place + 9 + length frame) (index + 1) (drop (suc index) frames)))) none
 
-pub ends : (frames : List (List ℕ)) (index place : ℕ) (entries : List (ℕ × ℕ)) → IsLoading frames index place entries → index ≡ length frames → AreKept frames entries
+pub ends : (frames : List (List ℕ)) (index place : ℕ) (entries : List (ℕ × ℕ)) → IsLoading frames index place entries → index ≡ length frames → KeepBalances frames entries
 ends frames index place entries loading at_end =
     let gone = no_more frames in
     let none : drop index frames ≡ [] = ap (λ n. drop n frames) at_end ∙ gone.0 in

@@ -46,5 +46,5 @@ abbrev pub FindsEither : List (List ℕ) → List (List ℕ) → List ℕ → Ty
 FindsEither before after bytes = FindsPayloads before bytes ⊎ FindsPayloads after bytes
 
 -- an image that could be left before, or one on which a start finds what it finds on what a read gave then
-abbrev pub IsBeforeOrFound : Moment → List ℕ → Type 0
-IsBeforeOrFound moment image = IsImage moment image ⊎ (read_payloads image ≡ read_payloads moment.seen)
+abbrev pub IsBeforeOrPayloads : Moment → List ℕ → Type 0
+IsBeforeOrPayloads moment image = IsImage moment image ⊎ (read_payloads image ≡ read_payloads moment.seen)

@@ -46,7 +46,7 @@ abbrev pub kept_payloads : List (List ℕ) → List (List ℕ)
 kept_payloads frames = payloads_or_none (payloads_from 0 0 frames)
 
 -- A log's frames are those of the payloads that are found in them, and the entries are the balances that these leave.
-pub record AreKept (frames : List (List ℕ)) (entries : List (ℕ × ℕ)) : Type 0 where
+pub record KeepBalances (frames : List (List ℕ)) (entries : List (ℕ × ℕ)) : Type 0 where
   pub found : payloads_from 0 0 frames ≡ Ok (kept_payloads frames)
   pub written : frames ≡ frames_of (kept_payloads frames)
   pub balanced : (account : ℕ) → amount_in entries account ≡ balances (kept_payloads frames) account

@@ -4,7 +4,7 @@ ghost use Rattle.std.specs.Prelude.{◌≡◌, ◌+◌, ◌<◌, ◌^◌, ◌++�
 ghost use Rattle.std.specs.Prelude.{option_map};
 ghost use Rattle.cw_base.specs.ReadsBack.{IsBytes};
 ghost use Rattle.cw_ledger.specs.Frames.{payload_in, payloads_from};
-ghost use Rattle.cw_ledger.specs.Kept.{AreKept, amount_in};
+ghost use Rattle.cw_ledger.specs.Kept.{KeepBalances, amount_in};
 ghost use Rattle.cw_ledger.specs.Ledger.{frame_of};
 ghost use Rattle.cw_ledger.specs.Transfers.{moved_all, transfers};
 ghost use Rattle.node_disk.specs.LogWords.{log_frames};
@@ -58,7 +58,7 @@ fn place_behind(place: u64, frame: &[u8]) -> Result<u64, NoMemory>
 
 /// The balances that the frames of a log leave.
 pub(crate) fn loaded<D: Disk>(alloc: Global, log: &Log<D>) -> Result<Balances, StoreError>
-    ensures kept { IfOk result (λ balances. AreKept (log_frames log.now) balances) }
+    ensures kept { IfOk result (λ balances. KeepBalances (log_frames log.now) balances) }
     ensures foreign { (place : ℕ) → IsErrOf result (StoreError.Foreign place)
         → payloads_from 0 0 (log_frames log.now) ≡ Err place }
     ensures disk { IsErrOf result StoreError.Disk → ⊥ }

@@ -5,9 +5,9 @@ ghost use Rattle.std.specs.Prelude.{false, None, Err, IfErr, IfOk, IsErrOf, OnEr
 ghost use Rattle.cw_base.specs.Causes.{Rose};
 ghost use Rattle.node_disk.specs.Disk.{HasTold, IsCutShort, IsFront, LeavesOnly, Synced};
 ghost use Rattle.node_disk.specs.Images.{IsImage};
-ghost use Rattle.node_disk.specs.Log.{HasAppended, IsSettled, WasCutShort, calls_of_append};
+ghost use Rattle.node_disk.specs.Log.{HasAppended, HasSettled, WasCutShort, calls_of_append};
 ghost use Rattle.node_disk.specs.Log.{start_calls};
-ghost use Rattle.cw_ledger.specs.Frames.{FindsEither, FindsPayloads, IsBeforeOrFound};
+ghost use Rattle.cw_ledger.specs.Frames.{FindsEither, FindsPayloads, IsBeforeOrPayloads};
 ghost use Rattle.cw_ledger.specs.Frames.{read_payloads};
 ghost use Rattle.cw_ledger.specs.Ledger.{answer_to, applied, frame_of, last_height, log_of, over};
 ghost use Rattle.cw_ledger.specs.Ledger.{started, written_for};
@@ -56,7 +56,7 @@ pub struct Replica<D: Disk> {
 }
 
 impl<D: Disk> Model for Replica<D> {
-    ghost use Rattle.cw_ledger.specs.Kept.{AreKept, kept_payloads};
+    ghost use Rattle.cw_ledger.specs.Kept.{KeepBalances, kept_payloads};
     ghost use Rattle.cw_ledger.specs.Ledger.{Ledger};
     ghost use Rattle.node_disk.specs.LogWords.{has_failed, log_disk, log_frames, log_gate};
 
@@ -69,7 +69,7 @@ impl<D: Disk> Model for Replica<D> {
       disk = log_disk r.log;
     } };
 
-    ghost invariant = { λ r. AreKept (log_frames r.log) r.balances };
+    ghost invariant = { λ r. KeepBalances (log_frames r.log) r.balances };
 }
 
 impl<D: Disk> Replica<D> {
@@ -81,7 +81,7 @@ impl<D: Disk> Replica<D> {
         ensures ok { IfOk result (λ r. r ≡ started r.payloads r.gate r.disk) }
         ensures found { IfOk result (λ r. FindsPayloads r.payloads (D.state disk).now.seen) }
         ensures settled { IfOk result
-            (λ r. IsSettled (log_of r).frames r.gate (D.state r.disk).now) }
+            (λ r. HasSettled (log_of r).frames r.gate (D.state r.disk).now) }
         ensures on_disk { IfOk result (λ r. (image : List ℕ)
             → IsImage (D.state r.disk).now image → FindsPayloads r.payloads image) }
         ensures foreign { (place : ℕ) → IfErr result (λ e. e.1 ≡ StoreError.Foreign place
@@ -92,9 +92,9 @@ impl<D: Disk> Replica<D> {
         // They stay in each image from the first sync on, and before it no other image than before
         // can be left.
         ensures any_moment { IfOk result (λ r.
-            LeavesOnly (D.state disk) (D.state r.disk) (IsBeforeOrFound (D.state disk).now)) }
+            LeavesOnly (D.state disk) (D.state r.disk) (IsBeforeOrPayloads (D.state disk).now)) }
         ensures any_moment_err { IfErr result (λ e.
-            LeavesOnly (D.state disk) (D.state e.0) (IsBeforeOrFound (D.state disk).now)) }
+            LeavesOnly (D.state disk) (D.state e.0) (IsBeforeOrPayloads (D.state disk).now)) }
 
         // The device calls: all of them, or up to the first that fails. A read that fails comes
         // after the sync.
@@ -139,7 +139,7 @@ impl<D: Disk> Replica<D> {
             ≡ record (over self.old self.new) { payloads = applied self.old.payloads block.now }) }
         ensures err { OnErr result (self.new ≡ over self.old self.new) }
         ensures settled { self.new.failed ≡ false
-            → IsSettled (log_of self.new).frames self.new.gate (D.state self.new.disk).now }
+            → HasSettled (log_of self.new).frames self.new.gate (D.state self.new.disk).now }
 
         // After it each image has all payloads, the new one too.
         ensures on_disk { OnOk result ((image : List ℕ)
@@ -206,7 +206,7 @@ impl<D: Disk> Replica<D> {
             }) }
         ensures err { OnErr result (self.new ≡ over self.old self.new) }
         ensures settled { self.new.failed ≡ false
-            → IsSettled (log_of self.new).frames self.new.gate (D.state self.new.disk).now }
+            → HasSettled (log_of self.new).frames self.new.gate (D.state self.new.disk).now }
         ensures on_disk { OnOk result ((image : List ℕ)
             → IsImage (D.state self.new.disk).now image → FindsPayloads self.new.payloads image) }
         ensures any_moment { LeavesOnly (D.state self.old.disk) (D.state self.new.disk)
@@ -259,7 +259,7 @@ impl<D: Disk> Replica<D> {
     /// each image, and where no device is called that stays so.
     pub fn rests(&self)
         ensures settled { self.now.failed ≡ false
-            → IsSettled (log_of self.now).frames self.now.gate (D.state self.now.disk).now }
+            → HasSettled (log_of self.now).frames self.now.gate (D.state self.now.disk).now }
         ensures found { self.now.failed ≡ false → (image : List ℕ)
             → IsImage (D.state self.now.disk).now image → FindsPayloads self.now.payloads image }
         ensures stays { self.now.failed ≡ false → (others : List (List ℕ))

@@ -17,7 +17,8 @@ use Rattle.cw_types.specs.Votes.{finalized, vote_epoch, well_formed}
 use Rattle.cw_rules.specs.Accepted.{Ballot, Came, Part, Row, Whole, accepted, add_wish, first_some, is_chunk_of, is_valid, same_ballot, same_part, take_ballot, take_part, wish_for}
 use Rattle.cw_rules.specs.Coding.{AreApart, AreByteChunks, AreRowsOf, IsCoder, IsCodeword, IsText, first_chunks}
 use Rattle.cw_rules.specs.Held.{if_committed, row_of, shown, whole_of}
-use Rattle.cw_rules.specs.Rules.{Chunk, Rules, block_of, chunk_at, chunks, commit, config, is_under, rows_of, total_of}
+use Rattle.cw_rules.specs.Rules.{Chunk, Rules, block_of, chunk_at, chunks, commit, config, is_under, rows_of}
+use Rattle.cw_coding.specs.Totals.{total_of}
 use Rattle.cw_rules.specs.Step.{taken_came}
 use Rattle.cw_types.proofs.Same.{same_commitment-true, same_commitment_self}
 use Rattle.cw_rules.proofs.Lists.{and_then_some}

@@ -6,7 +6,8 @@ use Rattle.cw_types.specs.Block.{Block}
 use Rattle.cw_types.specs.declared.commitment.Commitment.{Commitment}
 use Rattle.cw_rules.specs.Accepted.{Came}
 use Rattle.cw_rules.specs.Held.{row_of}
-use Rattle.cw_rules.specs.Rules.{Chunk, Rules, chunk_at, chunks, commit, rows_under, total_of}
+use Rattle.cw_rules.specs.Rules.{Chunk, Rules, chunk_at, chunks, commit, rows_under}
+use Rattle.cw_coding.specs.Totals.{total_of}
 
 -- each number is a byte
 abbrev pub AreBytes : List ℕ → Type 0

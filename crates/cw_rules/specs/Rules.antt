@@ -9,6 +9,7 @@ use Rattle.cw_types.specs.Epochs.{Epochs, size}
 use Rattle.cw_types.specs.Numbers.{config_for}
 use Rattle.cw_types.specs.declared.block.Context.{Context}
 use Rattle.cw_types.specs.declared.commitment.Commitment.{Commitment}
+use Rattle.cw_coding.specs.Totals.{total_of}
 use Rattle.cw_types.specs.Commit as first
 
 -- a row of a codeword, with its place and its way up in the tree
@@ -56,10 +57,6 @@ among r epochs backlog accepts = record {
 -- the config of an epoch
 abbrev pub config : Rules → ℕ → Counts
 config r epoch = config_for (size r.epochs epoch)
-
--- k + m of a config
-abbrev pub total_of : Counts → ℕ
-total_of x = x.minimum + x.extra
 
 -- the rows of the codeword of a text under a config
 abbrev pub rows_under : Rules → Counts → List ℕ → List (List ℕ)

@@ -24,7 +24,8 @@ ghost use Rattle.cw_rules.specs.Reached.{AllAnchored, AllNamed, GoesDown, In, Is
 ghost use Rattle.cw_rules.specs.Reached.{IsMemberKept, IsOneChain, IsReported, OnlyGrows, Reaches};
 ghost use Rattle.cw_rules.specs.Reached.{ReachesClear, members_of};
 ghost use Rattle.cw_rules.specs.Report.{handed_in, report_of};
-ghost use Rattle.cw_rules.specs.Rules.{Rules, among, chunks, commit, is_under, total_of};
+ghost use Rattle.cw_rules.specs.Rules.{Rules, among, chunks, commit, is_under};
+ghost use Rattle.cw_coding.specs.Totals.{total_of};
 ghost use Rattle.cw_rules.specs.Stands.{AreKept, AreLawful, Descends, EachAfter, Members, Stands};
 ghost use Rattle.cw_rules.specs.Sends.{finalization_at};
 ghost use Rattle.cw_rules.specs.Step.{Member, Wanted, deliveries, delivery, found, left_to_hand};

@@ -31,7 +31,8 @@ use Rattle.cw_types.specs.Same.{same_digest}
 use Rattle.cw_base.specs.ReadsBack.{IsBytes}
 use Rattle.cw_types.proofs.FormatLaws.{block_found}
 use Rattle.cw_rules.specs.Coding.{AreApart, AreByteChunks, AreBytes, IsCoder, IsText}
-use Rattle.cw_rules.specs.Rules.{Chunk, total_of}
+use Rattle.cw_rules.specs.Rules.{Chunk}
+use Rattle.cw_coding.specs.Totals.{total_of}
 use Rattle.cw_rules_coded.specs.Coded.{code_rows, coded, decoded, digest_bytes, if_codeword}
 use Rattle.cw_rules_coded.specs.Coded.{is_row_of, is_text, originals, place_at, root_over}
 use Rattle.cw_rules_coded.specs.Coded.{shards_of, text_in, width_of}

@@ -18,7 +18,8 @@ use Rattle.cw_types.specs.Encoding.{block_bytes, context_bytes}
 use Rattle.cw_types.specs.Epochs.{Epochs}
 use Rattle.cw_types.specs.Reading.{block_in}
 use Rattle.cw_types.specs.Same.{same_digest}
-use Rattle.cw_rules.specs.Rules.{Chunk, Rules, total_of}
+use Rattle.cw_rules.specs.Rules.{Chunk, Rules}
+use Rattle.cw_coding.specs.Totals.{total_of}
 
 -- the k + m rows of a text's codeword
 abbrev pub code_rows : List ℕ → ℕ → ℕ → List (List ℕ)

@@ -2,6 +2,8 @@
 #![tactic(auto)]
 
 #[cfg(test)]
+mod archive_tests;
+#[cfg(test)]
 mod code;
 #[cfg(test)]
 mod coding;

@@ -7,7 +7,8 @@ use Rattle.cw_base.specs.declared.reader.CodecError.{CodecError}
 use Rattle.cw_base.specs.declared.reader.CodecError.TheVariants.{TooLong}
 use Rattle.cw_base.specs.Bytes.{be16, be32, varint}
 use Rattle.cw_base.specs.Reading.{Reading, ◌>>=◌, byte_at, bytes_at, be16_at, be32_at, varint_at}
-use Rattle.cw_base.specs.ReadingLaws.{ReadsBack, IsBytes, IsBytes-rest, bind_ok, read_is, byte_reads_back, bytes_read_back, be16_reads_back, be32_reads_back, varint_reads_back}
+use Rattle.cw_base.specs.ReadsBack.{ReadsBack, IsBytes}
+use Rattle.cw_base.proofs.ReadingLaws.{IsBytes-rest, bind_ok, read_is, byte_reads_back, bytes_read_back, be16_reads_back, be32_reads_back, varint_reads_back}
 use Rattle.cw_tree.specs.Chunks.{Piece}
 use Rattle.cw_tree.specs.Sizes.{AreSized}
 use Rattle.cw_tree.specs.Fits.{FitsProof, FitsChunk}

@@ -93,7 +93,7 @@ impl<D: Digest> Chunk<D> {
 }
 
 // The digest at the front.
-#[tactic(auto, using(cw_base::specs::Ends::ends))]
+#[tactic(auto, using(cw_base::proofs::Ends::ends))]
 fn read_digest<D: Digest>(reader: &mut Reader) -> Result<D, CodecError>
     ensures value { IsRead D.content result reader.new (bytes_at D.SIZE reader.old) }
     ensures place { IsEnd reader.old reader.new }
@@ -106,7 +106,7 @@ fn read_digest<D: Digest>(reader: &mut Reader) -> Result<D, CodecError>
 }
 
 // So many digests, one behind the other.
-#[tactic(auto, using(cw_base::specs::Ends::ends))]
+#[tactic(auto, using(cw_base::proofs::Ends::ends))]
 fn read_digests<D: Digest>(
     alloc: Global,
     reader: &mut Reader,
@@ -130,7 +130,7 @@ fn read_digests<D: Digest>(
 }
 
 // Why so many digests are not read that there is no memory for: where they are cut, for that.
-#[tactic(auto, using(cw_base::specs::Ends::ends))]
+#[tactic(auto, using(cw_base::proofs::Ends::ends))]
 fn skip_digests<D: Digest>(reader: &mut Reader, count: u8) -> CodecError
     ensures value { IsRefused result reader.new (digests_at D.SIZE count reader.old) }
     ensures place { IsEnd reader.old reader.new }
@@ -145,7 +145,7 @@ fn skip_digests<D: Digest>(reader: &mut Reader, count: u8) -> CodecError
 }
 
 // At most 32 digests, behind their number.
-#[tactic(auto, using(cw_base::specs::Ends::ends), unfolding(crate::specs::Formats::siblings_at))]
+#[tactic(auto, using(cw_base::proofs::Ends::ends), unfolding(crate::specs::Formats::siblings_at))]
 fn read_siblings<D: Digest>(alloc: Global, reader: &mut Reader) -> Result<Items<D>, CodecError>
     ensures value { Gives (λ digests. map D.content digests) result reader.new
         (siblings_at D.SIZE reader.old) }
@@ -167,7 +167,7 @@ impl<D: Digest> Proof<D> {
     /// Refused, the reader stands behind the parts that were taken, a refused number among them.
     /// For want of memory it is refused only where a whole proof stands there, and all of it is
     /// taken.
-    #[tactic(auto, using(cw_base::specs::Ends::ends), unfolding(crate::specs::Formats::proof_at))]
+    #[tactic(auto, using(cw_base::proofs::Ends::ends), unfolding(crate::specs::Formats::proof_at))]
     pub fn read(alloc: Global, reader: &mut Reader) -> Result<Proof<D>, CodecError>
         ensures value { Gives
             (λ proof. (proof.leaf_count, map D.content proof.siblings)) result reader.new
@@ -184,7 +184,7 @@ impl<D: Digest> Proof<D> {
 }
 
 // A shard of at most so many bytes, behind its length.
-#[tactic(auto, using(cw_base::specs::Ends::ends), unfolding(crate::specs::Formats::shard_at))]
+#[tactic(auto, using(cw_base::proofs::Ends::ends), unfolding(crate::specs::Formats::shard_at))]
 fn read_shard<'a>(reader: &mut Reader<'a>, bound: usize) -> Result<&'a [u8], CodecError>
     ensures value { IsRead (λ bytes. bytes.now) result reader.new (shard_at bound reader.old) }
     ensures place { IsEnd reader.old reader.new }
@@ -208,7 +208,7 @@ impl<D: Digest> Chunk<D> {
     /// Refused, the reader stands behind the parts that were taken, a refused number among them.
     /// For want of memory it is refused only where a whole chunk stands there, and all of it is
     /// taken.
-    #[tactic(auto, using(cw_base::specs::Ends::ends), unfolding(crate::specs::Formats::chunk_at))]
+    #[tactic(auto, using(cw_base::proofs::Ends::ends), unfolding(crate::specs::Formats::chunk_at))]
     pub fn read(
         alloc: Global,
         reader: &mut Reader,

@@ -3,7 +3,7 @@
 ghost use Rattle.std.specs.Prelude.{◌≡◌, ◌++◌, ◌+◌, ◌*◌, ◌<◌, ◌≤◌, ℕ, List, length, Ok, Some};
 ghost use Rattle.std.specs.Prelude.{slice_get};
 ghost use Rattle.cw_tree.specs.Tree.{root_of, root_by, path_of};
-ghost use Rattle.cw_base.specs.ReadingLaws.{ReadsBack};
+ghost use Rattle.cw_base.specs.ReadsBack.{ReadsBack};
 ghost use Rattle.cw_tree.specs.Chunks.{Piece};
 ghost use Rattle.cw_tree.specs.Formats.{proof_bytes, proof_at, chunk_bytes, chunk_at};
 ghost use Rattle.cw_tree.specs.Formats.{piece_of_bytes};

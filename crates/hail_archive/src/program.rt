@@ -2,7 +2,7 @@
 
 ghost use Rattle.std.specs.Prelude.{◌≡◌, IfOk, List, None, Option, Some, map, string_bytes, ℕ};
 ghost use Rattle.hailstorm.specs.Reports.{shown_report};
-ghost use Rattle.hailstorm.specs.Programs.{AnswersBy, HasFault, IsRead, IsSilent, UsageOf};
+ghost use Rattle.hailstorm.specs.Programs.{AnswersBy, HasFault, WasRun, IsSilent, UsageOf};
 ghost use Rattle.hail_archive.specs.Program as spec;
 ghost use Rattle.hail_archive.specs.Program.{IsDone, usage_line};
 
@@ -101,7 +101,7 @@ fn write_run<H: Hasher<Digest = Digest32>, R: Threads + Sync, O: Sink, S: Strate
     output: &mut O,
     strategy: &S,
 ) -> Exit<(Report<H>, Archive<H>)>
-    ensures answer { (text : List ℕ) (rest : Option (List ℕ)) → IsRead H.digest_of text rest ran
+    ensures answer { (text : List ℕ) (rest : Option (List ℕ)) → WasRun H.digest_of text rest ran
         → AnswersBy H.digest_of (IsDone H.digest_of limit) text rest
         (O.held output.old) (O.held output.new) result }
     ensures fault { (reads later : ℕ)
@@ -126,7 +126,7 @@ fn write_archive<H: Hasher<Digest = Digest32>, R: Threads + Sync, O: Sink, S: St
     // whatever the limit for which what the run sent fills this archive
     ensures answer { (limit : ℕ) (text : List ℕ) (rest : Option (List ℕ))
         → archive ≡ spec.filled H.digest_of limit (shown_report ran.report)
-        → IsRead H.digest_of text rest ran
+        → WasRun H.digest_of text rest ran
         → AnswersBy H.digest_of (IsDone H.digest_of limit) text rest
         (O.held output.old) (O.held output.new) result }
     ensures fault { (reads later : ℕ)

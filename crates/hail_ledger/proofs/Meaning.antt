@@ -9,7 +9,7 @@ use Rattle.hailstorm.specs.declared.report.Report.{Report}
 use Rattle.hailstorm.specs.Places.{rules_of}
 use Rattle.hailstorm.specs.Reports.{IsReport, shown_report}
 use Rattle.hail_ledger.specs.Giving.{payloads_of, payloads_of_all}
-use Rattle.hail_ledger.specs.Ledgers.{IsDone, members_of}
+use Rattle.hail_ledger.specs.Ledgers.{AreDone, members_of}
 use Rattle.hail_ledger.specs.Text.{ledger_text}
 use Rattle.hail_ledger.proofs.Ends.{all_ledgers}
 
@@ -27,7 +27,7 @@ module _ {H : Type 0} (report : Report H) (replicas : List (Ledger MemoryState))
     are_as_many = ap (λ (l : List Acked). length l) members_are ∙ as_many ∙ sym (ap (λ (l : List (Ledger MemoryState)). length l) replicas_are)
 
     -- these are the replicas of the run of a text, and what is due is their text
-    pub is_done : (hash : List ℕ → Digest32) (text due : List ℕ) → IsReport hash text report → due ≡ ledger_text (map (λ a. a.member) acked) (map (λ r. r.payloads) shown) → IsDone hash text (report, replicas) due
+    pub is_done : (hash : List ℕ → Digest32) (text due : List ℕ) → IsReport hash text report → due ≡ ledger_text (map (λ a. a.member) acked) (map (λ r. r.payloads) shown) → AreDone hash text (report, replicas) due
     is_done hash text due is lines = record {
       report = is;
       ledgers = all_ledgers (rules_of hash is.script) is.script.lines is.run.world (shown_report report) is.run.told is.run.ends is.chain replicas given;

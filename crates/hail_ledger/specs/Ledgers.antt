@@ -44,7 +44,7 @@ abbrev pub members_of : Reported → List ℕ
 members_of r = map (λ a. a.member) r.acked
 
 -- What is handed back and written of a script of this text: the report of its run, the replica of each honest member, and the lines of these.
-pub record IsDone {H : Type 0} (hash : List ℕ → Digest32) (text : List ℕ) (done : Report H × List (Ledger MemoryState)) (due : List ℕ) : Type 0 where
+pub record AreDone {H : Type 0} (hash : List ℕ → Digest32) (text : List ℕ) (done : Report H × List (Ledger MemoryState)) (due : List ℕ) : Type 0 where
   pub report : IsReport hash text done.0
   pub ledgers : AreLedgers (shown_report done.0) (members_of (shown_report done.0)) done.1
   pub lines : due ≡ ledger_text (members_of (shown_report done.0)) (map (λ r. r.payloads) done.1)

@@ -1,10 +1,10 @@
 //! The program: from the bytes of a script to the balances of each honest member.
 
 ghost use Rattle.std.specs.Prelude.{◌≡◌, ◌≢◌, List, Option, Some, length, map, ℕ};
-ghost use Rattle.hailstorm.specs.Programs.{AnswersBy, HasFault, IsRead, IsSilent, UsageOf};
+ghost use Rattle.hailstorm.specs.Programs.{AnswersBy, HasFault, WasRun, IsSilent, UsageOf};
 ghost use Rattle.hailstorm.specs.Reports.{shown_report};
 ghost use Rattle.hail_ledger.specs.Giving.{payloads_of_all};
-ghost use Rattle.hail_ledger.specs.Ledgers.{IsDone};
+ghost use Rattle.hail_ledger.specs.Ledgers.{AreDone};
 ghost use Rattle.hail_ledger.specs.Text.{usage_line};
 
 use crate::giving::replicas_of;
@@ -43,7 +43,7 @@ pub fn ledger_program<
 
     // Without words each answer has its meaning for the bytes that the source had left.
     ensures answer { (text : List ℕ) → length words.now ≡ 0 → I.left input.old ≡ Some text
-        → AnswersBy H.digest_of (IsDone H.digest_of) text (I.left input.new) (O.held output.old)
+        → AnswersBy H.digest_of (AreDone H.digest_of) text (I.left input.new) (O.held output.old)
         (O.held output.new) result }
 
     // A fault is told only where the source or the sink has failed in this call.
@@ -70,7 +70,7 @@ fn run_input<H: Hasher<Digest = Digest32>, R: Threads + Sync, I: Source, O: Sink
     strategy: &S,
 ) -> Exit<(Report<H>, Items<Replica<MemoryDisk>>)>
     ensures answer { (text : List ℕ) → I.left input.old ≡ Some text
-        → AnswersBy H.digest_of (IsDone H.digest_of) text (I.left input.new) (O.held output.old)
+        → AnswersBy H.digest_of (AreDone H.digest_of) text (I.left input.new) (O.held output.old)
         (O.held output.new) result }
     ensures fault { HasFault (I.faults input.old) (I.faults input.new) (O.faults output.old)
         (O.faults output.new) result }
@@ -88,8 +88,8 @@ fn write_run<H: Hasher<Digest = Digest32>, O: Sink>(
     ran: Ran<H>,
     output: &mut O,
 ) -> Exit<(Report<H>, Items<Replica<MemoryDisk>>)>
-    ensures answer { (text : List ℕ) (rest : Option (List ℕ)) → IsRead H.digest_of text rest ran
-        → AnswersBy H.digest_of (IsDone H.digest_of) text rest (O.held output.old)
+    ensures answer { (text : List ℕ) (rest : Option (List ℕ)) → WasRun H.digest_of text rest ran
+        → AnswersBy H.digest_of (AreDone H.digest_of) text rest (O.held output.old)
         (O.held output.new) result }
     ensures fault { (reads later : ℕ)
         → HasFault reads later (O.faults output.old) (O.faults output.new) result }
@@ -109,8 +109,8 @@ fn write_replicas<H: Hasher<Digest = Digest32>, O: Sink>(
     output: &mut O,
 ) -> Exit<(Report<H>, Items<Replica<MemoryDisk>>)>
     requires given { map (λ r. r.payloads) replicas ≡ payloads_of_all (shown_report ran.report) }
-    ensures answer { (text : List ℕ) (rest : Option (List ℕ)) → IsRead H.digest_of text rest ran
-        → AnswersBy H.digest_of (IsDone H.digest_of) text rest (O.held output.old)
+    ensures answer { (text : List ℕ) (rest : Option (List ℕ)) → WasRun H.digest_of text rest ran
+        → AnswersBy H.digest_of (AreDone H.digest_of) text rest (O.held output.old)
         (O.held output.new) result }
     ensures fault { (reads later : ℕ)
         → HasFault reads later (O.faults output.old) (O.faults output.new) result }

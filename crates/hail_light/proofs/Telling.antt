@@ -16,7 +16,7 @@ use Rattle.hailstorm.specs.declared.report.Ran.{Ran}
 use Rattle.hailstorm.specs.declared.report.Report.{Report}
 use Rattle.hailstorm.specs.Places.{rules_of, table}
 use Rattle.hailstorm.specs.Pool.{sent_in}
-use Rattle.hailstorm.specs.Programs.{IsRead}
+use Rattle.hailstorm.specs.Programs.{WasRun}
 use Rattle.hailstorm.specs.Reports.{IsRun, honest}
 use Rattle.hail_light.specs.Finding.{found_in}
 use Rattle.hail_light.specs.Telling.{IsToldRun, Tells, TellsOf, none_line, yes_line}
@@ -54,7 +54,7 @@ module _ {H : Type 0} (hash : List ℕ → Digest32) (height : ℕ) (s : Scenari
     answer_is shown = λ i. answer (coded hash (ec i) s.backlog (λ b a. true)) (sign i) shown.cert shown.path
 
 -- so for a text that was read
-pub told_run : {H : Type 0} (hash : List ℕ → Digest32) (height : ℕ) (text : List ℕ) (rest : Option (List ℕ)) (ran : Ran H) (due : List ℕ) → IsRead hash text rest ran
+pub told_run : {H : Type 0} (hash : List ℕ → Digest32) (height : ℕ) (text : List ℕ) (rest : Option (List ℕ)) (ran : Ran H) (due : List ℕ) → WasRun hash text rest ran
     → ((x : IsRun hash ran.script ran.report) → TellsOf hash height ran.script ran.report x due) → IsToldRun hash height text ran.report due
 told_run hash height text rest ran due h all = record { reported = h.report; told = subst Told (sym same) all h.report.run }
   where

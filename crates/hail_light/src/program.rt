@@ -1,7 +1,7 @@
 //! The program: from the bytes of a script to the line of what is shown.
 
 ghost use Rattle.std.specs.Prelude.{◌≡◌, List, ℕ, None, Option, Some, IfOk, map, string_bytes};
-ghost use Rattle.hailstorm.specs.Programs.{AnswersBy, HasFault, IsRead, IsSilent, UsageOf};
+ghost use Rattle.hailstorm.specs.Programs.{AnswersBy, HasFault, WasRun, IsSilent, UsageOf};
 ghost use Rattle.hailstorm.specs.Reports.{IsRun};
 ghost use Rattle.hail_light.specs.Telling.{IsToldRun, asked_height, TellsOf, usage_line};
 
@@ -105,7 +105,7 @@ fn write_light<H: Hasher<Digest = Digest32>, R: Threads + Sync, O: Sink, S: Stra
     strategy: &S,
 ) -> Exit<Report<H>>
     requires { IsRun H.digest_of ran.script ran.report }
-    ensures answer { (text : List ℕ) (rest : Option (List ℕ)) → IsRead H.digest_of text rest ran
+    ensures answer { (text : List ℕ) (rest : Option (List ℕ)) → WasRun H.digest_of text rest ran
         → AnswersBy H.digest_of (IsToldRun H.digest_of height) text rest
         (O.held output.old) (O.held output.new) result }
     ensures fault { (reads later : ℕ)

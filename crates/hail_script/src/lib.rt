@@ -18,6 +18,3 @@ pub use lanes::LaneScript;
 pub use laws::script_laws;
 pub use pieces::number_of;
 pub use script::Script;
-
-#[cfg(test)]
-mod tests;

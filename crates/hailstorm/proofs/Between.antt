@@ -16,7 +16,7 @@ use Rattle.hail_script.specs.Lanes.{Laned, laned_of, lanes, rows}
 use Rattle.hailstorm.specs.declared.place.Place.{Place}
 use Rattle.hailstorm.specs.declared.report.Report.{Report}
 use Rattle.hailstorm.specs.Lanes.{IsLanesCause, IsLanesReport, lane_at, left, lines_of, played, without_next}
-use Rattle.hailstorm.specs.Places.{AreMembers, AreSound, rules_of}
+use Rattle.hailstorm.specs.Places.{SitAs, WorkBy, rules_of}
 use Rattle.hailstorm.specs.Runs.{GoesBy, opened}
 use Rattle.hailstorm.specs.Seats.{Seat}
 use Rattle.hailstorm.specs.Turns.{IsBetween, IsOver, IsReportOf, IsTurnBy, IsTurnOf, IsTurning, Turning, between, told_order}
@@ -68,7 +68,7 @@ module _ (hash : List ℕ → Digest32) (x : Laned) (order : List ℕ) (stopped 
 
   -- the report of its end
   pub ends_reported : {H : Type 0} (text : List ℕ) (report : Report H) → laned_of text ≡ Ok x → stopped ≡ None → flat_map (λ lane. lane) (left (lanes x) order) ≡ []
-      → ((r : Rules) (w : World) → GoesBy hash r → AreSound r 0 places → AreMembers places w.members → IsReportOf r w opens steps report)
+      → ((r : Rules) (w : World) → GoesBy hash r → WorkBy r 0 places → SitAs places w.members → IsReportOf r w opens steps report)
       → IsCluster (rules_of hash x.script) x.script.lines → 0 < x.script.backlog
       → ((r : Rules) (script : List Line) (w : World) → IsCluster r script → 0 < r.backlog → outcome r (opening r script) script ≡ Ends w → IsReported r w (handed_in r script) (report_of r script w).chain)
       → IsLanesReport hash text order report

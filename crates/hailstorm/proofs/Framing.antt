@@ -6,7 +6,7 @@ use Rattle.hailstorm.specs.declared.frame.Early.{Early}
 use Rattle.hailstorm.specs.declared.frame.Early.TheVariants as early
 use Rattle.hailstorm.specs.declared.frame.Exit.{Exit}
 use Rattle.hailstorm.specs.declared.frame.Exit.TheVariants.{Done, Usage}
-use Rattle.hailstorm.specs.Programs.{AnswersBy, EndsEarly, Finishes, HasFault, HasReadFault, IsDue, IsEarly, IsSilent, UsageOf}
+use Rattle.hailstorm.specs.Programs.{AnswersBy, EndsEarly, Finishes, HasFault, HasReadFault, IsDue, HasNoReport, IsSilent, UsageOf}
 use Rattle.hailstorm.specs.Programs.IsDue.{OfClash, OfExcess, OfRefusal, OfRun}
 use Rattle.hailstorm.specs.Reading.{script_limit}
 
@@ -17,7 +17,7 @@ module _ {X : Type 0} (hash : List ℕ → Digest32) (IsDone : List ℕ → X �
   done_answers x due result e l done (inr h) = rw h.0 (due, OfRun x l done, h.2)
 
   -- the line of a cause was written, or a front of it, or nothing
-  pub early_answers : (e : Early) (result : Exit X) → IsEarly hash text rest e → EndsEarly held written w later e result → AnswersBy hash IsDone text rest held written result
+  pub early_answers : (e : Early) (result : Exit X) → HasNoReport hash text rest e → EndsEarly held written w later e result → AnswersBy hash IsDone text rest held written result
   early_answers early.TooLong result cause (inl h) = rw h.0 (cause.0, cause.1, h.1)
   early_answers early.TooLong result cause (inr h) = rw h.0 (_, OfExcess cause.0 refl, h.2)
   early_answers (early.Refused e) result cause (inl (inl h)) = rw h.0 (cause.0, cause.1, cause.2, h.1)

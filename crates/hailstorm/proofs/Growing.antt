@@ -15,7 +15,7 @@ use Rattle.cw_rules.specs.World as rule
 use Rattle.cw_rules.specs.World.{Line, World, done_by, event_of, happens, line_member, member_at, run, signed, turned, with_done}
 use Rattle.hailstorm.specs.declared.place.Place.{Place}
 use Rattle.hailstorm.specs.declared.place.Place.TheVariants as place
-use Rattle.hailstorm.specs.Places.{AreMembers, IsMember, notes_at}
+use Rattle.hailstorm.specs.Places.{SitAs, SitsAs, notes_at}
 use Rattle.hailstorm.specs.Runs.{HasGrown, notes_of}
 use Rattle.hailstorm.specs.Seats.{Seat}
 
@@ -159,7 +159,7 @@ line_grown r w (rule.Cut a c x i ask) old o at count = turn_grown r w (rule.Cut 
 line_grown r w (rule.Restart i) old o at count = turn_grown r w (rule.Restart i) old o at count
 line_grown r w (rule.Faulty i fault) old o at count = same_grown w (happens r w (rule.Faulty i fault)) i old o refl at count
 
-notes_same : (p : Place Seat) (o : Option Member) → IsMember p o → notes_at p ≡ notes_of o
+notes_same : (p : Place Seat) (o : Option Member) → SitsAs p o → notes_at p ≡ notes_of o
 notes_same place.Faulty None h = refl
 notes_same place.Faulty (Some x) h = absurd h
 notes_same (place.Live m) None h = absurd h
@@ -173,9 +173,9 @@ record IsSeated (ps : List (Place Seat)) (os : List (Option Member)) (i : ℕ) :
   member : Option Member
   seat : slice_get ps i ≡ Some place
   there : slice_get os i ≡ Some member
-  is : IsMember place member
+  is : SitsAs place member
 
-seated : (ps : List (Place Seat)) (os : List (Option Member)) (i : ℕ) → AreMembers ps os → i < length ps → IsSeated ps os i
+seated : (ps : List (Place Seat)) (os : List (Option Member)) (i : ℕ) → SitAs ps os → i < length ps → IsSeated ps os i
 seated [] os i h lt = absurd (omega arith)
 seated (p ∷ ps) [] i h lt = absurd h
 seated (p ∷ ps) (o ∷ os) zero h lt = record { place = p; member = o; seat = refl; there = refl; is = h.0 }
@@ -184,7 +184,7 @@ seated (p ∷ ps) (o ∷ os) (suc i) h lt =
     record { place = more.place; member = more.member; seat = more.seat; there = more.there; is = more.is }
 
 -- a line adds notes to its member's alone
-pub grown : (r : Rules) (w : World) (line : Line) (ps : List (Place Seat)) (i old : ℕ) → AreMembers ps w.members → i < length ps → i ≡ line_member line
+pub grown : (r : Rules) (w : World) (line : Line) (ps : List (Place Seat)) (i old : ℕ) → SitAs ps w.members → i < length ps → i ≡ line_member line
     → ((p : Place Seat) → slice_get ps i ≡ Some p → old ≡ length (notes_at p)) → HasGrown w (happens r w line) i old
 grown r w line ps i old members lt named count =
     let at = seated ps w.members i members lt in

@@ -23,7 +23,7 @@ use Rattle.hail_script.specs.declared.error.RunError.TheVariants as error
 use Rattle.hailstorm.specs.declared.place.Place.{Place}
 use Rattle.hailstorm.specs.declared.report.Report.{Report}
 use Rattle.hailstorm.specs.Lanes.{IsLanesCause, IsLanesClash, IsLanesReport, as_plain, but_last, lane_at, left, lines_of, merged, played, renumbered, script_with, turns_of, whole}
-use Rattle.hailstorm.specs.Places.{AreSound, rules_of}
+use Rattle.hailstorm.specs.Places.{WorkBy, rules_of}
 use Rattle.hailstorm.specs.Reports.{IsClashOf, IsRun}
 use Rattle.hailstorm.specs.Runs.{IsStopped, chain_from, opened}
 use Rattle.hailstorm.specs.Seats.{Seat}
@@ -322,7 +322,7 @@ lanes_refused hash text (error.OversizeBlock line) (inr h) = (refl, h)
 pub turned_on : (hash : List ℕ → Digest32) (x : Laned) (order : List ℕ) (cursors after : List (ℕ × ℕ)) (steps more : List Entry) (places new : List (Place Seat)) (faulty : List Bool) (k from end : ℕ) (line : Line)
     → IsBetween hash x order cursors steps places faulty → slice_get cursors k ≡ Some (from, end) → from < end → slice_get x.script.lines from ≡ Some line
     → HavePlayed (rules_of hash x.script) (opened hash x.script) (played x order ++ (slice_index x.numbers from, line) ∷ []) more new faulty
-    → AreSound (rules_of hash x.script) 0 new → length new ≡ x.script.committees.total → after ≡ slice_set cursors k (from + 1, end)
+    → WorkBy (rules_of hash x.script) 0 new → length new ≡ x.script.committees.total → after ≡ slice_set cursors k (from + 1, end)
     → IsBetween hash x (order ++ k ∷ []) after more new faulty
 turned_on hash x order cursors after steps more places new faulty k from end line h at lt there plays sound count is = record {
   played = subst (λ (l : List (ℕ × Line)). HavePlayed (rules_of hash x.script) (opened hash x.script) l more new faulty) (sym (played_more x order cursors k from end line h.rest at lt there)) plays;

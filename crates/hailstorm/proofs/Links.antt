@@ -25,7 +25,7 @@ use Rattle.cw_rules.specs.Step.{Member, member_notes}
 use Rattle.cw_rules.specs.World.{World}
 use Rattle.hailstorm.specs.declared.place.Place.{Place}
 use Rattle.hail_script.specs.Scenario.{Scenario}
-use Rattle.hailstorm.specs.Places.{AreMembers, notes_at, rules_of}
+use Rattle.hailstorm.specs.Places.{SitAs, notes_at, rules_of}
 use Rattle.hailstorm.specs.Runs.{GoesBy, first_named, notes_of, under}
 use Rattle.hailstorm.specs.Seats.{Seat}
 use Rattle.hailstorm.proofs.Clashes.{same_notes}
@@ -46,14 +46,14 @@ all_of [] = refl
 all_of (None ∷ os) = all_of os
 all_of (Some m ∷ os) = ap (λ (l : List Note). member_notes m ++ l) (all_of os)
 
-pub notes_are : (ps : List (Place Seat)) (w : World) → AreMembers ps w.members → flat_map (λ notes. notes) (map notes_at ps) ≡ all_notes w
+pub notes_are : (ps : List (Place Seat)) (w : World) → SitAs ps w.members → flat_map (λ notes. notes) (map notes_at ps) ≡ all_notes w
 notes_are ps w h = ap (λ (l : List (List Note)). flat_map (λ notes. notes) l) (same_notes ps w.members h) ∙ sym (all_of w.members)
 
 abbrev if_first : Bool → Block → Option Block → Option Block
 if_first b a o = cond b (Some a) o
 
 -- the block under a commitment, by what the notes at the places give
-pub under_is : (hash : List ℕ → Digest32) (r : Rules) (w : World) (ps : List (Place Seat)) (c : Commitment) → GoesBy hash r → AreMembers ps w.members
+pub under_is : (hash : List ℕ → Digest32) (r : Rules) (w : World) (ps : List (Place Seat)) (c : Commitment) → GoesBy hash r → SitAs ps w.members
     → first_named hash (map notes_at ps) c ≡ block_under r w c
 under_is hash r w ps c by h =
     ap (λ (d : Commitment). if_first (same_commitment c d) (first.genesis hash) (first_some (noted_block_of c) (flat_map (λ notes. notes) (map notes_at ps)))) (sym (same_name hash r by))

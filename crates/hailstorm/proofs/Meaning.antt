@@ -20,7 +20,7 @@ use Rattle.hailstorm.specs.declared.report.Ran.{Ran}
 use Rattle.hailstorm.specs.declared.report.Report.{Report}
 use Rattle.hailstorm.specs.Headline.{Answers, EndsWith, Means, due_for, due_input, due_of, due_text, text_of}
 use Rattle.hailstorm.specs.Places.{rules_of}
-use Rattle.hailstorm.specs.Programs.{EndsEarly, HasFault, IsEarly, IsRead, early_of}
+use Rattle.hailstorm.specs.Programs.{EndsEarly, HasFault, HasNoReport, WasRun, early_of}
 use Rattle.hailstorm.specs.Reading.{script_limit}
 use Rattle.hailstorm.specs.Reports.{Clashing, IsCause, IsReport, IsRun, shown_report}
 use Rattle.hailstorm.specs.Text.{error_line, too_long_line}
@@ -94,10 +94,10 @@ module _ {H : Type 0} (hash : List ℕ → Digest32) (text : List ℕ) (rest hel
   meaning TooLong e l a = absurd a
   meaning ReadFault e l a = absurd a
 
-  pub done_means : (ran : Ran H) (result : Exit (Report H)) → IsRead hash text rest ran → EndsWith hash None held written w later ran.report result → Means hash text rest held written result
+  pub done_means : (ran : Ran H) (result : Exit (Report H)) → WasRun hash text rest ran → EndsWith hash None held written w later ran.report result → Means hash text rest held written result
   done_means ran result read ends = meaning result read.at_end read.short (done_answer hash None text held written w later ran.report result read.report ends)
 
-  pub early_means : (e : Early) (result : Exit (Report H)) → IsEarly hash text rest e → EndsEarly held written w later e result → Means hash text rest held written result
+  pub early_means : (e : Early) (result : Exit (Report H)) → HasNoReport hash text rest e → EndsEarly held written w later e result → Means hash text rest held written result
   early_means early.TooLong result cause (inl h) = rw h.0 (cause.0, cause.1, h.1)
   early_means early.TooLong result cause (inr h) = rw h.0 (same_front held written _ _ (sym (due_long hash text cause.0)) h.2)
   early_means (early.Refused e) result cause ends = meaning result cause.0 cause.1 (refused_answer hash None text held written w later e result cause.2 ends)
@@ -119,15 +119,15 @@ module _ (hash : List ℕ → Digest32) (text given : List ℕ) (left rest : Opt
   within : length text ≤ script_limit
   within = subst (λ (t : List ℕ). length t ≤ script_limit) same_text l
 
-  pub run_read : {H : Type 0} (ran : Ran H) → script_of given ≡ Ok ran.script → IsRun hash ran.script ran.report → IsReport hash given ran.report → IsRead hash text rest ran
+  pub run_read : {H : Type 0} (ran : Ran H) → script_of given ≡ Ok ran.script → IsRun hash ran.script ran.report → IsReport hash given ran.report → WasRun hash text rest ran
   run_read ran spells run report =
       record { at_end = e; short = within; spells = subst (λ (t : List ℕ). script_of t ≡ Ok ran.script) same_text spells; run = run; report = subst (λ (t : List ℕ). IsReport hash t ran.report) same_text report }
 
   -- why the run has no report
-  pub cause_early : (x : RunError) → IsCause hash given x → IsEarly hash text rest (early_of x)
+  pub cause_early : (x : RunError) → IsCause hash given x → HasNoReport hash text rest (early_of x)
   cause_early x cause = go x (subst (λ (t : List ℕ). IsCause hash t x) same_text cause)
     where
-      go : (x : RunError) → IsCause hash text x → IsEarly hash text rest (early_of x)
+      go : (x : RunError) → IsCause hash text x → HasNoReport hash text rest (early_of x)
       go error.NoMemory cause = tt
       go (error.HashClash earlier later) cause = (e, within, cause)
       go error.BadCommittee cause = (e, within, cause)
@@ -151,7 +151,7 @@ long_read limit text gave (Some ys) c n =
     (omega (arith, many, n), ap (λ (l : List ℕ). let o : Option (List ℕ) = Some l in o) behind)
 
 pub too_long_early : (hash : List ℕ → Digest32) (text : List ℕ) (left rest : Option (List ℕ)) → left ≡ Some text → (gave : List ℕ) × Consumes left rest gave × (length gave ≡ script_limit + 1)
-    → IsEarly hash text rest early.TooLong
+    → HasNoReport hash text rest early.TooLong
 too_long_early hash text left rest is read = long_read script_limit text read.0 rest (subst (λ (o : Option (List ℕ)). Consumes o rest read.0) is read.1) read.2
 
 -- ---- faults

@@ -12,28 +12,28 @@ use Rattle.hail_script.specs.Grammar.{is_faulty_in, marks}
 use Rattle.hailstorm.proofs.Numbered.{map_joined, range_more}
 use Rattle.hailstorm.specs.declared.place.Place.{Place}
 use Rattle.hailstorm.specs.Offers.{some_of}
-use Rattle.hailstorm.specs.Places.{AreMembers, AreSound, IsMember, IsSound, marked}
+use Rattle.hailstorm.specs.Places.{SitAs, WorkBy, SitsAs, WorksBy, marked}
 use Rattle.hailstorm.specs.Runs.{seat_of}
 use Rattle.hailstorm.specs.Seats.{Seat}
 
 -- the places up to a number, and their entries
 pub record AreOpened (r : Rules) (lines : List Line) (n : ℕ) (places : List (Place Seat)) (entries : List Entry) : Type 0 where
-  pub members : AreMembers places (map (seat_of r lines) (range_with_len 0 n))
-  pub sound : AreSound r 0 places
+  pub members : SitAs places (map (seat_of r lines) (range_with_len 0 n))
+  pub sound : WorkBy r 0 places
   pub count : length places ≡ n
   pub told : entries ≡ filter_map (opening_entry r lines) (range_with_len 0 n)
 
 pub opened_none : (r : Rules) (lines : List Line) → AreOpened r lines 0 [] []
 opened_none r lines = record { members = tt; sound = tt; count = refl; told = refl }
 
-members_push : (ps : List (Place Seat)) (os : List (Option Member)) (p : Place Seat) (o : Option Member) → AreMembers ps os → IsMember p o → AreMembers (ps ++ p ∷ []) (os ++ o ∷ [])
+members_push : (ps : List (Place Seat)) (os : List (Option Member)) (p : Place Seat) (o : Option Member) → SitAs ps os → SitsAs p o → SitAs (ps ++ p ∷ []) (os ++ o ∷ [])
 members_push [] [] p o h m = (m, tt)
 members_push [] (x ∷ os) p o h m = absurd h
 members_push (q ∷ ps) [] p o h m = absurd h
 members_push (q ∷ ps) (x ∷ os) p o h m = (h.0, members_push ps os p o h.1 m)
 
-sound_push : (r : Rules) (k n : ℕ) (ps : List (Place Seat)) (p : Place Seat) → AreSound r k ps → k + length ps ≡ n → IsSound r n p → AreSound r k (ps ++ p ∷ [])
-sound_push r k n [] p h e s = let same : n ≡ k = omega (arith, e) in (subst (λ (j : ℕ). IsSound r j p) same s, tt)
+sound_push : (r : Rules) (k n : ℕ) (ps : List (Place Seat)) (p : Place Seat) → WorkBy r k ps → k + length ps ≡ n → WorksBy r n p → WorkBy r k (ps ++ p ∷ [])
+sound_push r k n [] p h e s = let same : n ≡ k = omega (arith, e) in (subst (λ (j : ℕ). WorksBy r j p) same s, tt)
 sound_push r k n (q ∷ ps) p h e s = (h.0, sound_push r (k + 1) n ps p h.1 (omega (arith, e)) s)
 
 long_push : {X : Type 0} (xs : List X) (x : X) → length (xs ++ x ∷ []) ≡ length xs + 1
@@ -49,7 +49,7 @@ one_entry r lines n = go (list_any (faults n) lines) refl
 
 -- one place more
 pub opened_more : (r : Rules) (lines : List Line) (n : ℕ) (old new : List (Place Seat)) (before after : List Entry) (p : Place Seat) (e : Option Entry) → AreOpened r lines n old before
-    → IsMember p (seat_of r lines n) → IsSound r n p → e ≡ opening_entry r lines n → new ≡ old ++ p ∷ [] → after ≡ before ++ some_of e → AreOpened r lines (n + 1) new after
+    → SitsAs p (seat_of r lines n) → WorksBy r n p → e ≡ opening_entry r lines n → new ≡ old ++ p ∷ [] → after ≡ before ++ some_of e → AreOpened r lines (n + 1) new after
 opened_more r lines n old new before after p e h member sound tells places entries =
     let next : n + 1 ≡ suc n = omega arith in
     let none : 0 + n ≡ n = omega arith in
@@ -60,9 +60,9 @@ opened_more r lines n old new before after p e h member sound tells places entri
     ∙ ap (λ (l : List Entry). filter_map (opening_entry r lines) (range_with_len 0 n) ++ l) (one_entry r lines n) in
     let count = h.count in
     record {
-      members = subst (λ (l : List (Place Seat)). AreMembers l (map (seat_of r lines) (range_with_len 0 (n + 1)))) (sym places)
-          (subst (λ (l : List (Option Member)). AreMembers (old ++ p ∷ []) l) (sym whole) (members_push old (map (seat_of r lines) (range_with_len 0 n)) p (seat_of r lines n) h.members member));
-      sound = subst (λ (l : List (Place Seat)). AreSound r 0 l) (sym places) (sound_push r 0 n old p h.sound (omega (arith, count)) sound);
+      members = subst (λ (l : List (Place Seat)). SitAs l (map (seat_of r lines) (range_with_len 0 (n + 1)))) (sym places)
+          (subst (λ (l : List (Option Member)). SitAs (old ++ p ∷ []) l) (sym whole) (members_push old (map (seat_of r lines) (range_with_len 0 n)) p (seat_of r lines n) h.members member));
+      sound = subst (λ (l : List (Place Seat)). WorkBy r 0 l) (sym places) (sound_push r 0 n old p h.sound (omega (arith, count)) sound);
       count = ap (λ (l : List (Place Seat)). length l) places ∙ long_push old p ∙ ap (λ (k : ℕ). k + 1) count;
       told = entries ∙ ap (λ (o : Option Entry). before ++ some_of o) tells ∙ ap (λ (l : List Entry). l ++ some_of (opening_entry r lines n)) h.told ∙ sym told;
     }

@@ -10,7 +10,7 @@ use Rattle.cw_rules.specs.Step.{Member, Stepped}
 use Rattle.cw_rules.specs.World as rule
 use Rattle.cw_rules.specs.World.{Line, Sent, World, done_by, happens, line_member, member_at, run, turned, with_done}
 use Rattle.hailstorm.specs.declared.place.Place.{Place}
-use Rattle.hailstorm.specs.Places.{AreMembers, IsTurn}
+use Rattle.hailstorm.specs.Places.{SitAs, IsTurn}
 use Rattle.hailstorm.specs.Pool.{sent_in}
 use Rattle.hailstorm.specs.Runs.{AreMidway, ArePlayed}
 use Rattle.hailstorm.specs.Seats.{Seat}
@@ -64,7 +64,7 @@ drop_next (l ∷ lines) zero line e = let same : l ≡ line = (let s : Some l �
 drop_next (l ∷ lines) (suc i) line e = let n : suc i + 1 ≡ suc (i + 1) = omega arith in rw n (drop_next lines i line e)
 
 -- before the first line
-pub midway_start : (r : Rules) (w : World) (lines : List Line) (places : List (Place Seat)) (faulty : List Bool) → AreMembers places w.members → w.pool ≡ [] → faulty ≡ map is_none w.members → AreMidway r w 0 lines [] places faulty
+pub midway_start : (r : Rules) (w : World) (lines : List Line) (places : List (Place Seat)) (faulty : List Bool) → SitAs places w.members → w.pool ≡ [] → faulty ≡ map is_none w.members → AreMidway r w 0 lines [] places faulty
 midway_start r w lines places faulty members sent flags = record {
   now = w;
   reaches = refl;

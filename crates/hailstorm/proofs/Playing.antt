@@ -21,32 +21,32 @@ use Rattle.hail_script.specs.declared.event.EventLine.TheVariants as line
 use Rattle.hailstorm.specs.declared.place.Place.{Place}
 use Rattle.hailstorm.specs.declared.place.Place.TheVariants as place
 use Rattle.hailstorm.specs.Honest.{IsHonest, IsPlaced}
-use Rattle.hailstorm.specs.Places.{AreMembers, AreSound, IsMember, IsSound, IsTurn, Makes, found_at, marked, notes_at, over, table, turned_by}
+use Rattle.hailstorm.specs.Places.{SitAs, WorkBy, SitsAs, WorksBy, IsTurn, Makes, found_at, marked, notes_at, over, table, turned_by}
 use Rattle.hailstorm.specs.Seats.{Seat, out_of}
 
 -- ---- places
 
-pub sound_at : (r : Rules) (k : ℕ) (ps : List (Place Seat)) (i : ℕ) (d : Place Seat) → AreSound r k ps → i < length ps → IsSound r (k + i) (get_or ps i d)
+pub sound_at : (r : Rules) (k : ℕ) (ps : List (Place Seat)) (i : ℕ) (d : Place Seat) → WorkBy r k ps → i < length ps → WorksBy r (k + i) (get_or ps i d)
 sound_at r k [] i d h lt = absurd (omega arith)
-sound_at r k (p ∷ ps) zero d h lt = let same : k ≡ k + 0 = omega arith in subst (λ (j : ℕ). IsSound r j p) same h.0
+sound_at r k (p ∷ ps) zero d h lt = let same : k ≡ k + 0 = omega arith in subst (λ (j : ℕ). WorksBy r j p) same h.0
 sound_at r k (p ∷ ps) (suc i) d h lt =
     let same : k + 1 + i ≡ k + suc i = omega arith in
-    subst (λ (j : ℕ). IsSound r j (get_or ps i d)) same (sound_at r (k + 1) ps i d h.1 (omega arith))
+    subst (λ (j : ℕ). WorksBy r j (get_or ps i d)) same (sound_at r (k + 1) ps i d h.1 (omega arith))
 
-pub sound_set : (r : Rules) (k : ℕ) (ps : List (Place Seat)) (i : ℕ) (p : Place Seat) → AreSound r k ps → IsSound r (k + i) p → AreSound r k (slice_set ps i p)
+pub sound_set : (r : Rules) (k : ℕ) (ps : List (Place Seat)) (i : ℕ) (p : Place Seat) → WorkBy r k ps → WorksBy r (k + i) p → WorkBy r k (slice_set ps i p)
 sound_set r k [] i p h s = tt
-sound_set r k (x ∷ ps) zero p h s = let same : k + 0 ≡ k = omega arith in (subst (λ (j : ℕ). IsSound r j p) same s, h.1)
+sound_set r k (x ∷ ps) zero p h s = let same : k + 0 ≡ k = omega arith in (subst (λ (j : ℕ). WorksBy r j p) same s, h.1)
 sound_set r k (x ∷ ps) (suc i) p h s =
     let same : k + suc i ≡ k + 1 + i = omega arith in
-    (h.0, sound_set r (k + 1) ps i p h.1 (subst (λ (j : ℕ). IsSound r j p) same s))
+    (h.0, sound_set r (k + 1) ps i p h.1 (subst (λ (j : ℕ). WorksBy r j p) same s))
 
 -- the member in a place
 pub record HasMember (os : List (Option Member)) (i : ℕ) (p : Place Seat) : Type 0 where
   pub member : Option Member
   pub there : slice_get os i ≡ Some member
-  pub is : IsMember p member
+  pub is : SitsAs p member
 
-pub member_in : (ps : List (Place Seat)) (os : List (Option Member)) (i : ℕ) (d : Place Seat) → AreMembers ps os → i < length ps → HasMember os i (get_or ps i d)
+pub member_in : (ps : List (Place Seat)) (os : List (Option Member)) (i : ℕ) (d : Place Seat) → SitAs ps os → i < length ps → HasMember os i (get_or ps i d)
 member_in [] os i d h lt = absurd (omega arith)
 member_in (p ∷ ps) [] i d h lt = absurd h
 member_in (p ∷ ps) (o ∷ os) zero d h lt = record { member = o; there = refl; is = h.0 }
@@ -54,7 +54,7 @@ member_in (p ∷ ps) (o ∷ os) (suc i) d h lt =
     let more = member_in ps os i d h.1 (omega arith) in
     record { member = more.member; there = more.there; is = more.is }
 
-pub members_set : (ps : List (Place Seat)) (os : List (Option Member)) (i : ℕ) (p : Place Seat) (o : Option Member) → AreMembers ps os → IsMember p o → AreMembers (slice_set ps i p) (slice_set os i o)
+pub members_set : (ps : List (Place Seat)) (os : List (Option Member)) (i : ℕ) (p : Place Seat) (o : Option Member) → SitAs ps os → SitsAs p o → SitAs (slice_set ps i p) (slice_set os i o)
 members_set [] [] i p o h m = tt
 members_set [] (x ∷ os) i p o h m = absurd h
 members_set (y ∷ ps) [] i p o h m = absurd h
@@ -126,12 +126,12 @@ entry_is r w number (line.Cut stop m ask) h = refl
 entry_is r w number (line.Restart m) h = refl
 entry_is r w number (line.Faulty m fault) h = absurd h
 
-notes_is : (p : Place Seat) (x : Member) → IsMember p (Some x) → notes_at p ≡ member_notes x
+notes_is : (p : Place Seat) (x : Member) → SitsAs p (Some x) → notes_at p ≡ member_notes x
 notes_is place.Faulty x h = absurd h
 notes_is (place.Live m) x h = ap member_notes h
 notes_is (place.Stopped disk notes) x h = h.2
 
-found_is : (w : World) (e : EventLine) (p : Place Seat) (done : Stepped) → IsMember p (Some done.member) → found_at e p (Some (out_of done)) ≡ found_by w (line_of e) done
+found_is : (w : World) (e : EventLine) (p : Place Seat) (done : Stepped) → SitsAs p (Some done.member) → found_at e p (Some (out_of done)) ≡ found_by w (line_of e) done
 found_is w (line.Do m ask) p done h = refl
 found_is w (line.Cut stop m ask) p done h = refl
 found_is w (line.Restart m) p done h = ap (λ (n : List Note). let o : Option ℕ = Some (length n) in o) (notes_is p done.member h)
@@ -145,7 +145,7 @@ found_none (line.Faulty m fault) p = refl
 
 -- a member's line, from what it made of who sits in its place
 pub turn_is : (r : Rules) (w : World) (number : ℕ) (e : EventLine) (ps : List (Place Seat)) (p : Place Seat) (out : Option StepOut) (o : Option Member) (pool : List Sent) (entry : Entry) → IsHonest e
-    → slice_get w.members (line_number e) ≡ Some o → AreMembers ps w.members
+    → slice_get w.members (line_number e) ≡ Some o → SitAs ps w.members
     → Makes o (option_and_then (turned_by r (signed w) (over w.pool) (line_number e) (line_of e)) o) p out
     → entry ≡ entry_with number (line_number e) (found_at e p out) (sent_from (length w.pool) (line_number e) (option_map_or (λ out. out.sent) out [])) (option_map_or (λ out. out.handed) out [])
     → pool ≡ w.pool ++ sent_from (length w.pool) (line_number e) (option_map_or (λ out. out.sent) out [])
@@ -163,7 +163,7 @@ turn_is r w number e ps p out o pool entry honest there members makes gives send
         let sent = sends ∙ ap (λ (x : Option StepOut). w.pool ++ sent_from (length w.pool) (line_number e) (option_map_or (λ out. out.sent) x [])) makes.1 in
         record {
           gives = mine ∙ sym whole;
-          members = subst (λ (l : List (Option Member)). AreMembers (slice_set ps (line_number e) p) l) (set_same w.members (line_number e) o there ∙ sym (ap (λ (v : World). v.members) after)) kept;
+          members = subst (λ (l : List (Option Member)). SitAs (slice_set ps (line_number e) p) l) (set_same w.members (line_number e) o there ∙ sym (ap (λ (v : World). v.members) after)) kept;
           sent = sent ∙ append-nil w.pool ∙ sym (ap (λ (v : World). v.pool) after);
         }
     go (Some done) is makes =
@@ -175,7 +175,7 @@ turn_is r w number e ps p out o pool entry honest there members makes gives send
         let sent = sends ∙ ap (λ (x : Option StepOut). w.pool ++ sent_from (length w.pool) (line_number e) (option_map_or (λ out. out.sent) x [])) makes.1 in
         record {
           gives = mine ∙ sym whole;
-          members = subst (λ (l : List (Option Member)). AreMembers (slice_set ps (line_number e) p) l) (sym (ap (λ (v : World). v.members) after)) kept;
+          members = subst (λ (l : List (Option Member)). SitAs (slice_set ps (line_number e) p) l) (sym (ap (λ (v : World). v.members) after)) kept;
           sent = sent ∙ sym (ap (λ (v : World). v.pool) after);
         }
 
@@ -190,19 +190,19 @@ get_at (x ∷ xs) zero d lt = refl
 get_at (x ∷ xs) (suc i) d lt = get_at xs i d (omega arith)
 
 -- who sits in a place that is taken out
-pub taken_sound : (r : Rules) (ps : List (Place Seat)) (i j : ℕ) (d p : Place Seat) → AreSound r 0 ps → i < length ps → j ≡ i → p ≡ get_or ps j d → IsSound r i p
+pub taken_sound : (r : Rules) (ps : List (Place Seat)) (i j : ℕ) (d p : Place Seat) → WorkBy r 0 ps → i < length ps → j ≡ i → p ≡ get_or ps j d → WorksBy r i p
 taken_sound r ps i j d p h lt same is =
     let none : 0 + i ≡ i = omega arith in
-    rw (is, same) (subst (λ (k : ℕ). IsSound r k (get_or ps i d)) none (sound_at r 0 ps i d h lt))
+    rw (is, same) (subst (λ (k : ℕ). WorksBy r k (get_or ps i d)) none (sound_at r 0 ps i d h lt))
 
-pub put_back : (r : Rules) (ps : List (Place Seat)) (i j k : ℕ) (x p : Place Seat) → AreSound r 0 ps → j ≡ i → k ≡ i → IsSound r i p → AreSound r 0 (slice_set (slice_set ps j x) k p)
+pub put_back : (r : Rules) (ps : List (Place Seat)) (i j k : ℕ) (x p : Place Seat) → WorkBy r 0 ps → j ≡ i → k ≡ i → WorksBy r i p → WorkBy r 0 (slice_set (slice_set ps j x) k p)
 put_back r ps i j k x p h a b s =
     let none : i ≡ 0 + i = omega arith in
-    rw (a, b, set_twice ps i x p) (sound_set r 0 ps i p h (subst (λ (n : ℕ). IsSound r n p) none s))
+    rw (a, b, set_twice ps i x p) (sound_set r 0 ps i p h (subst (λ (n : ℕ). WorksBy r n p) none s))
 
 pub placed : (r : Rules) (faulty : List Bool) (pool : List Sent) (ps : List (Place Seat)) (i j k : ℕ) (d p x new : Place Seat) (e : EventLine) (found : Option ℕ) (out : Option StepOut) → i < length ps → j ≡ i → k ≡ i → p ≡ get_or ps j d
     → found ≡ found_at e new out
-    → ((o : Option Member) → IsMember p o → Makes o (option_and_then (turned_by r (table faulty pool) (over pool) i (line_of e)) o) new out)
+    → ((o : Option Member) → SitsAs p o → Makes o (option_and_then (turned_by r (table faulty pool) (over pool) i (line_of e)) o) new out)
     → IsPlaced r faulty pool i e ps (slice_set (slice_set ps j x) k new) found out
 placed r faulty pool ps i j k d p x new e found out lt a b is finds makes = record {
   before = p;
@@ -214,19 +214,19 @@ placed r faulty pool ps i j k d p x new e found out lt a b is finds makes = reco
 }
 
 -- what stands at a place
-pub at_place : (ps : List (Place Seat)) (os : List (Option Member)) (i : ℕ) (p : Place Seat) → AreMembers ps os → slice_get ps i ≡ Some p → HasMember os i p
+pub at_place : (ps : List (Place Seat)) (os : List (Option Member)) (i : ℕ) (p : Place Seat) → SitAs ps os → slice_get ps i ≡ Some p → HasMember os i p
 at_place [] os i p h e = absurd (let no : None ≡ Some p = e in cc)
 at_place (q ∷ ps) [] i p h e = absurd h
 at_place (q ∷ ps) (o ∷ os) zero p h e =
     let same : q ≡ p = (let s : Some q ≡ Some p = e in cc) in
-    record { member = o; there = refl; is = subst (λ (x : Place Seat). IsMember x o) same h.0 }
+    record { member = o; there = refl; is = subst (λ (x : Place Seat). SitsAs x o) same h.0 }
 at_place (q ∷ ps) (o ∷ os) (suc i) p h e =
     let more = at_place ps os i p h.1 e in
     record { member = more.member; there = more.there; is = more.is }
 
 -- a member's line, from what became of its place
 pub member_turn : (r : Rules) (w : World) (number i : ℕ) (e : EventLine) (faulty : List Bool) (old new : List (Place Seat)) (found : Option ℕ) (out : Option StepOut) (before pool : List Sent) (entry : Entry)
-    → IsHonest e → i ≡ line_number e → IsPlaced r faulty before i e old new found out → AreMembers old w.members → before ≡ w.pool → faulty ≡ map is_none w.members
+    → IsHonest e → i ≡ line_number e → IsPlaced r faulty before i e old new found out → SitAs old w.members → before ≡ w.pool → faulty ≡ map is_none w.members
     → entry ≡ entry_with number i found (sent_from (length before) i (option_map_or (λ out. out.sent) out [])) (option_map_or (λ out. out.handed) out [])
     → pool ≡ before ++ sent_from (length before) i (option_map_or (λ out. out.sent) out [])
     → IsTurn r w number (line_of e) new pool entry
@@ -268,7 +268,7 @@ abbrev fault_entry : World → ℕ → ℕ → Fault → List Sent → Option St
 fault_entry w number m f sent d = record { line = number; member = None; found = option_and_then (found_by w (rule.Faulty m (fault_of f))) d; sent = sent; handed = option_map_or (λ done. done.handed) d [] }
 
 -- a faulty member's line
-pub fault_turn : (r : Rules) (w : World) (number i : ℕ) (m : ℕ) (f : Fault) (places : List (Place Seat)) (before pool : List Sent) (entry : Entry) → i ≡ m → AreMembers places w.members → before ≡ w.pool
+pub fault_turn : (r : Rules) (w : World) (number i : ℕ) (m : ℕ) (f : Fault) (places : List (Place Seat)) (before pool : List Sent) (entry : Entry) → i ≡ m → SitAs places w.members → before ≡ w.pool
     → entry ≡ record { line = number; member = None; found = None; sent = sent_from (length before) i (rule.fault_sends r (over before) i (fault_of f)); handed = [] }
     → pool ≡ before ++ sent_from (length before) i (rule.fault_sends r (over before) i (fault_of f))
     → IsTurn r w number (line_of (line.Faulty m f)) places pool entry
@@ -284,7 +284,7 @@ fault_turn r w number i m f places before pool entry named members pools gives s
     }
 
 -- where a faulty member's entry was made
-pub fault_played : {E : Type 0} (r : Rules) (w : World) (number i : ℕ) (m : ℕ) (f : Fault) (places : List (Place Seat)) (before : List Sent) (result : Result Entry E) → i ≡ m → AreMembers places w.members → before ≡ w.pool
+pub fault_played : {E : Type 0} (r : Rules) (w : World) (number i : ℕ) (m : ℕ) (f : Fault) (places : List (Place Seat)) (before : List Sent) (result : Result Entry E) → i ≡ m → SitAs places w.members → before ≡ w.pool
     → IfOk result (λ entry. entry ≡ record { line = number; member = None; found = None; sent = sent_from (length before) i (rule.fault_sends r (over before) i (fault_of f)); handed = [] })
     → IfOk result (λ entry. IsTurn r w number (line_of (line.Faulty m f)) places (before ++ entry.sent) entry)
 fault_played r w number i m f places before (Ok entry) named members pools gives =

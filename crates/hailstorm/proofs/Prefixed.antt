@@ -14,7 +14,7 @@ use Rattle.hail_script.specs.Events.{line_of}
 use Rattle.hail_script.specs.Lanes.{Laned, cut, lanes, prefix, rows}
 use Rattle.hailstorm.specs.declared.place.Place.{Place}
 use Rattle.hailstorm.specs.Lanes.{lines_of, played}
-use Rattle.hailstorm.specs.Places.{AreSound, rules_of}
+use Rattle.hailstorm.specs.Places.{WorkBy, rules_of}
 use Rattle.hailstorm.specs.Runs.{IsStopped, opened}
 use Rattle.hailstorm.specs.Seats.{Seat}
 use Rattle.hailstorm.specs.Turns.{Begin, HavePlayed, IsBetween, between}
@@ -87,7 +87,7 @@ module _ (x : Laned) (n : ℕ) (cursors : List (ℕ × ℕ)) (is : cut x.sizes (
 
   pub opens_between : (hash : List ℕ → Digest32) (steps : List Entry) (places : List (Place Seat)) (faulty : List Bool)
       → HavePlayed (rules_of hash x.script) (opened hash x.script) (take n (rows x)) steps places faulty
-      → AreSound (rules_of hash x.script) 0 places → length places ≡ x.script.committees.total
+      → WorkBy (rules_of hash x.script) 0 places → length places ≡ x.script.committees.total
       → IsBetween hash x [] cursors steps places faulty
   opens_between hash steps places faulty h sound count = record {
     played = subst (λ (l : List (ℕ × Line)). HavePlayed (rules_of hash x.script) (opened hash x.script) l steps places faulty) (sym prefix_is ∙ sym (append-nil (prefix x))) h;

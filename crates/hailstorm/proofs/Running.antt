@@ -13,7 +13,7 @@ use Rattle.cw_rules.specs.World as rule
 use Rattle.hail_script.specs.Scenario.{Scenario}
 use Rattle.hailstorm.specs.declared.place.Place.{Place}
 use Rattle.hailstorm.specs.declared.report.Report.{Report}
-use Rattle.hailstorm.specs.Places.{AreMembers, AreSound, rules_of}
+use Rattle.hailstorm.specs.Places.{SitAs, WorkBy, rules_of}
 use Rattle.hailstorm.specs.Reports.{AreNodesOf, HoldNotes, IsRun, honest, shown_report}
 use Rattle.hailstorm.specs.Runs.{ArePlayed, chain_from, opened}
 use Rattle.hailstorm.specs.Seats.{Seat}

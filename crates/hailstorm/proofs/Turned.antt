@@ -12,7 +12,7 @@ use Rattle.hail_script.specs.declared.error.RunError.{RunError}
 use Rattle.hail_script.specs.declared.error.RunError.TheVariants as error
 use Rattle.hailstorm.specs.declared.place.Place.{Place}
 use Rattle.hailstorm.specs.Lanes.{lines_of}
-use Rattle.hailstorm.specs.Places.{AreMembers, IsTurn}
+use Rattle.hailstorm.specs.Places.{SitAs, IsTurn}
 use Rattle.hailstorm.specs.Pool.{sent_in}
 use Rattle.hailstorm.specs.Runs.{IsStopped}
 use Rattle.hailstorm.specs.Seats.{Seat}
@@ -75,7 +75,7 @@ played_next r w rows number line steps old new faulty entry h turn clear =
     record {
       ends = ap (λ (l : List Line). outcome r w l) lines ∙ outcome_behind r w now (lines_of rows) (line ∷ []) h.ends ∙ step ∙ ap (λ (v : World). Ends v) (sym world);
       entries = ap (λ (l : List Entry). l ++ entry ∷ []) h.entries ∙ ap (λ (e : Entry). entries_of r w rows ++ e ∷ []) turn.gives ∙ sym (entries_more r w rows number line);
-      members = subst (λ (v : World). AreMembers new v.members) (sym world) turn.members;
+      members = subst (λ (v : World). SitAs new v.members) (sym world) turn.members;
       sent = sent_more steps entry ∙ turn.sent ∙ ap (λ (v : World). v.pool) (sym world);
       flags = h.flags ∙ sym (flags_kept r now line) ∙ ap (λ (v : World). map is_none v.members) (sym world);
     }
@@ -96,7 +96,7 @@ played_same r w rows number number' line steps steps' places faulty n s h =
     subst (λ (l : List Entry). HavePlayed r w (rows ++ (number', line) ∷ []) l places faulty) (sym s) (subst (λ (k : ℕ). HavePlayed r w (rows ++ (k, line) ∷ []) steps places faulty) n h)
 
 -- before the first line
-pub played_none : (r : Rules) (w : World) (places : List (Place Seat)) (faulty : List Bool) → AreMembers places w.members → w.pool ≡ [] → faulty ≡ map is_none w.members → HavePlayed r w [] [] places faulty
+pub played_none : (r : Rules) (w : World) (places : List (Place Seat)) (faulty : List Bool) → SitAs places w.members → w.pool ≡ [] → faulty ≡ map is_none w.members → HavePlayed r w [] [] places faulty
 played_none r w places faulty members sent flags = record { ends = refl; entries = refl; members = members; sent = sym sent; flags = flags }
 
 -- lines that are stopped by a clash are so with more behind them

@@ -15,7 +15,7 @@ use Rattle.cw_types.specs.declared.message.Message.{Message}
 use Rattle.cw_types.specs.declared.message.Message.TheVariants as message
 use Rattle.cw_types.specs.declared.vote.Vote.{Vote}
 use Rattle.cw_rules.specs.World.{Sent, is_sent_vote, is_vote_of}
-use Rattle.hailstorm.specs.Votes.{TellVotes, round_cmp, round_of, votes_in}
+use Rattle.hailstorm.specs.Votes.{TellVotes, round_cmp, round_of, votes_under}
 
 abbrev Round : Type 0
 Round = ℕ × ℕ × ℕ
@@ -73,8 +73,8 @@ or_no false b e = e
 module _ (m n : Kept) (i : ℕ) (w : Vote) (before : List Sent) (s : Sent) where
   -- the votes of a round with one more, and those of all others as before
   pub record HasMore : Type 0 where
-    pub here : votes_in n (round_of i w) ≡ votes_in m (round_of i w) ++ w ∷ []
-    pub others : (k : Round) → is_eq (round_cmp (round_of i w) k) ≡ false → votes_in n k ≡ votes_in m k
+    pub here : votes_under n (round_of i w) ≡ votes_under m (round_of i w) ++ w ∷ []
+    pub others : (k : Round) → is_eq (round_cmp (round_of i w) k) ≡ false → votes_under n k ≡ votes_under m k
 
   -- then they tell of one message more, where it is that vote
   pub told_more : s.from ≡ i → s.message ≡ message.Vote i w → HasMore → TellVotes m before → TellVotes n (before ++ s ∷ [])
@@ -83,13 +83,13 @@ module _ (m n : Kept) (i : ℕ) (w : Vote) (before : List Sent) (s : Sent) where
       sent : is_sent_vote j v s ≡ ((i == j) && ((i == j) && same_vote v w))
       sent = rw (from, is) refl
 
-      go : (b : Bool) → is_eq (round_cmp (round_of i w) (round_of j v)) ≡ b → list_any (same_vote v) (votes_in n (round_of j v)) ≡ list_any (is_sent_vote j v) (before ++ s ∷ [])
+      go : (b : Bool) → is_eq (round_cmp (round_of i w) (round_of j v)) ≡ b → list_any (same_vote v) (votes_under n (round_of j v)) ≡ list_any (is_sent_vote j v) (before ++ s ∷ [])
       go true e =
           let k : round_of i w ≡ round_of j v = tied (round_of i w) (round_of j v) e in
           let same : i ≡ j = ap (λ (r : Round). r.0) k in
           let yes : (i == j) ≡ true = rw same (eq_itself j) in
-          let now : votes_in n (round_of j v) ≡ votes_in m (round_of j v) ++ w ∷ [] = subst (λ (r : Round). votes_in n r ≡ votes_in m r ++ w ∷ []) k more.here in
-          ap (λ (l : List Vote). list_any (same_vote v) l) now ∙ any_more (same_vote v) (votes_in m (round_of j v)) w
+          let now : votes_under n (round_of j v) ≡ votes_under m (round_of j v) ++ w ∷ [] = subst (λ (r : Round). votes_under n r ≡ votes_under m r ++ w ∷ []) k more.here in
+          ap (λ (l : List Vote). list_any (same_vote v) l) now ∙ any_more (same_vote v) (votes_under m (round_of j v)) w
           ∙ ap (λ b. b || same_vote v w) (told j v)
           ∙ ap (λ b. list_any (is_sent_vote j v) before || b) (sym (sent ∙ rw yes refl))
           ∙ sym (any_more (is_sent_vote j v) before s)

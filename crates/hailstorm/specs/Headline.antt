@@ -25,10 +25,10 @@ abbrev pub asked_storm : List ℕ → List ℕ → Option (Option ℕ)
 asked_storm word field = if bytes_eq word (codes "storm") then option_map Some (number field) else None
 
 -- what the words ask for: none, a script that is read; `storm` and a number, the storm of that number
-abbrev pub asked_of : List (List ℕ) → Option (Option ℕ)
-asked_of [] = Some None
-asked_of (word ∷ field ∷ []) = asked_storm word field
-asked_of _ = None
+abbrev pub words_ask : List (List ℕ) → Option (Option ℕ)
+words_ask [] = Some None
+words_ask (word ∷ field ∷ []) = asked_storm word field
+words_ask _ = None
 
 -- the text of a report: whole, or its summary under a storm's number
 abbrev pub text_of : (List ℕ → Digest32) → Option ℕ → Reported → List ℕ

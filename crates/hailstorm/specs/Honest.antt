@@ -8,7 +8,7 @@ use Rattle.hail_script.specs.Events.{line_of}
 use Rattle.hail_script.specs.declared.event.EventLine.{EventLine}
 use Rattle.hail_script.specs.declared.event.EventLine.TheVariants as line
 use Rattle.hailstorm.specs.declared.place.Place.{Place}
-use Rattle.hailstorm.specs.Places.{IsMember, Makes, found_at, over, table, turned_by}
+use Rattle.hailstorm.specs.Places.{SitsAs, Makes, found_at, over, table, turned_by}
 use Rattle.hailstorm.specs.Seats.{Seat}
 
 -- a line that isn't of a faulty member
@@ -23,4 +23,4 @@ pub record IsPlaced (r : Rules) (faulty : List Bool) (pool : List Sent) (i : ℕ
   pub was : slice_get old i ≡ Some before
   pub becomes : new ≡ slice_set old i after
   pub finds : found ≡ found_at e after out
-  pub makes : (o : Option Member) → IsMember before o → Makes o (option_and_then (turned_by r (table faulty pool) (over pool) i (line_of e)) o) after out
+  pub makes : (o : Option Member) → SitsAs before o → Makes o (option_and_then (turned_by r (table faulty pool) (over pool) i (line_of e)) o) after out

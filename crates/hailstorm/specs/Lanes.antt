@@ -92,15 +92,15 @@ pub record IsLanesClash (hash : List ℕ → Digest32) (text : List ℕ) (order 
   pub at_last : order ≢ [] → (w : World) × (outcome (rules_of hash laned.script) (opening (rules_of hash laned.script) laned.script.lines) (lines_of (played laned (but_last order))) ≡ Ends w)
 
 -- a cause that is tested before the run
-abbrev pub IsRefused : List ℕ → List ℕ → RunError → Type 0
-IsRefused text order e = (order ≡ []) × (laned_of text ≡ Err e)
+abbrev pub IsLanesRefusal : List ℕ → List ℕ → RunError → Type 0
+IsLanesRefusal text order e = (order ≡ []) × (laned_of text ≡ Err e)
 
 -- why there is no report, with the lanes that had a turn
 abbrev pub IsLanesCause : (List ℕ → Digest32) → List ℕ → List ℕ → RunError → Type 0
 IsLanesCause hash text order error.NoMemory = order ≡ []
 IsLanesCause hash text order (error.HashClash earlier later) = IsLanesClash hash text order earlier later
-IsLanesCause hash text order error.BadCommittee = IsRefused text order error.BadCommittee
-IsLanesCause hash text order error.TooManyFaulty = IsRefused text order error.TooManyFaulty
-IsLanesCause hash text order (error.Syntax line) = IsRefused text order (error.Syntax line)
-IsLanesCause hash text order (error.UnknownMember line) = IsRefused text order (error.UnknownMember line)
-IsLanesCause hash text order (error.OversizeBlock line) = IsRefused text order (error.OversizeBlock line)
+IsLanesCause hash text order error.BadCommittee = IsLanesRefusal text order error.BadCommittee
+IsLanesCause hash text order error.TooManyFaulty = IsLanesRefusal text order error.TooManyFaulty
+IsLanesCause hash text order (error.Syntax line) = IsLanesRefusal text order (error.Syntax line)
+IsLanesCause hash text order (error.UnknownMember line) = IsLanesRefusal text order (error.UnknownMember line)
+IsLanesCause hash text order (error.OversizeBlock line) = IsLanesRefusal text order (error.OversizeBlock line)

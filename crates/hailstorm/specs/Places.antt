@@ -26,32 +26,32 @@ abbrev pub rules_of : (List ℕ → Digest32) → Scenario → Rules
 rules_of hash s = coded hash s.committees s.backlog (λ b a. true)
 
 -- a disk that holds some frames of notes, which are these notes in order
-abbrev pub Holds : MemoryState → List Note → Type 0
-Holds disk notes = (frames : List (List Note)) × (FindsNotes frames (memory_state disk).now.seen) × (notes ≡ flat_map (λ frame. frame) frames)
+abbrev pub DiskHolds : MemoryState → List Note → Type 0
+DiskHolds disk notes = (frames : List (List Note)) × (FindsNotes frames (memory_state disk).now.seen) × (notes ≡ flat_map (λ frame. frame) frames)
 
 -- who sits there works by these rules, on a disk that doesn't fail; a stopped member's notes are those on its disk
-abbrev pub IsSound : Rules → ℕ → Place Seat → Type 0
-IsSound r i place.Faulty = Unit {0}
-IsSound r i (place.Live m) = (rules_by r.hash m ≡ r) × (m.id ≡ i) × Works m × (is_calm m.log.disk ≡ true)
-IsSound r i (place.Stopped disk notes) = (is_calm disk ≡ true) × Holds disk notes
+abbrev pub WorksBy : Rules → ℕ → Place Seat → Type 0
+WorksBy r i place.Faulty = Unit {0}
+WorksBy r i (place.Live m) = (rules_by r.hash m ≡ r) × (m.id ≡ i) × Works m × (is_calm m.log.disk ≡ true)
+WorksBy r i (place.Stopped disk notes) = (is_calm disk ≡ true) × DiskHolds disk notes
 
 -- so in each place, numbered from a number on
-abbrev pub AreSound : Rules → ℕ → List (Place Seat) → Type 0
-AreSound r i [] = Unit {0}
-AreSound r i (p ∷ ps) = IsSound r i p × AreSound r (i + 1) ps
+abbrev pub WorkBy : Rules → ℕ → List (Place Seat) → Type 0
+WorkBy r i [] = Unit {0}
+WorkBy r i (p ∷ ps) = WorksBy r i p × WorkBy r (i + 1) ps
 
 -- who sits there is this member of the rules, faulty where there is none. A stopped one is known by its disk
-abbrev pub IsMember : Place Seat → Option Member → Type 0
-IsMember place.Faulty None = Unit {0}
-IsMember (place.Live m) (Some x) = m.member ≡ x
-IsMember (place.Stopped disk notes) (Some x) = (x.live ≡ false) × (FindsNotes x.frames (memory_state disk).now.seen) × (notes ≡ member_notes x)
-IsMember _ _ = ⊥
+abbrev pub SitsAs : Place Seat → Option Member → Type 0
+SitsAs place.Faulty None = Unit {0}
+SitsAs (place.Live m) (Some x) = m.member ≡ x
+SitsAs (place.Stopped disk notes) (Some x) = (x.live ≡ false) × (FindsNotes x.frames (memory_state disk).now.seen) × (notes ≡ member_notes x)
+SitsAs _ _ = ⊥
 
 -- so in each place
-abbrev pub AreMembers : List (Place Seat) → List (Option Member) → Type 0
-AreMembers [] [] = Unit {0}
-AreMembers (p ∷ ps) (o ∷ os) = IsMember p o × AreMembers ps os
-AreMembers _ _ = ⊥
+abbrev pub SitAs : List (Place Seat) → List (Option Member) → Type 0
+SitAs [] [] = Unit {0}
+SitAs (p ∷ ps) (o ∷ os) = SitsAs p o × SitAs ps os
+SitAs _ _ = ⊥
 
 -- the notes of who sits there
 abbrev pub notes_at : Place Seat → List Note
@@ -92,8 +92,8 @@ turned_by r signed w i (Faulty j fault) m = None
 
 -- what a line made of who sits in a place, and what that gave: what the rules make of that member, or nothing
 abbrev pub Makes : Option Member → Option Stepped → Place Seat → Option StepOut → Type 0
-Makes o None place out = IsMember place o × (out ≡ None)
-Makes o (Some done) place out = IsMember place (Some done.member) × (out ≡ Some (out_of done))
+Makes o None place out = SitsAs place o × (out ≡ None)
+Makes o (Some done) place out = SitsAs place (Some done.member) × (out ≡ Some (out_of done))
 
 -- how many notes a restart found, where it started its member
 abbrev pub found_at : EventLine → Place Seat → Option StepOut → Option ℕ
@@ -101,13 +101,13 @@ found_at (line.Restart m) p (Some out) = Some (length (notes_at p))
 found_at _ p out = None
 
 -- a stopped member: its disk, reopened, and the notes on it
-abbrev pub IsStopped : MemoryState → Place Seat → Type 0
-IsStopped disk place.Faulty = ⊥
-IsStopped disk (place.Live m) = ⊥
-IsStopped disk (place.Stopped again notes) = (again ≡ reopened_disk disk) × ((memory_state again).now.seen ≡ (memory_state disk).now.seen) × Holds again notes
+abbrev pub IsPutOut : MemoryState → Place Seat → Type 0
+IsPutOut disk place.Faulty = ⊥
+IsPutOut disk (place.Live m) = ⊥
+IsPutOut disk (place.Stopped again notes) = (again ≡ reopened_disk disk) × ((memory_state again).now.seen ≡ (memory_state disk).now.seen) × DiskHolds again notes
 
 -- a line made of the world what the rules say, and gave their entry
 pub record IsTurn (r : Rules) (w : World) (number : ℕ) (line : Line) (places : List (Place Seat)) (pool : List Sent) (entry : Entry) : Type 0 where
   pub gives : entry ≡ entry_of r w number line
-  pub members : AreMembers places (happens r w line).members
+  pub members : SitAs places (happens r w line).members
   pub sent : pool ≡ (happens r w line).pool

@@ -30,7 +30,7 @@ status_of NoMemory = 7
 -- ---- the parts of a program
 
 -- a source that had this text left was read to its end, the text is no longer than a script and spells the one that was run, and this is the report of its run
-pub record IsRead {H : Type 0} (hash : List ℕ → Digest32) (text : List ℕ) (rest : Option (List ℕ)) (ran : Ran H) : Type 0 where
+pub record WasRun {H : Type 0} (hash : List ℕ → Digest32) (text : List ℕ) (rest : Option (List ℕ)) (ran : Ran H) : Type 0 where
   pub at_end : IsAtEnd rest
   pub short : length text ≤ script_limit
   pub spells : script_of text ≡ Ok ran.script
@@ -38,12 +38,12 @@ pub record IsRead {H : Type 0} (hash : List ℕ → Digest32) (text : List ℕ) 
   pub report : IsReport hash text ran.report
 
 -- Why there is no report, for a source that had this text left. A text that is refused, or whose run ends in a clash, was read to its end, and is no longer than a script.
-abbrev pub IsEarly : (List ℕ → Digest32) → List ℕ → Option (List ℕ) → Early → Type 0
-IsEarly hash text rest early.TooLong = (script_limit < length text) × HasRead (script_limit + 1) text rest
-IsEarly hash text rest (early.Refused e) = IsAtEnd rest × (length text ≤ script_limit) × (script_of text ≡ Err e)
-IsEarly hash text rest (early.Clash earlier later) = IsAtEnd rest × (length text ≤ script_limit) × Clashing hash text earlier later
-IsEarly hash text rest early.ReadFault = Unit {0}
-IsEarly hash text rest early.NoMemory = Unit {0}
+abbrev pub HasNoReport : (List ℕ → Digest32) → List ℕ → Option (List ℕ) → Early → Type 0
+HasNoReport hash text rest early.TooLong = (script_limit < length text) × HasRead (script_limit + 1) text rest
+HasNoReport hash text rest (early.Refused e) = IsAtEnd rest × (length text ≤ script_limit) × (script_of text ≡ Err e)
+HasNoReport hash text rest (early.Clash earlier later) = IsAtEnd rest × (length text ≤ script_limit) × Clashing hash text earlier later
+HasNoReport hash text rest early.ReadFault = Unit {0}
+HasNoReport hash text rest early.NoMemory = Unit {0}
 
 -- the cause of a read fault: the source's count of faults rose
 abbrev pub HasReadFault : ℕ → ℕ → Early → Type 0

@@ -32,14 +32,14 @@ HoldNotes (m ∷ ms) (disk ∷ disks) = (FindsNotes m.frames disk) × HoldNotes 
 HoldNotes _ _ = ⊥
 
 -- the node is the member, and there is none exactly for a stopped one
-abbrev pub IsNodeOf : Member → Option Seat → Type 0
-IsNodeOf m None = m.live ≡ false
-IsNodeOf m (Some node) = (m.live ≡ true) × (node.member ≡ m)
+abbrev pub IsLiveAs : Member → Option Seat → Type 0
+IsLiveAs m None = m.live ≡ false
+IsLiveAs m (Some node) = (m.live ≡ true) × (node.member ≡ m)
 
 -- so for each
 abbrev pub AreNodesOf : List Member → List (Option Seat) → Type 0
 AreNodesOf [] [] = Unit {0}
-AreNodesOf (m ∷ ms) (node ∷ nodes) = IsNodeOf m node × AreNodesOf ms nodes
+AreNodesOf (m ∷ ms) (node ∷ nodes) = IsLiveAs m node × AreNodesOf ms nodes
 AreNodesOf _ _ = ⊥
 
 -- The report of a script's run: the script ends without a clash in this world, and what is told is the rules' report of it. The disks and nodes are those of the honest members as the world leaves them.

@@ -23,7 +23,7 @@ use Rattle.hail_script.specs.Scenario.{Scenario}
 use Rattle.hailstorm.specs.declared.place.Place.{Place}
 use Rattle.hailstorm.specs.declared.place.Place.TheVariants as place
 use Rattle.node_disk.specs.Memory.{memory_state}
-use Rattle.hailstorm.specs.Places.{AreMembers, rules_of}
+use Rattle.hailstorm.specs.Places.{SitAs, rules_of}
 use Rattle.hailstorm.specs.Pool.{sent_in}
 use Rattle.hailstorm.specs.Seats.{Seat}
 
@@ -40,7 +40,7 @@ pub record ArePlayed (r : Rules) (w : World) (lines : List Line) (steps : List E
   pub last : World
   pub ends : outcome r w lines ≡ Ends last
   pub entries : steps ≡ entries_from r w (first_line r) lines
-  pub members : AreMembers places last.members
+  pub members : SitAs places last.members
 
 -- why lines weren't played to their end: for want of memory, or by a clash
 abbrev pub IsStopped : Rules → World → List Line → RunError → Type 0
@@ -54,7 +54,7 @@ pub record AreMidway (r : Rules) (w : World) (index : ℕ) (lines : List Line) (
   pub reaches : now ≡ run r w (take index lines)
   pub ends : outcome r now (drop index lines) ≡ outcome r w lines
   pub entries : steps ++ entries_from r now (first_line r + index) (drop index lines) ≡ entries_from r w (first_line r) lines
-  pub members : AreMembers places now.members
+  pub members : SitAs places now.members
   pub sent : sent_in steps ≡ now.pool
   pub flags : faulty ≡ map is_none now.members
 
@@ -128,10 +128,10 @@ abbrev pub chain_from : Rules → World → Option Handed → List Block
 chain_from r w top = option_map_or (chain_to r w) (option_and_then (λ x. block_under r w x.commitment) top) []
 
 -- what is handed back of a place: the bytes of its disk, and the node where it is live
-abbrev pub IsClosed : Place Seat → Option (List ℕ × Option Seat) → Type 0
-IsClosed place.Faulty closed = closed ≡ None
-IsClosed (place.Live m) closed = closed ≡ Some ((memory_state m.log.disk).now.seen, Some m)
-IsClosed (place.Stopped disk notes) closed = closed ≡ Some ((memory_state disk).now.seen, None)
+abbrev pub HandsBack : Place Seat → Option (List ℕ × Option Seat) → Type 0
+HandsBack place.Faulty closed = closed ≡ None
+HandsBack (place.Live m) closed = closed ≡ Some ((memory_state m.log.disk).now.seen, Some m)
+HandsBack (place.Stopped disk notes) closed = closed ≡ Some ((memory_state disk).now.seen, None)
 
 -- the height that a note acknowledges, else the one before
 abbrev pub acked_with : Option ℕ → Note → Option ℕ

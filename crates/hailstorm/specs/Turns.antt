@@ -13,7 +13,7 @@ use Rattle.hail_script.specs.Lanes.{Laned, lanes, rows}
 use Rattle.hailstorm.specs.declared.place.Place.{Place}
 use Rattle.hailstorm.specs.declared.report.Report.{Report}
 use Rattle.hailstorm.specs.Lanes.{but_last, lane_at, left, lines_of, played, turns_of}
-use Rattle.hailstorm.specs.Places.{AreMembers, AreSound, rules_of}
+use Rattle.hailstorm.specs.Places.{SitAs, WorkBy, rules_of}
 use Rattle.hailstorm.specs.Pool.{sent_in}
 use Rattle.hailstorm.specs.Reports.{AreNodesOf, HoldNotes, honest}
 use Rattle.hailstorm.specs.Runs.{chain_from, opened}
@@ -30,7 +30,7 @@ entries_of r w (row ∷ rows) = entry_of r w row.0 row.1 ∷ entries_of r (happe
 pub record HavePlayed (r : Rules) (w : World) (rows : List (ℕ × Line)) (steps : List Entry) (places : List (Place Seat)) (faulty : List Bool) : Type 0 where
   pub ends : outcome r w (lines_of rows) ≡ Ends (run r w (lines_of rows))
   pub entries : steps ≡ entries_of r w rows
-  pub members : AreMembers places (run r w (lines_of rows)).members
+  pub members : SitAs places (run r w (lines_of rows)).members
   pub sent : sent_in steps ≡ (run r w (lines_of rows)).pool
   pub flags : faulty ≡ map is_none (run r w (lines_of rows)).members
 
@@ -51,7 +51,7 @@ pub record IsBetween (hash : List ℕ → Digest32) (x : Laned) (order : List �
   pub played : HavePlayed (rules_of hash x.script) (opened hash x.script) (played x order) steps places faulty
   pub rest : left (lanes x) order ≡ map (between (rows x)) cursors
   pub turns : (k : ℕ) → turns_of k order + length (lane_at (left (lanes x) order) k) ≡ length (lane_at (lanes x) k)
-  pub sound : AreSound (rules_of hash x.script) 0 places
+  pub sound : WorkBy (rules_of hash x.script) 0 places
   pub count : length places ≡ x.script.committees.total
 
 -- the last of these turns met this clash

@@ -18,9 +18,9 @@ abbrev pub round_of : ℕ → Vote → ℕ × ℕ × ℕ
 round_of i v = (i, vote_epoch v, vote_view v)
 
 -- the votes that are kept under these
-abbrev pub votes_in : BTreeMap (ℕ × ℕ × ℕ) (List Vote) → ℕ × ℕ × ℕ → List Vote
-votes_in rounds k = unwrap_or (get round_cmp rounds k) []
+abbrev pub votes_under : BTreeMap (ℕ × ℕ × ℕ) (List Vote) → ℕ × ℕ × ℕ → List Vote
+votes_under rounds k = unwrap_or (get round_cmp rounds k) []
 
 -- what is kept tells of each vote whether its signer sent it in these messages
 abbrev pub TellVotes : BTreeMap (ℕ × ℕ × ℕ) (List Vote) → List Sent → Type 0
-TellVotes rounds sent = (i : ℕ) (v : Vote) → list_any (same_vote v) (votes_in rounds (round_of i v)) ≡ list_any (is_sent_vote i v) sent
+TellVotes rounds sent = (i : ℕ) (v : Vote) → list_any (same_vote v) (votes_under rounds (round_of i v)) ≡ list_any (is_sent_vote i v) sent

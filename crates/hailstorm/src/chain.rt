@@ -8,7 +8,7 @@ ghost use Rattle.cw_rules.specs.Held.{noted_block_of};
 ghost use Rattle.cw_rules.specs.Report.{highest as highest_of};
 ghost use Rattle.cw_rules.specs.Rules.{Rules};
 ghost use Rattle.cw_rules.specs.World.{World as RulesWorld};
-ghost use Rattle.hailstorm.specs.Places.{AreMembers, notes_at as notes_in};
+ghost use Rattle.hailstorm.specs.Places.{SitAs, notes_at as notes_in};
 ghost use Rattle.hailstorm.specs.Runs.{GoesBy, chain_from, first_named, higher, under};
 
 use crate::place::Place;
@@ -26,7 +26,7 @@ pub(crate) fn chain_of<H: Hasher<Digest = Digest32>>(
     opening: &[Entry],
     steps: &[Entry],
 ) -> Result<Items<ChainBlock>, NoMemory>
-    ensures { (r : Rules) (w : RulesWorld) → GoesBy H.digest_of r → AreMembers places.now w.members
+    ensures { (r : Rules) (w : RulesWorld) → GoesBy H.digest_of r → SitAs places.now w.members
         → IfOk result
         (λ chain. chain ≡ chain_from r w
         (highest_of (flat_map (λ e. e.handed) (opening.now ++ steps.now)))) }
@@ -46,7 +46,7 @@ fn links_to<H: Hasher<Digest = Digest32>>(
     places: &[Place<Seat<H>>],
     top: Option<ChainBlock>,
 ) -> Result<Items<ChainBlock>, NoMemory>
-    ensures { (r : Rules) (w : RulesWorld) → GoesBy H.digest_of r → AreMembers places.now w.members
+    ensures { (r : Rules) (w : RulesWorld) → GoesBy H.digest_of r → SitAs places.now w.members
         → IfOk result (λ chain. chain ≡ option_map_or (λ b. chain_to r w b) top []) }
 {
     let mut down = Vec::new(alloc);
@@ -78,7 +78,7 @@ fn parent<H: Hasher<Digest = Digest32>>(
     left: u64,
 ) -> Result<Option<ChainBlock>, NoMemory>
     ensures below { (r : Rules) (w : RulesWorld) → GoesBy H.digest_of r
-        → AreMembers places.now w.members
+        → SitAs places.now w.members
         → IfOk result (λ next. next ≡ under r w left block.now) }
     ensures bottom { left ≡ 0 → IfOk result (λ next. next ≡ None) }
 {
@@ -94,7 +94,7 @@ fn block_under<H: Hasher<Digest = Digest32>>(
     places: &[Place<Seat<H>>],
     commitment: &Commitment,
 ) -> Result<Option<ChainBlock>, NoMemory>
-    ensures { (r : Rules) (w : RulesWorld) → GoesBy H.digest_of r → AreMembers places.now w.members
+    ensures { (r : Rules) (w : RulesWorld) → GoesBy H.digest_of r → SitAs places.now w.members
         → IfOk result (λ block. block ≡ block_in r w commitment.now) }
 {
     named::<H>(alloc, places, commitment)

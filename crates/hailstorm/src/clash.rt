@@ -6,7 +6,7 @@ ghost use Rattle.cw_rules.specs.Chains.{clash_at};
 ghost use Rattle.cw_rules.specs.Reached.{AllNamed};
 ghost use Rattle.cw_rules.specs.Rules.{Rules};
 ghost use Rattle.cw_rules.specs.World.{World as RulesWorld};
-ghost use Rattle.hailstorm.specs.Places.{AreMembers, notes_at as notes_in};
+ghost use Rattle.hailstorm.specs.Places.{SitAs, notes_at as notes_in};
 ghost use Rattle.hailstorm.specs.Runs.{GoesBy, HasGrown, all_before, clash_in, clash_of};
 ghost use Rattle.hailstorm.specs.Runs.{earlier_of, encoded, notes_before, other, other_in};
 
@@ -27,7 +27,7 @@ pub(crate) fn find_clash<H: Hasher<Digest = Digest32>>(
 ) -> Result<Option<(Items<u8>, Items<u8>)>, NoMemory>
     requires known { id < length places.now }
     ensures { (r : Rules) (before after : RulesWorld) → GoesBy H.digest_of r
-        → AreMembers places.now after.members → HasGrown before after id old → AllNamed r after
+        → SitAs places.now after.members → HasGrown before after id old → AllNamed r after
         → IfOk result (λ clash. clash ≡ option_map (encoded r) (clash_at r before after id)) }
 {
     let own = notes_at::<H>(&places[id]);

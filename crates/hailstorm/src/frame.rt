@@ -1,7 +1,7 @@
 //! The frame of a program that reads a script, runs it, and writes what it makes of the report.
 
 ghost use Rattle.std.specs.Prelude.{◌≡◌, List, ℕ, Some, IfOk, IfErr};
-ghost use Rattle.hailstorm.specs.Programs.{EndsEarly, Finishes, HasReadFault, IsEarly, IsRead};
+ghost use Rattle.hailstorm.specs.Programs.{EndsEarly, Finishes, HasReadFault, HasNoReport, WasRun};
 ghost use Rattle.hailstorm.specs.Programs.{early_of as early_by, status_of};
 ghost use Rattle.hailstorm.specs.Reports.{IsRun};
 ghost use Rattle.hailstorm.specs.declared.frame.Early.TheVariants as cause;
@@ -82,14 +82,14 @@ pub fn run_source<H: Hasher<Digest = Digest32>, R: Threads + Sync, I: Source, S:
     // The source is at its end, its text is no longer than a script and spells this one, and this
     // is the report of its run.
     ensures ok { (text : List ℕ) → I.left input.old ≡ Some text
-        → IfOk result (λ ran. IsRead H.digest_of text (I.left input.new) ran) }
+        → IfOk result (λ ran. WasRun H.digest_of text (I.left input.new) ran) }
 
     // Whether or not the source tells its bytes: this is the report of the run of the script.
     ensures run { IfOk result (λ ran. IsRun H.digest_of ran.script ran.report) }
 
     // Each cause has its meaning for the bytes that the source had left.
     ensures err { (text : List ℕ) → I.left input.old ≡ Some text
-        → IfErr result (λ early. IsEarly H.digest_of text (I.left input.new) early) }
+        → IfErr result (λ early. HasNoReport H.digest_of text (I.left input.new) early) }
 
     // A read fault is told only where the source has failed in this call.
     ensures fault { IfErr result

@@ -8,7 +8,7 @@ ghost use Rattle.hail_script.specs.Admission as admission;
 ghost use Rattle.hail_script.specs.Events.{line_of};
 ghost use Rattle.hail_script.specs.Grammar.{is_later, names_oversize};
 ghost use Rattle.hailstorm.specs.Lanes.{lines_of};
-ghost use Rattle.hailstorm.specs.Places.{AreSound, rules_of};
+ghost use Rattle.hailstorm.specs.Places.{WorkBy, rules_of};
 ghost use Rattle.hailstorm.specs.Runs.{IsStopped};
 ghost use Rattle.hailstorm.specs.Turns.{Begin, HavePlayed};
 
@@ -40,7 +40,7 @@ pub(crate) fn turn_line<H: Hasher<Digest = Digest32>, R: Threads + Sync, S: Stra
     requires known { admission.member_of line.now < length places.old }
     requires few { length places.old < 2 ^ 16 }
     requires count { length places.old ≡ script.now.committees.total }
-    requires sound { AreSound (rules_of H.digest_of script.now) 0 places.old }
+    requires sound { WorkBy (rules_of H.digest_of script.now) 0 places.old }
     requires short { names_oversize (line_of line.now) ≡ false }
     requires later { IsTrue (is_later (line_of line.now)) }
     ensures played { (w : RulesWorld) (rows : List (ℕ × Line))
@@ -55,7 +55,7 @@ pub(crate) fn turn_line<H: Hasher<Digest = Digest32>, R: Threads + Sync, S: Stra
         → IfOk result
         (λ entry. entry ≡ entry_of (rules_of H.digest_of script.now)
         (run (rules_of H.digest_of script.now) w (lines_of rows)) number (line_of line.now)) }
-    ensures sound { IfOk result (λ _. AreSound (rules_of H.digest_of script.now) 0 places.new) }
+    ensures sound { IfOk result (λ _. WorkBy (rules_of H.digest_of script.now) 0 places.new) }
     ensures err { (w : RulesWorld) (rows : List (ℕ × Line))
         → Begin (rules_of H.digest_of script.now) w (lines_of rows ++ line_of line.now ∷ [])
         → HavePlayed (rules_of H.digest_of script.now) w rows pool.now places.old faulty.now

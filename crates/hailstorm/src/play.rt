@@ -9,7 +9,7 @@ ghost use Rattle.hail_script.specs.Admission.{offers_oversize};
 ghost use Rattle.hail_script.specs.Events.{fault_of, line_of};
 ghost use Rattle.hail_script.specs.Grammar.{is_later, names_oversize};
 ghost use Rattle.hailstorm.specs.Honest.{IsHonest, IsPlaced};
-ghost use Rattle.hailstorm.specs.Places.{AreMembers, AreSound, IsTurn, over, rules_of};
+ghost use Rattle.hailstorm.specs.Places.{SitAs, WorkBy, IsTurn, over, rules_of};
 ghost use Rattle.hailstorm.specs.Pool.{sent_in};
 
 use crate::entry::{enter, enter_done};
@@ -41,13 +41,13 @@ fn turn_place<H: Hasher<Digest = Digest32>, R: Threads + Sync, S: Strategy>(
 ) -> Result<(Option<u64>, Option<StepOut>), NoMemory>
     requires known { id < length places.old }
     requires count { length places.old ≡ script.now.committees.total }
-    requires sound { AreSound (rules_of H.digest_of script.now) 0 places.old }
+    requires sound { WorkBy (rules_of H.digest_of script.now) 0 places.old }
     requires short { names_oversize (line_of line.now) ≡ false }
     requires later { IsTrue (is_later (line_of line.now)) }
     ensures turned { IfOk result
         (λ r. IsPlaced (rules_of H.digest_of script.now) faulty.now
         (sent_in pool.now) id line.now places.old places.new r.0 r.1) }
-    ensures sound { IfOk result (λ _. AreSound (rules_of H.digest_of script.now) 0 places.new) }
+    ensures sound { IfOk result (λ _. WorkBy (rules_of H.digest_of script.now) 0 places.new) }
 {
     let place = mem::replace(&mut places[usize::from(id)], Place::Faulty);
     let votes = Table { faulty, pool };
@@ -74,15 +74,15 @@ pub(crate) fn play_member<H: Hasher<Digest = Digest32>, R: Threads + Sync, S: St
     requires honest { IsHonest line.now }
     requires known { id < length places.old }
     requires count { length places.old ≡ script.now.committees.total }
-    requires sound { AreSound (rules_of H.digest_of script.now) 0 places.old }
+    requires sound { WorkBy (rules_of H.digest_of script.now) 0 places.old }
     requires short { names_oversize (line_of line.now) ≡ false }
     requires later { IsTrue (is_later (line_of line.now)) }
-    ensures turn { (w : World) → AreMembers places.old w.members → sent_in pool.now ≡ w.pool
+    ensures turn { (w : World) → SitAs places.old w.members → sent_in pool.now ≡ w.pool
         → faulty.now ≡ map is_none w.members
         → IfOk result
         (λ entry. IsTurn (rules_of H.digest_of script.now) w number
         (line_of line.now) places.new (sent_in pool.now ++ entry.sent) entry) }
-    ensures sound { IfOk result (λ _. AreSound (rules_of H.digest_of script.now) 0 places.new) }
+    ensures sound { IfOk result (λ _. WorkBy (rules_of H.digest_of script.now) 0 places.new) }
 {
     let (found, done) = turn_place(rt, alloc, script, faulty, places, pool, id, line, strategy)?;
     let entry = enter_done(alloc, pool, number, id, found, done)?;
@@ -154,15 +154,15 @@ pub(crate) fn play<H: Hasher<Digest = Digest32>, R: Threads + Sync, S: Strategy>
     requires known { admission.member_of line.now < length places.old }
     requires few { length places.old < 2 ^ 16 }
     requires count { length places.old ≡ script.now.committees.total }
-    requires sound { AreSound (rules_of H.digest_of script.now) 0 places.old }
+    requires sound { WorkBy (rules_of H.digest_of script.now) 0 places.old }
     requires short { names_oversize (line_of line.now) ≡ false }
     requires later { IsTrue (is_later (line_of line.now)) }
-    ensures turn { (w : World) → AreMembers places.old w.members → sent_in pool.now ≡ w.pool
+    ensures turn { (w : World) → SitAs places.old w.members → sent_in pool.now ≡ w.pool
         → faulty.now ≡ map is_none w.members
         → IfOk result
         (λ entry. IsTurn (rules_of H.digest_of script.now) w number
         (line_of line.now) places.new (sent_in pool.now ++ entry.sent) entry) }
-    ensures sound { IfOk result (λ _. AreSound (rules_of H.digest_of script.now) 0 places.new) }
+    ensures sound { IfOk result (λ _. WorkBy (rules_of H.digest_of script.now) 0 places.new) }
 {
     let id = member_of(line) as u16;
     match line {

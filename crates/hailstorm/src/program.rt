@@ -39,18 +39,18 @@ pub fn run_program<
     strategy: &S,
 ) -> Exit<Report<H>>
     // With other words nothing is read, and the usage is written.
-    ensures usage { headline.asked_of (map string_bytes words.now) ≡ None
+    ensures usage { headline.words_ask (map string_bytes words.now) ≡ None
         → (input.new ≡ input.old) × MeansUsage (O.held output.old) (O.held output.new) result }
 
     // Under `storm N` nothing is read, and each answer has its meaning for the storm's script.
     ensures storm { (number : ℕ)
-        → headline.asked_of (map string_bytes words.now) ≡ Some (Some number)
+        → headline.words_ask (map string_bytes words.now) ≡ Some (Some number)
         → (input.new ≡ input.old)
         × Answers H.digest_of (Some number) (spec.storm_script number) (O.held output.old)
         (O.held output.new) result }
 
     // Without words each answer has its meaning for the bytes that the source had left.
-    ensures answer { (text : List ℕ) → headline.asked_of (map string_bytes words.now) ≡ Some None
+    ensures answer { (text : List ℕ) → headline.words_ask (map string_bytes words.now) ≡ Some None
         → I.left input.old ≡ Some text
         → Means H.digest_of text (I.left input.new) (O.held output.old) (O.held output.new) result }
 
@@ -71,7 +71,7 @@ pub fn run_program<
 
 // What the words ask for: none, a script that is read; `storm` and a number, that storm.
 fn asked_of(words: &[String]) -> Option<Option<u64>>
-    ensures { result ≡ headline.asked_of (map string_bytes words.now) }
+    ensures { result ≡ headline.words_ask (map string_bytes words.now) }
 {
     match words {
         [] => Some(None),

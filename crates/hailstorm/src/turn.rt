@@ -11,7 +11,7 @@ ghost use Rattle.node_disk.specs.Memory.{is_calm, memory_state};
 ghost use Rattle.hail_script.specs.Admission.{asks_oversize};
 ghost use Rattle.hail_script.specs.Events.{ask_of, line_of};
 ghost use Rattle.hail_script.specs.Grammar.{is_later, names_oversize};
-ghost use Rattle.hailstorm.specs.Places.{Holds, IsMember, IsSound, IsStopped, Makes, did, did_cut};
+ghost use Rattle.hailstorm.specs.Places.{DiskHolds, SitsAs, WorksBy, IsPutOut, Makes, did, did_cut};
 ghost use Rattle.hailstorm.specs.Places.{over, rules_of, starts_again, table, turned_by};
 ghost use Rattle.hailstorm.specs.Places as places;
 ghost use Rattle.hailstorm.specs.Pool.{sent_in};
@@ -60,7 +60,7 @@ fn stopped<H: Hasher<Digest = Digest32>>(
 ) -> Result<Place<Seat<H>>, NoMemory>
     requires { (frames : List (List NoteValue))
         × FindsNotes frames (memory_state node.log.disk).now.seen }
-    ensures { IfOk result (λ place. IsStopped node.log.disk place) }
+    ensures { IfOk result (λ place. IsPutOut node.log.disk place) }
 {
     let disk = node.into_disk().reopen();
     match notes_on(alloc, disk.bytes()) {
@@ -98,8 +98,8 @@ fn cut_event<H: Hasher<Digest = Digest32>, R: Threads + Sync, S: Strategy>(
     ensures cut { let done = cut_step (rules_by H.digest_of node) node.id
         (table votes.now.faulty.now
         (sent_in votes.now.pool.now)) node.member stop.call stop.cut stop.fill event.now in
-        IfOk result (λ made. IsMember made.0 (Some done.member) × (made.1 ≡ out_of done)) }
-    ensures sound { IfOk result (λ made. IsSound (rules_by H.digest_of node) node.id made.0) }
+        IfOk result (λ made. SitsAs made.0 (Some done.member) × (made.1 ≡ out_of done)) }
+    ensures sound { IfOk result (λ made. WorksBy (rules_by H.digest_of node) node.id made.0) }
 {
     law_of_a_stop();
     node.stop_at(stop.call, stop.cut, stop.fill);
@@ -127,8 +127,8 @@ pub(crate) fn restart<H: Hasher<Digest = Digest32>, R: Threads + Sync, S: Strate
     ensures started { (frames : List (List NoteValue))
         → FindsNotes frames (memory_state disk).now.seen
         → let done = start (rules_of H.digest_of script.now) id frames in
-        IfOk result (λ made. IsMember made.0 (Some done.member) × (made.1 ≡ out_of done)) }
-    ensures sound { IfOk result (λ made. IsSound (rules_of H.digest_of script.now) id made.0) }
+        IfOk result (λ made. SitsAs made.0 (Some done.member) × (made.1 ≡ out_of done)) }
+    ensures sound { IfOk result (λ made. WorksBy (rules_of H.digest_of script.now) id made.0) }
 {
     let committees = script.committees(alloc)?;
     let (seat, out) = start(rt, alloc, id, committees, script.backlog(), disk, strategy)?;
@@ -146,16 +146,16 @@ fn asked<H: Hasher<Digest = Digest32>, R: Threads + Sync, S: Strategy>(
     ask: &Ask,
     strategy: &S,
 ) -> Result<(Place<Seat<H>>, Option<StepOut>), NoMemory>
-    requires sound { IsSound (rules_of H.digest_of script.now) id place }
+    requires sound { WorksBy (rules_of H.digest_of script.now) id place }
     requires short { asks_oversize ask.now ≡ false }
-    ensures makes { (o : Option Member) → IsMember place o
+    ensures makes { (o : Option Member) → SitsAs place o
         → let signed = table votes.now.faulty.now (sent_in votes.now.pool.now) in
         IfOk result
         (λ made. Makes o
         (option_and_then
         (did (rules_of H.digest_of script.now) signed (over (sent_in votes.now.pool.now)) id
         (ask_of ask.now)) o) made.0 made.1) }
-    ensures sound { IfOk result (λ made. IsSound (rules_of H.digest_of script.now) id made.0) }
+    ensures sound { IfOk result (λ made. WorksBy (rules_of H.digest_of script.now) id made.0) }
 {
     match place {
         Place::Live(seat) => match event_for(alloc, votes.pool, id, ask)? {
@@ -182,10 +182,10 @@ fn cut<H: Hasher<Digest = Digest32>, R: Threads + Sync, S: Strategy>(
     ask: &Ask,
     strategy: &S,
 ) -> Result<(Place<Seat<H>>, Option<StepOut>), NoMemory>
-    requires sound { IsSound (rules_of H.digest_of script.now) id place }
+    requires sound { WorksBy (rules_of H.digest_of script.now) id place }
     requires short { asks_oversize ask.now ≡ false }
     requires later { 0 < stop.call }
-    ensures makes { (o : Option Member) → IsMember place o
+    ensures makes { (o : Option Member) → SitsAs place o
         → let signed = table votes.now.faulty.now (sent_in votes.now.pool.now) in
         IfOk result
         (λ made. Makes o
@@ -193,7 +193,7 @@ fn cut<H: Hasher<Digest = Digest32>, R: Threads + Sync, S: Strategy>(
         (did_cut (rules_of H.digest_of script.now) signed
         (over (sent_in votes.now.pool.now)) id stop.call stop.cut stop.fill
         (ask_of ask.now)) o) made.0 made.1) }
-    ensures sound { IfOk result (λ made. IsSound (rules_of H.digest_of script.now) id made.0) }
+    ensures sound { IfOk result (λ made. WorksBy (rules_of H.digest_of script.now) id made.0) }
 {
     match place {
         Place::Live(seat) => match event_for(alloc, votes.pool, id, ask)? {
@@ -218,12 +218,12 @@ fn restarted<H: Hasher<Digest = Digest32>, R: Threads + Sync, S: Strategy>(
     strategy: &S,
 ) -> Result<(Place<Seat<H>>, Option<StepOut>), NoMemory>
     requires known { id < script.now.committees.total }
-    requires sound { IsSound (rules_of H.digest_of script.now) id place }
-    ensures makes { (o : Option Member) → IsMember place o
+    requires sound { WorksBy (rules_of H.digest_of script.now) id place }
+    ensures makes { (o : Option Member) → SitsAs place o
         → IfOk result
         (λ made. Makes o
         (option_and_then (starts_again (rules_of H.digest_of script.now) id) o) made.0 made.1) }
-    ensures sound { IfOk result (λ made. IsSound (rules_of H.digest_of script.now) id made.0) }
+    ensures sound { IfOk result (λ made. WorksBy (rules_of H.digest_of script.now) id made.0) }
 {
     match place {
         Place::Stopped(disk, _) => {
@@ -246,17 +246,17 @@ pub(crate) fn take_turn<H: Hasher<Digest = Digest32>, R: Threads + Sync, S: Stra
     strategy: &S,
 ) -> Result<(Place<Seat<H>>, Option<StepOut>), NoMemory>
     requires known { id < script.now.committees.total }
-    requires sound { IsSound (rules_of H.digest_of script.now) id place }
+    requires sound { WorksBy (rules_of H.digest_of script.now) id place }
     requires short { names_oversize (line_of line.now) ≡ false }
     requires later { IsTrue (is_later (line_of line.now)) }
-    ensures makes { (o : Option Member) → IsMember place o
+    ensures makes { (o : Option Member) → SitsAs place o
         → let signed = table votes.now.faulty.now (sent_in votes.now.pool.now) in
         IfOk result
         (λ made. Makes o
         (option_and_then
         (turned_by (rules_of H.digest_of script.now) signed
         (over (sent_in votes.now.pool.now)) id (line_of line.now)) o) made.0 made.1) }
-    ensures sound { IfOk result (λ made. IsSound (rules_of H.digest_of script.now) id made.0) }
+    ensures sound { IfOk result (λ made. WorksBy (rules_of H.digest_of script.now) id made.0) }
 {
     match line {
         EventLine::Do(_, ask) => asked(rt, alloc, script, votes, id, place, ask, strategy),

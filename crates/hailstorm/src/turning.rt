@@ -10,7 +10,7 @@ ghost use Rattle.hail_script.specs.declared.error.RunError.TheVariants as cause;
 ghost use Rattle.hail_script.specs.Lanes.{Laned, laned_of, lanes as lanes_in, prefix, rows};
 ghost use Rattle.hailstorm.specs.Lanes.{IsLanesCause, IsLanesReport, lane_at, left, lines_of};
 ghost use Rattle.hailstorm.specs.Lanes.{played};
-ghost use Rattle.hailstorm.specs.Places.{AreMembers, AreSound, rules_of};
+ghost use Rattle.hailstorm.specs.Places.{SitAs, WorkBy, rules_of};
 ghost use Rattle.hailstorm.specs.Runs.{GoesBy, IsStopped, opened};
 ghost use Rattle.hailstorm.specs.Turns.{HasAdvanced, HavePlayed, IsBetween, IsOver, IsReportOf};
 ghost use Rattle.hailstorm.specs.Turns.{IsTurnOf, told_order};
@@ -258,15 +258,15 @@ fn play_before<H: Hasher<Digest = Digest32>, R: Threads + Sync, S: Strategy>(
     strategy: &S,
 ) -> Result<Pool, RunError>
     requires within { before ≤ length script.now.script.lines }
-    requires members { AreMembers places.old (opened H.digest_of script.now.script).members }
+    requires members { SitAs places.old (opened H.digest_of script.now.script).members }
     requires flags { faulty.now ≡ map is_none (opened H.digest_of script.now.script).members }
-    requires sound { AreSound (rules_of H.digest_of script.now.script) 0 places.old }
+    requires sound { WorkBy (rules_of H.digest_of script.now.script) 0 places.old }
     requires count { length places.old ≡ script.now.script.committees.total }
     ensures ok { IfOk result
         (λ pool. HavePlayed (rules_of H.digest_of script.now.script)
         (opened H.digest_of script.now.script)
         (take before (rows script.now)) pool places.new faulty.now) }
-    ensures sound { OnOk result (AreSound (rules_of H.digest_of script.now.script) 0 places.new) }
+    ensures sound { OnOk result (WorkBy (rules_of H.digest_of script.now.script) 0 places.new) }
     ensures err { IfErr result
         (λ e. IsStopped (rules_of H.digest_of script.now.script)
         (opened H.digest_of script.now.script) (lines_of (take before (rows script.now))) e) }
@@ -359,8 +359,8 @@ fn report_of<H: Hasher<Digest = Digest32>>(
     pool: Pool,
 ) -> Result<Report<H>, NoMemory>
     requires { length places.items < 2 ^ 16 }
-    ensures { (r : Rules) (w : RulesWorld) → GoesBy H.digest_of r → AreSound r 0 places.items
-        → AreMembers places.items w.members
+    ensures { (r : Rules) (w : RulesWorld) → GoesBy H.digest_of r → WorkBy r 0 places.items
+        → SitAs places.items w.members
         → IfOk result (λ report. IsReportOf r w opening pool report) }
 {
     let steps = pool.into_entries();

@@ -5,7 +5,7 @@ ghost use Rattle.std.specs.List.{list_any};
 ghost use Rattle.cw_types.specs.Same.{same_vote};
 ghost use Rattle.cw_types.specs.declared.message.Message.TheVariants as message;
 ghost use Rattle.cw_rules.specs.World.{Sent as SentValue};
-ghost use Rattle.hailstorm.specs.Votes.{TellVotes, round_of, votes_in};
+ghost use Rattle.hailstorm.specs.Votes.{TellVotes, round_of, votes_under};
 
 use crate::report::Sent;
 use cw_base::{Items, NoMemory};
@@ -33,7 +33,7 @@ impl Votes {
     /// Whether a member sent a vote.
     pub(crate) fn has(&self, member: u16, vote: &Vote) -> bool
         ensures { result ≡ list_any (same_vote vote.now)
-            (votes_in self.now.rounds (round_of member vote.now)) }
+            (votes_under self.now.rounds (round_of member vote.now)) }
     {
         match self.rounds.get(&(member, vote.epoch(), vote.view())) {
             None => false,

@@ -10,12 +10,13 @@ ghost use Rattle.cw_rules.specs.Step.{Member};
 ghost use Rattle.hailstorm.specs.Offers.{some_of};
 ghost use Rattle.cw_rules.specs.World.{World as RulesWorld};
 ghost use Rattle.hail_script.specs.Grammar.{marks, script_of};
-ghost use Rattle.hailstorm.specs.Places.{AreMembers, AreSound, IsMember, IsSound};
+ghost use Rattle.hailstorm.specs.Places.{SitAs, WorkBy, SitsAs, WorksBy};
 ghost use Rattle.hailstorm.specs.Places.{notes_at as notes_in, rules_of};
 ghost use Rattle.hailstorm.specs.declared.place.Place.{Place as PlaceValue};
 ghost use Rattle.hailstorm.specs.Reports.{AreNodesOf, HoldNotes, IsCause, IsReport, IsRun, honest};
 ghost use Rattle.hailstorm.specs.Seats.{Seat as SeatValue};
-ghost use Rattle.hailstorm.specs.Runs.{ArePlayed, IsClosed, IsStopped, acked_with, opened, seat_of};
+ghost use Rattle.hailstorm.specs.Runs.{ArePlayed, HandsBack, IsStopped, acked_with, opened};
+ghost use Rattle.hailstorm.specs.Runs.{seat_of};
 
 use crate::chain::chain_of;
 use crate::clash::find_clash;
@@ -128,8 +129,8 @@ fn open_one<H: Hasher<Digest = Digest32>, R: Threads + Sync, S: Strategy>(
     ensures entry { IfOk result
         (λ made. made.1 ≡ opening_entry (rules_of H.digest_of script.now) script.now.lines id) }
     ensures member { IfOk result
-        (λ made. IsMember made.0 (seat_of (rules_of H.digest_of script.now) script.now.lines id)) }
-    ensures sound { IfOk result (λ made. IsSound (rules_of H.digest_of script.now) id made.0) }
+        (λ made. SitsAs made.0 (seat_of (rules_of H.digest_of script.now) script.now.lines id)) }
+    ensures sound { IfOk result (λ made. WorksBy (rules_of H.digest_of script.now) id made.0) }
 {
     if is_faulty(faulty, id) {
         return Ok((Place::Faulty, None));
@@ -170,8 +171,8 @@ pub(crate) fn open_all<H: Hasher<Digest = Digest32>, R: Threads + Sync, S: Strat
     ensures opening { IfOk result
         (λ r. r.0 ≡ opening_entries (rules_of H.digest_of script.now) script.now.lines) }
     ensures members { IfOk result
-        (λ r. AreMembers r.1.items (opened H.digest_of script.now).members) }
-    ensures sound { IfOk result (λ r. AreSound (rules_of H.digest_of script.now) 0 r.1.items) }
+        (λ r. SitAs r.1.items (opened H.digest_of script.now).members) }
+    ensures sound { IfOk result (λ r. WorkBy (rules_of H.digest_of script.now) 0 r.1.items) }
     ensures count { IfOk result (λ r. length r.1.items ≡ script.now.committees.total) }
 {
     let mut opening = Items::new(alloc);
@@ -193,14 +194,14 @@ fn play_all<H: Hasher<Digest = Digest32>, R: Threads + Sync, S: Strategy>(
     places: &mut [Place<Seat<H>>],
     strategy: &S,
 ) -> Result<Items<Entry>, RunError>
-    requires members { AreMembers places.old (opened H.digest_of script.now).members }
+    requires members { SitAs places.old (opened H.digest_of script.now).members }
     requires flags { faulty.now ≡ map is_none (opened H.digest_of script.now).members }
-    requires sound { AreSound (rules_of H.digest_of script.now) 0 places.old }
+    requires sound { WorkBy (rules_of H.digest_of script.now) 0 places.old }
     requires count { length places.old ≡ script.now.committees.total }
     ensures ok { IfOk result
         (λ steps. ArePlayed (rules_of H.digest_of script.now)
         (opened H.digest_of script.now) script.now.lines steps places.new) }
-    ensures sound { IfOk result (λ _. AreSound (rules_of H.digest_of script.now) 0 places.new) }
+    ensures sound { IfOk result (λ _. WorkBy (rules_of H.digest_of script.now) 0 places.new) }
     ensures err { IfErr result
         (λ e. IsStopped (rules_of H.digest_of script.now)
         (opened H.digest_of script.now) script.now.lines e) }
@@ -244,8 +245,8 @@ pub(crate) fn standings<H: Hasher<Digest = Digest32>>(
     places: &[Place<Seat<H>>],
 ) -> Result<Items<Acked>, NoMemory>
     requires { length places.now < 2 ^ 16 }
-    ensures { (r : Rules) (w : RulesWorld) → AreSound r 0 places.now
-        → AreMembers places.now w.members
+    ensures { (r : Rules) (w : RulesWorld) → WorkBy r 0 places.now
+        → SitAs places.now w.members
         → IfOk result (λ acked. acked ≡ filter_map acked_at (enumerate_from 0 w.members)) }
 {
     let mut acked = Items::new(alloc);
@@ -268,7 +269,7 @@ fn push_some(acked: &mut Items<Acked>, one: Option<Acked>) -> Result<(), NoMemor
 }
 
 fn standing_of<H: Hasher<Digest = Digest32>>(member: u16, place: &Place<Seat<H>>) -> Option<Acked>
-    ensures { (r : Rules) (o : Option Member) → IsSound r member place.now → IsMember place.now o
+    ensures { (r : Rules) (o : Option Member) → WorksBy r member place.now → SitsAs place.now o
         → result ≡ acked_at (member, o) }
 {
     match place {
@@ -332,8 +333,8 @@ pub(crate) fn close_all<H: Hasher<Digest = Digest32>>(
     ),
     NoMemory,
 >
-    ensures { (r : Rules) (w : RulesWorld) → AreSound r 0 places.items
-        → AreMembers places.items w.members
+    ensures { (r : Rules) (w : RulesWorld) → WorkBy r 0 places.items
+        → SitAs places.items w.members
         → IfOk result (λ closed. HoldNotes (honest w) closed.0 × AreNodesOf (honest w) closed.1) }
 {
     let mut disks = Items::new(alloc);
@@ -367,7 +368,7 @@ fn close<H: Hasher<Digest = Digest32>>(
     alloc: Global,
     place: Place<Seat<H>>,
 ) -> Result<Option<(Items<u8>, Option<Node<H, MemoryDisk, AcceptAll>>)>, NoMemory>
-    ensures { IfOk result (λ closed. IsClosed place closed) }
+    ensures { IfOk result (λ closed. HandsBack place closed) }
 {
     match place {
         Place::Faulty => Ok(None),

@@ -6,7 +6,7 @@ use Rattle.std.specs.List.{list_all}
 use Rattle.std.proofs.lemmas.List.Sums.{count_by-le-length, sum_by-append}
 use Rattle.std.proofs.lemmas.Bool.Decides.{nat_tests}
 use Rattle.mailbox.specs.declared.call.Call.{Call}
-use Rattle.mailbox.specs.Calls.{AreCalls, Each, calls_in, IsEntryAt, IsFirstFault, Rises, holds_at, holds_in, none_at, place_holds, rises_at, times_at, times_in}
+use Rattle.mailbox.specs.Calls.{AreCalls, Each, calls_in, IsEntryAt, IsFirstFault, Rises, holds_at, holds_in, none_at, place_holds, rises_at, calls_at, times_in}
 use Rattle.mailbox.proofs.PlacesHad.{and_both, and_left, and_right, is_less, is_same, itself, none_rises, read_at, sum_cons, times_cons}
 
 sum_split : {A : Type 0} (f g h : A → ℕ) (e : (x : A) → f x ≡ g x + h x) (xs : List A) → sum_by f xs ≡ sum_by g xs + sum_by h xs
@@ -55,7 +55,7 @@ below_nothing : (k : ℕ) → ◌≡◌ {A = ℕ} (cond (nat_lt k 0) 1 0) 0
 below_nothing k = grind (arith, nat_tests)
 
 below_more : {T E R : Type 0} (n : ℕ) (lists : List (List (Call T E R)))
-    → sum_by (below (n + 1)) lists ≡ sum_by (below n) lists + times_at n lists
+    → sum_by (below (n + 1)) lists ≡ sum_by (below n) lists + calls_at n lists
 unfolding below
 below_more n lists =
     sum_split (below (n + 1)) (below n) (times_in n)
@@ -64,18 +64,18 @@ below_more n lists =
 
 -- where each place below n is had once, n calls have a place below it
 below_once : {T E R : Type 0} (n : ℕ) (lists : List (List (Call T E R)))
-    → ((k : ℕ) → k < n → times_at k lists ≡ 1) → sum_by (below n) lists ≡ n
+    → ((k : ℕ) → k < n → calls_at k lists ≡ 1) → sum_by (below n) lists ≡ n
 unfolding below
 below_once zero lists once =
     sum_none (below 0) (λ cs. sum_none (λ c. cond (nat_lt c.place 0) 1 0) (λ c. below_nothing c.place) cs) lists
 below_once (suc n) lists once =
     let before = below_once n lists (λ k less. once k (omega arith)) in
-    let more : sum_by (below (n + 1)) lists ≡ sum_by (below n) lists + times_at n lists = below_more n lists in
+    let more : sum_by (below (n + 1)) lists ≡ sum_by (below n) lists + calls_at n lists = below_more n lists in
     rw (← add-one) (omega (arith, before, more, once n (omega arith)))
 
 -- no call has a place past the history
 all_below : {T E R : Type 0} (n : ℕ) (lists : List (List (Call T E R)))
-    → ((k : ℕ) → k < n → times_at k lists ≡ 1) → sum_by (λ cs. length cs) lists ≡ n
+    → ((k : ℕ) → k < n → calls_at k lists ≡ 1) → sum_by (λ cs. length cs) lists ≡ n
     → Each (Each (λ c. nat_lt c.place n ≡ true)) lists
 unfolding below
 all_below n lists once many =
@@ -144,7 +144,7 @@ rises_in n (c ∷ cs) rises once low =
 -- the same of all lists
 lists_in : {T E R X : Type 0} (same : X → Call T E R → Bool) (history : List X) (n : ℕ) (lists : List (List (Call T E R)))
     → ((k : ℕ) → k < n → (x : X) × (slice_get history k ≡ Some x) × (list_all (holds_in (same x) k) lists ≡ true))
-    → ((k : ℕ) → k < n → times_at k lists ≤ 1)
+    → ((k : ℕ) → k < n → calls_at k lists ≤ 1)
     → Each (Each (λ c. nat_lt c.place n ≡ true)) lists
     → Each (Each (IsEntryAt same history)) lists × Each Rises lists
 lists_in same history n [] holds once low = (tt, tt)
@@ -173,7 +173,7 @@ are_calls {X = X} same history lists holds many =
     let at : (k : ℕ) → k < length history → (x : X) × (slice_get history k ≡ Some x) × (holds_at (same x) k lists ≡ true) =
     λ k less. holds_some (λ x. holds_at (same x) k lists) (slice_get history k) (holds k less)
     in
-    let once : (k : ℕ) → k < length history → times_at k lists ≡ 1 = λ k less. is_same _ _ (and_left _ _ (at k less).2) in
+    let once : (k : ℕ) → k < length history → calls_at k lists ≡ 1 = λ k less. is_same _ _ (and_left _ _ (at k less).2) in
     let both = lists_in same history (length history) lists (λ k less. ((at k less).0, (at k less).1, and_right _ _ (at k less).2))
     (λ k less. omega (arith, once k less)) (all_below (length history) lists once many)
     in
@@ -217,8 +217,8 @@ pub calls_hold : {T E R X : Type 0} (same : X → Call T E R → Bool) (history 
     → AreCalls same history lists → (k : ℕ) → k < length history → place_holds same history lists k ≡ true
 calls_hold {T} {E} {R} {X} same history lists calls k less =
     let here = read_at history k less in
-    let once : (times_at k lists == 1) ≡ true = rw (calls.once k less) refl in
-    rw here.1 (and_both (times_at k lists == 1) (list_all (holds_in (same here.0) k) lists) once (each_list here.0 here.1 lists calls.entries calls.rising))
+    let once : (calls_at k lists == 1) ≡ true = rw (calls.once k less) refl in
+    rw here.1 (and_both (calls_at k lists == 1) (list_all (holds_in (same here.0) k) lists) once (each_list here.0 here.1 lists calls.entries calls.rising))
   where
     each_list : (x : X) → slice_get history k ≡ Some x → (ls : List (List (Call T E R))) → Each (Each (IsEntryAt same history)) ls → Each Rises ls
         → list_all (holds_in (same x) k) ls ≡ true

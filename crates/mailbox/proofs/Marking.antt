@@ -8,7 +8,7 @@ use Rattle.std.proofs.lemmas.Option.{slice_get_read, slice_get_within}
 use Rattle.mailbox.specs.declared.call.Call.{Call}
 use Rattle.mailbox.specs.declared.mark.Mark.{Mark}
 use Rattle.mailbox.specs.declared.mark.Mark.TheVariants.{Empty, Filled, Failed}
-use Rattle.mailbox.specs.Calls.{IsFirstFault, none_at, rises_at, holds_in, holds_at, times_in, times_at, place_holds}
+use Rattle.mailbox.specs.Calls.{IsFirstFault, none_at, rises_at, holds_in, holds_at, times_in, calls_at, place_holds}
 use Rattle.mailbox.specs.Marks.{is_empty, is_filled, next_mark, marked, marked_by, marked_by_all}
 use Rattle.mailbox.proofs.PlacesHad.{and_left, and_right, and_both, is_same, itself, none_all, none_holds, none_rises, none_times, read_at, some_times, sum_cons, times_cons}
 
@@ -173,32 +173,32 @@ failed_all : {T E R : Type 0} (is_it : Call T E R → Bool) (k : ℕ) (ls : List
 failed_all is_it k [] = refl
 failed_all is_it k (l ∷ ls) = rw (failed_by is_it k 0 l) (failed_all is_it k ls)
 
-times_more : {T E R : Type 0} (k : ℕ) (l : List (Call T E R)) (ls : List (List (Call T E R))) → times_at k (l ∷ ls) ≡ times_in k l + times_at k ls
+times_more : {T E R : Type 0} (k : ℕ) (l : List (Call T E R)) (ls : List (List (Call T E R))) → calls_at k (l ∷ ls) ≡ times_in k l + calls_at k ls
 times_more k l ls = sum_cons (times_in k) l ls
 
 -- a place that was filled stays so where no list has it
 filled_all : {T E R : Type 0} (is_it : Call T E R → Bool) (k : ℕ) (ls : List (List (Call T E R)))
-    → marked_by_all is_it k Filled ls ≡ (if times_at k ls == 0 then Filled else Failed)
+    → marked_by_all is_it k Filled ls ≡ (if calls_at k ls == 0 then Filled else Failed)
 filled_all is_it k [] = refl
 filled_all is_it k (l ∷ ls) =
     rw (filled_by is_it k 0 l) (step (none_at k l) (none_times k l) (some_times k l) (times_more k l ls) (filled_all is_it k ls))
   where
     step : (n : Bool) → (n ≡ true → times_in k l ≡ 0) → (n ≡ false → 0 < times_in k l)
-        → times_at k (l ∷ ls) ≡ times_in k l + times_at k ls
-        → marked_by_all is_it k Filled ls ≡ (if times_at k ls == 0 then Filled else Failed)
-        → marked_by_all is_it k (if n then Filled else Failed) ls ≡ (if times_at k (l ∷ ls) == 0 then Filled else Failed)
+        → calls_at k (l ∷ ls) ≡ times_in k l + calls_at k ls
+        → marked_by_all is_it k Filled ls ≡ (if calls_at k ls == 0 then Filled else Failed)
+        → marked_by_all is_it k (if n then Filled else Failed) ls ≡ (if calls_at k (l ∷ ls) == 0 then Filled else Failed)
     step true z s more rest =
-        let same : times_at k (l ∷ ls) ≡ times_at k ls = omega (arith, more, z refl) in
+        let same : calls_at k (l ∷ ls) ≡ calls_at k ls = omega (arith, more, z refl) in
         rest ∙ ap (λ (t : ℕ). if t == 0 then Filled else Failed) (sym same)
     step false z s more rest =
-        let over : 0 < times_at k (l ∷ ls) = omega (arith, more, s refl) in
-        failed_all is_it k ls ∙ ap (λ (b : Bool). if b then Filled else Failed) (sym (not_none (times_at k (l ∷ ls)) over))
+        let over : 0 < calls_at k (l ∷ ls) = omega (arith, more, s refl) in
+        failed_all is_it k ls ∙ ap (λ (b : Bool). if b then Filled else Failed) (sym (not_none (calls_at k (l ∷ ls)) over))
       where
         not_none : (t : ℕ) → 0 < t → (t == 0) ≡ false
         not_none t h = grind (arith, nat_tests)
 
 -- where no list has a place, all that is asked of its calls holds
-none_lists : {T E R : Type 0} (is_it : Call T E R → Bool) (k : ℕ) (ls : List (List (Call T E R))) → times_at k ls ≡ 0
+none_lists : {T E R : Type 0} (is_it : Call T E R → Bool) (k : ℕ) (ls : List (List (Call T E R))) → calls_at k ls ≡ 0
     → list_all (holds_in is_it k) ls ≡ true
 none_lists is_it k [] h = refl
 none_lists is_it k (l ∷ ls) h =
@@ -260,7 +260,7 @@ marks_tell is_it k (l ∷ ls) =
     let first = empty_by is_it k 0 l ∙ verdict_same _ _ _ _ _ _ _ _ refl refl low refl in
     let times = times_more k l ls in
     ap (λ m. is_filled (marked_by_all is_it k m ls)) first
-    ∙ (list_verdict (none_at k l) (holds_in is_it k l) (list_all (holds_in is_it k) ls) (times_in k l) (times_at k ls)
+    ∙ (list_verdict (none_at k l) (holds_in is_it k l) (list_all (holds_in is_it k) ls) (times_in k l) (calls_at k ls)
     (none_times k l) (none_holds is_it k l) (some_times k l) (none_lists is_it k ls)
     (marked_by_all is_it k Empty ls) (marked_by_all is_it k Filled ls) (marked_by_all is_it k Failed ls)
     (marks_tell is_it k ls) (filled_all is_it k ls) (failed_all is_it k ls)

@@ -5,7 +5,7 @@ use Rattle.std.specs.List.{list_all}
 use Rattle.std.proofs.lemmas.List.Sums.{sum_by-append}
 use Rattle.std.proofs.lemmas.Bool.Decides.{nat_tests}
 use Rattle.mailbox.specs.declared.call.Call.{Call}
-use Rattle.mailbox.specs.Calls.{none_at, rises_at, holds_in, times_in, times_at}
+use Rattle.mailbox.specs.Calls.{none_at, rises_at, holds_in, times_in, calls_at}
 
 pub sum_cons : {A : Type 0} (f : A → ℕ) (x : A) (xs : List A) → sum_by f (x ∷ xs) ≡ f x + sum_by f xs
 sum_cons f x xs = omega (arith, sum_by-append f (x ∷ []) xs)

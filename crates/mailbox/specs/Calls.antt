@@ -29,7 +29,7 @@ joined m other = record {
 
 -- A mailbox made one more call of its own, at this place: some state of the session was turned
 -- lawfully by this event, and the call has an equal event, and a reply equal to that of the turn.
-pub record HasStepped {S E R : Type 0} (turns : S → E → R → S → Type 0) (same_event : E → E → Bool)
+pub record HasAddedCall {S E R : Type 0} (turns : S → E → R → S → Type 0) (same_event : E → E → Bool)
     (same_reply : R → R → Bool) (event : E) (place : ℕ) (old new : Mail (Call S E R)) : Type 0 where
   pub before : S
   pub stored : R
@@ -65,12 +65,12 @@ abbrev pub times_in : {T E R : Type 0} → ℕ → List (Call T E R) → ℕ
 times_in k list = count_by (λ c. c.place == k) list
 
 -- how many calls of all lists have the place k
-abbrev pub times_at : {T E R : Type 0} → ℕ → List (List (Call T E R)) → ℕ
-times_at k lists = sum_by (times_in k) lists
+abbrev pub calls_at : {T E R : Type 0} → ℕ → List (List (Call T E R)) → ℕ
+calls_at k lists = sum_by (times_in k) lists
 
 -- one call has the place k, is the entry there, and stands behind none of a greater place
 abbrev pub holds_at : {T E R : Type 0} → (Call T E R → Bool) → ℕ → List (List (Call T E R)) → Bool
-holds_at is_it k lists = (times_at k lists == 1) && list_all (holds_in is_it k) lists
+holds_at is_it k lists = (calls_at k lists == 1) && list_all (holds_in is_it k) lists
 
 -- the same of the place k of a history. A place behind its end fails
 abbrev pub place_holds : {T E R X : Type 0} → (X → Call T E R → Bool) → List X
@@ -102,6 +102,6 @@ Rises (c ∷ cs) = Each (λ d. c.place < d.place) cs × Rises cs
 -- The history is the calls of all lists, each once at its place, and the places of each list rise.
 pub record AreCalls {T E R X : Type 0} (same : X → Call T E R → Bool) (history : List X)
     (lists : List (List (Call T E R))) : Type 0 where
-  pub once : (k : ℕ) → k < length history → times_at k lists ≡ 1
+  pub once : (k : ℕ) → k < length history → calls_at k lists ≡ 1
   pub entries : Each (Each (IsEntryAt same history)) lists
   pub rising : Each Rises lists

@@ -16,6 +16,3 @@ pub use kept::Kept;
 pub use mailbox::{CloseError, Mailbox};
 pub use session::Session;
 pub use turn::{Turn, TurnAlone};
-
-#[cfg(test)]
-mod tests;

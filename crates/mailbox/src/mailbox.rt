@@ -2,7 +2,8 @@
 
 ghost use Rattle.std.specs.Prelude.{◌≡◌, ◌≢◌, ◌+◌, ◌-◌, ◌/◌, ◌<◌, ◌≤◌, [], ◌∷◌, Some, Err, IfErr};
 ghost use Rattle.std.specs.Prelude.{IfOk, OnErr, OnOk, length, map, ℕ};
-ghost use Rattle.mailbox.specs.Calls.{AreCalls, HasStepped, IsFirstFault, Mail, calls_in, is_entry};
+ghost use Rattle.mailbox.specs.Calls.{AreCalls, HasAddedCall, IsFirstFault, Mail, calls_in};
+ghost use Rattle.mailbox.specs.Calls.{is_entry};
 ghost use Rattle.mailbox.specs.Calls.{joined, lists_of};
 ghost use Rattle.mailbox.specs.Replay.{IsReplay, IsReplayToSome};
 ghost use Rattle.mailbox.specs.Turning.{TurnsBy};
@@ -179,7 +180,7 @@ impl<T: Turn, L: Session<T>> Mailbox<T, L> {
     ) -> Result<u64, NoMemory>
         requires { TurnsBy F.FnOnce T.turns T.Reply.eq turn }
         ensures ok { IfOk result
-            (λ place. HasStepped T.turns T.Event.eq T.Reply.eq event place self.old self.new) }
+            (λ place. HasAddedCall T.turns T.Event.eq T.Reply.eq event place self.old self.new) }
         ensures err { OnErr result (self.new ≡ self.old) }
     {
         self.own.reserve(1)?;
@@ -307,7 +308,7 @@ impl<T: TurnAlone, L: Session<T>> Mailbox<T, L> {
     /// [`Mailbox::step_by`] does.
     pub fn step<R: Wait>(&mut self, rt: &R, alloc: Global, event: T::Event) -> Result<u64, NoMemory>
         ensures ok { IfOk result
-            (λ place. HasStepped T.turns T.Event.eq T.Reply.eq event place self.old self.new) }
+            (λ place. HasAddedCall T.turns T.Event.eq T.Reply.eq event place self.old self.new) }
         ensures err { OnErr result (self.new ≡ self.old) }
     {
         self.step_by(rt, alloc, event, |state, event| state.turn(alloc, event))

@@ -28,7 +28,7 @@ use Rattle.node.specs.Accepting.{with_row}
 use Rattle.node.specs.declared.arrival.Arrival.{Arrival}
 use Rattle.node.specs.declared.arrival.Shown.{Shown}
 use Rattle.node.specs.Holding.{Holding, came_of, count_rows, parts_of, rules_of, shown_under, state_of}
-use Rattle.node.specs.Standing.{HasCome, IsSameBeside, Stands}
+use Rattle.node.specs.Standing.{HasCome, IsSameBeside, PartsStand}
 
 -- the ballots with one more are those of what came with one more
 pub ballot_came : (t : Known) (parts : List Part) (wishes : List Commitment) (x : Ballot) → record { ballots = (with_ballot t x).ballots; parts = parts; wishes = wishes } ≡ take_ballot (record { ballots = t.ballots; parts = parts; wishes = wishes }) true x
@@ -58,12 +58,12 @@ module _ {D A : Type 0} (hash : List ℕ → Digest32) (accepts : A → Block �
   same_beside h = record { id = refl; epochs = refl; backlog = refl; app = refl; store = refl; log = refl }
 
   -- nothing came
-  pub came_nothing : (h : Holding D A) → Stands hash accepts h → HasCome hash accepts (came_of h) h h
+  pub came_nothing : (h : Holding D A) → PartsStand hash accepts h → HasCome hash accepts (came_of h) h h
   came_nothing h s = record { stands = s; taken = refl; same = same_beside h }
 
   -- one more ballot
-  pub came_ballot : (h new : Holding D A) (x : Ballot) → Stands hash accepts h
-      → voter.StandsFor hash (with_ballot h.tally x) (rules_of hash accepts h) (voter.with_came (state_of h) (take_ballot (came_of h) true x))
+  pub came_ballot : (h new : Holding D A) (x : Ballot) → PartsStand hash accepts h
+      → voter.IsTallyOf hash (with_ballot h.tally x) (rules_of hash accepts h) (voter.with_came (state_of h) (take_ballot (came_of h) true x))
       → new ≡ record h { tally = with_ballot h.tally x }
       → HasCome hash accepts (take_ballot (came_of h) true x) h new
   came_ballot h new x s tally is = subst (λ (n : Holding D A). HasCome hash accepts (take_ballot (came_of h) true x) h n) (sym is) (record {
@@ -72,7 +72,7 @@ module _ {D A : Type 0} (hash : List ℕ → Digest32) (accepts : A → Block �
       backlog = s.backlog;
       running = s.running;
       id = s.id;
-      tally = subst (λ (came : Came). voter.StandsFor hash (with_ballot h.tally x) (rules_of hash accepts h) (voter.with_came (state_of h) came)) (sym same) tally;
+      tally = subst (λ (came : Came). voter.IsTallyOf hash (with_ballot h.tally x) (rules_of hash accepts h) (voter.with_came (state_of h) came)) (sym same) tally;
       shards = record { rules = s.shards.rules; rows = s.shards.rows };
       rows = s.rows;
       named = s.named;
@@ -86,8 +86,8 @@ module _ {D A : Type 0} (hash : List ℕ → Digest32) (accepts : A → Block �
       same = ballot_came h.tally (came_of h).parts h.wishes x
 
   -- one more wish
-  pub came_wish : (h new : Holding D A) (c : Commitment) → Stands hash accepts h
-      → voter.StandsFor hash h.tally (rules_of hash accepts h) (voter.with_came (state_of h) (add_wish (came_of h) c))
+  pub came_wish : (h new : Holding D A) (c : Commitment) → PartsStand hash accepts h
+      → voter.IsTallyOf hash h.tally (rules_of hash accepts h) (voter.with_came (state_of h) (add_wish (came_of h) c))
       → new ≡ record h { wishes = h.wishes ++ c ∷ [] }
       → HasCome hash accepts (add_wish (came_of h) c) h new
   came_wish h new c s tally is = subst (λ (n : Holding D A). HasCome hash accepts (add_wish (came_of h) c) h n) (sym is) (record {
@@ -107,9 +107,9 @@ module _ {D A : Type 0} (hash : List ℕ → Digest32) (accepts : A → Block �
   })
 
   -- one more block that came whole
-  pub came_whole : (h new : Holding D A) (b : Block) → Stands hash accepts h
+  pub came_whole : (h new : Holding D A) (b : Block) → PartsStand hash accepts h
       → list_any (same_part (Whole b)) (came_of h).parts ≡ false
-      → voter.StandsFor hash h.tally (rules_of hash accepts h) (voter.with_came (state_of h) (take_part (came_of h) true (Whole b)))
+      → voter.IsTallyOf hash h.tally (rules_of hash accepts h) (voter.with_came (state_of h) (take_part (came_of h) true (Whole b)))
       → shards.StandsFor hash h.shards (rules_of hash accepts h) (take_part (came_of h) true (Whole b))
       → new ≡ record h { arrivals = h.arrivals ++ record { commitment = commit (rules_of hash accepts h) b; block = Some b } ∷ [] }
       → HasCome hash accepts (take_part (came_of h) true (Whole b)) h new
@@ -119,7 +119,7 @@ module _ {D A : Type 0} (hash : List ℕ → Digest32) (accepts : A → Block �
       backlog = s.backlog;
       running = s.running;
       id = s.id;
-      tally = subst (λ (came : Came). voter.StandsFor hash h.tally (rules_of hash accepts h) (voter.with_came (state_of h) came)) (sym same) tally;
+      tally = subst (λ (came : Came). voter.IsTallyOf hash h.tally (rules_of hash accepts h) (voter.with_came (state_of h) came)) (sym same) tally;
       shards = subst (λ (came : Came). shards.StandsFor hash h.shards (rules_of hash accepts h) came) (sym same) chunks;
       rows = count_behind h.arrivals (w ∷ []) ∙ (add-zero (count_rows h.arrivals) ∙ s.rows);
       named = ap (map (part_commitment (rules_of hash accepts h))) parts ∙ (map_behind (part_commitment (rules_of hash accepts h)) (came_of h).parts (Whole b ∷ []) ∙ (ap (λ l. l ++ commit (rules_of hash accepts h) b ∷ []) s.named ∙ sym (map_behind (λ (a : Arrival). a.commitment) h.arrivals (w ∷ []))));
@@ -139,9 +139,9 @@ module _ {D A : Type 0} (hash : List ℕ → Digest32) (accepts : A → Block �
       same = ap (λ (l : List Part). record { ballots = h.tally.ballots; parts = l; wishes = h.wishes }) parts ∙ rw fresh refl
 
   -- one more chunk
-  pub came_row : (h new : Holding D A) (c : Commitment) (x : Chunk) (showing : List Shown) → Stands hash accepts h
+  pub came_row : (h new : Holding D A) (c : Commitment) (x : Chunk) (showing : List Shown) → PartsStand hash accepts h
       → list_any (same_part (Row c x)) (came_of h).parts ≡ false
-      → voter.StandsFor hash (with_row h.epochs h.id h.tally c x.index) (rules_of hash accepts h) (voter.with_came (state_of h) (take_part (came_of h) true (Row c x)))
+      → voter.IsTallyOf hash (with_row h.epochs h.id h.tally c x.index) (rules_of hash accepts h) (voter.with_came (state_of h) (take_part (came_of h) true (Row c x)))
       → shards.StandsFor hash (record { epochs = h.shards.epochs; kept = kept.with_chunk h.shards.kept c x }) (rules_of hash accepts h) (take_part (came_of h) true (Row c x))
       → ((d : Commitment) → 0 < d.config.minimum → shown (kept.rules_of hash h.shards.epochs) (kept.came_of (kept.with_chunk h.shards.kept c x)) d ≡ first_some (shown_under d) showing)
       → new ≡ record h { tally = with_row h.epochs h.id h.tally c x.index; shards = record { epochs = h.shards.epochs; kept = kept.with_chunk h.shards.kept c x }; arrivals = h.arrivals ++ record { commitment = c; block = None } ∷ []; shown = showing }
@@ -152,7 +152,7 @@ module _ {D A : Type 0} (hash : List ℕ → Digest32) (accepts : A → Block �
       backlog = s.backlog;
       running = s.running;
       id = s.id;
-      tally = subst (λ (came : Came). voter.StandsFor hash (with_row h.epochs h.id h.tally c x.index) (rules_of hash accepts h) (voter.with_came (state_of h) came)) (sym same) tally;
+      tally = subst (λ (came : Came). voter.IsTallyOf hash (with_row h.epochs h.id h.tally c x.index) (rules_of hash accepts h) (voter.with_came (state_of h) came)) (sym same) tally;
       shards = subst (λ (came : Came). shards.StandsFor hash (record { epochs = h.shards.epochs; kept = more }) (rules_of hash accepts h) came) (sym same) chunks;
       rows = count_behind h.arrivals (w ∷ []) ∙ (ap (λ n. n + 1) s.rows ∙ sym (length-append h.shards.kept (k ∷ [])));
       named = ap (map (part_commitment (rules_of hash accepts h))) parts ∙ (map_behind (part_commitment (rules_of hash accepts h)) (came_of h).parts (Row c x ∷ []) ∙ (ap (λ l. l ++ c ∷ []) s.named ∙ sym (map_behind (λ (a : Arrival). a.commitment) h.arrivals (w ∷ []))));

@@ -10,7 +10,7 @@ use Rattle.voter.specs.Known.{with_note}
 use Rattle.voter.specs.Standing as voter
 use Rattle.node.specs.Holding.{Holding, rules_of, state_of}
 use Rattle.node.specs.Noting.{HasNoted, with_all_staged}
-use Rattle.node.specs.Standing.{Stands}
+use Rattle.node.specs.Standing.{PartsStand}
 use Rattle.node.specs.Store.{Store, with_staged}
 
 -- more notes, and more behind them
@@ -28,12 +28,12 @@ none_staged t = ap (λ (l : List Note). record t { staged = l }) (append-nil t.s
 
 module _ {D A : Type 0} (hash : List ℕ → Digest32) (accepts : A → Block → Block → Bool) where
   -- nothing is noted
-  pub noted_none : (h : Holding D A) → Stands hash accepts h → HasNoted hash accepts [] h h
+  pub noted_none : (h : Holding D A) → PartsStand hash accepts h → HasNoted hash accepts [] h h
   noted_none h s = record { stands = s; state = sym (no_notes (state_of h)); store = sym (none_staged h.store); id = refl; epochs = refl; backlog = refl; app = refl; log = refl }
 
   -- one more note
-  pub noted_one : (h new : Holding D A) (note : Note) → Stands hash accepts h
-      → voter.StandsFor hash (with_note h.tally note) (rules_of hash accepts h) (with_notes (state_of h) (note ∷ []))
+  pub noted_one : (h new : Holding D A) (note : Note) → PartsStand hash accepts h
+      → voter.IsTallyOf hash (with_note h.tally note) (rules_of hash accepts h) (with_notes (state_of h) (note ∷ []))
       → new ≡ record h { store = with_staged h.store note; tally = with_note h.tally note }
       → HasNoted hash accepts (note ∷ []) h new
   noted_one h new note s tally is = subst (λ (n : Holding D A). HasNoted hash accepts (note ∷ []) h n) (sym is) (record {
@@ -42,7 +42,7 @@ module _ {D A : Type 0} (hash : List ℕ → Digest32) (accepts : A → Block �
       backlog = s.backlog;
       running = s.running;
       id = s.id;
-      tally = subst (λ (t : State). voter.StandsFor hash (with_note h.tally note) (rules_of hash accepts h) t) (sym same) tally;
+      tally = subst (λ (t : State). voter.IsTallyOf hash (with_note h.tally note) (rules_of hash accepts h) t) (sym same) tally;
       shards = record { rules = s.shards.rules; rows = s.shards.rows };
       rows = s.rows;
       named = s.named;

@@ -8,10 +8,10 @@ use Rattle.cw_rules.specs.Owed.{block_owed, cert_owed, certified_owed, named_pro
 use Rattle.node.proofs.Arrivals.{first_map}
 use Rattle.node.specs.Holding.{Holding, rules_of, state_of}
 use Rattle.node.specs.Noting.{arrival_owed, last_owed}
-use Rattle.node.specs.Standing.{Stands}
+use Rattle.node.specs.Standing.{PartsStand}
 use Rattle.node.specs.declared.arrival.Arrival.{Arrival}
 
-pub owed_as : {D A : Type 0} (hash : List ℕ → Digest32) (accepts : A → Block → Block → Bool) (h : Holding D A) → Stands hash accepts h
+pub owed_as : {D A : Type 0} (hash : List ℕ → Digest32) (accepts : A → Block → Block → Bool) (h : Holding D A) → PartsStand hash accepts h
     → owed (rules_of hash accepts h) h.id (state_of h)
     ≡ option_or (first_some (arrival_owed (rules_of hash accepts h) (state_of h)) h.arrivals)
     (option_or (first_some (cert_owed (rules_of hash accepts h) h.id (state_of h)) (named_votes (state_of h)))

@@ -28,7 +28,7 @@ use Rattle.node.proofs.Arrivals.{first_behind}
 use Rattle.cw_types.proofs.Same.{same_commitment-true}
 use Rattle.node.specs.Accepting.{is_new_row, is_own_place, with_row}
 use Rattle.node.specs.Holding.{Holding, came_of, rules_of, shown_under, state_of}
-use Rattle.node.specs.Standing.{HasCome, Stands}
+use Rattle.node.specs.Standing.{HasCome, PartsStand}
 use Rattle.node.specs.declared.arrival.Shown.{Shown}
 
 -- an index that is the member's place in no list is its place in no epoch
@@ -48,14 +48,14 @@ row_untold x id t c index e = λ i. record { epochs = t.epochs; id = t.id; notes
 
 -- and so it stands for the member
 pub row_stands : (hash : List ℕ → Digest32) (t : tally.Known) (r : Rules) (s : State) (x : Epochs) (id : ℕ) (c : Commitment) (index : ℕ) → t.epochs ≡ x → t.id ≡ id
-    → voter.StandsFor hash (with_own t c index) r s
-    → (((epoch : ℕ) → place t.epochs epoch t.id ≡ Some index → ⊥) → voter.StandsFor hash t r s)
-    → voter.StandsFor hash (with_row x id t c index) r s
+    → voter.IsTallyOf hash (with_own t c index) r s
+    → (((epoch : ℕ) → place t.epochs epoch t.id ≡ Some index → ⊥) → voter.IsTallyOf hash t r s)
+    → voter.IsTallyOf hash (with_row x id t c index) r s
 row_stands hash t r s x id c index epochs same own other = go (is_own_place x id index) refl
   where
-    go : (b : Bool) → is_own_place x id index ≡ b → voter.StandsFor hash (with_row x id t c index) r s
-    go true e = subst (λ (u : tally.Known). voter.StandsFor hash u r s) (row_told x id t c index e) own
-    go false e = subst (λ (u : tally.Known). voter.StandsFor hash u r s) (row_untold x id t c index e)
+    go : (b : Bool) → is_own_place x id index ≡ b → voter.IsTallyOf hash (with_row x id t c index) r s
+    go true e = subst (λ (u : tally.Known). voter.IsTallyOf hash u r s) (row_told x id t c index e) own
+    go false e = subst (λ (u : tally.Known). voter.IsTallyOf hash u r s) (row_untold x id t c index e)
         (other (λ epoch at. no_place x.lists id index e epoch ((λ i. place (sym epochs i) epoch (sym same i)) ∙ at)))
 
 -- a chunk that isn't known and isn't foreign is new, and the rules take it
@@ -115,7 +115,7 @@ and_false : (b : Bool) → (b && false) ≡ false
 and_false true = refl
 and_false false = refl
 
-module _ {D A : Type 0} (hash : List ℕ → Digest32) (accepts : A → Block → Block → Bool) (h : Holding D A) (s : Stands hash accepts h) (c : Commitment) (x : Chunk) where
+module _ {D A : Type 0} (hash : List ℕ → Digest32) (accepts : A → Block → Block → Bool) (h : Holding D A) (s : PartsStand hash accepts h) (c : Commitment) (x : Chunk) where
   -- the rules of the kept chunks take a chunk as those of the node do
   pub same_test : is_chunk_of (rules_of hash accepts h) c x ≡ is_chunk_of (kept.rules_of hash h.shards.epochs) c x
   same_test = ap (λ q. is_chunk_of q c x) s.shards.rules
@@ -144,7 +144,7 @@ module _ {D A : Type 0} (hash : List ℕ → Digest32) (accepts : A → Block �
       → ((verdict (kept.rules_of hash h.shards.epochs) h.shards.kept c x ≡ Foreign) ↔ (IsFalse (list_any (same_part (Row c x)) (came_of h).parts) × IsFalse (is_chunk_of (rules_of hash accepts h) c x)))
       → (verdict (kept.rules_of hash h.shards.epochs) h.shards.kept c x ≡ Known → ⊥)
       → (verdict (kept.rules_of hash h.shards.epochs) h.shards.kept c x ≡ Foreign → ⊥)
-      → voter.StandsFor hash (with_row h.epochs h.id h.tally c x.index) (rules_of hash accepts h) (voter.with_came (state_of h) (take_part (came_of h) true (Row c x)))
+      → voter.IsTallyOf hash (with_row h.epochs h.id h.tally c x.index) (rules_of hash accepts h) (voter.with_came (state_of h) (take_part (came_of h) true (Row c x)))
       → shards.StandsFor hash (after (kept.rules_of hash h.shards.epochs) h.shards c x) (rules_of hash accepts h) (take_part (came_of h) (is_chunk_of (rules_of hash accepts h) c x) (Row c x))
       → ((d : Commitment) → 0 < d.config.minimum → shown (kept.rules_of hash h.shards.epochs) (kept.came_of (kept_after (kept.rules_of hash h.shards.epochs) h.shards.kept c x)) d ≡ first_some (shown_under d) showing)
       → new ≡ record h { shards = after (kept.rules_of hash h.shards.epochs) h.shards c x; tally = with_row h.epochs h.id h.tally c x.index; arrivals = h.arrivals ++ record { commitment = c; block = None } ∷ []; shown = showing }

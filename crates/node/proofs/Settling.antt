@@ -10,7 +10,7 @@ use Rattle.cw_rules.specs.Step.{marks, settle, with_notes}
 use Rattle.node.proofs.Noting.{no_notes, noted_none, noted_on, notes_on, same_rules}
 use Rattle.node.specs.Holding.{Holding, rules_of, state_of}
 use Rattle.node.specs.Noting.{HasNoted}
-use Rattle.node.specs.Standing.{Stands}
+use Rattle.node.specs.Standing.{PartsStand}
 use Rattle.node.specs.Store.{Store}
 
 -- where nothing is owed nothing is settled
@@ -31,7 +31,7 @@ abbrev pub left : {D A : Type 0} → Holding D A → Holding D A → ℕ
 left old now = marks (state_of old) - (length now.store.staged - length old.store.staged)
 
 module _ {D A : Type 0} (hash : List ℕ → Digest32) (accepts : A → Block → Block → Bool) where
-  pub settling_none : (h : Holding D A) → Stands hash accepts h → IsSettling hash accepts h h
+  pub settling_none : (h : Holding D A) → PartsStand hash accepts h → IsSettling hash accepts h h
   settling_none h s = record {
     notes = [];
     fuel = marks (state_of h);

@@ -21,7 +21,7 @@ use Rattle.shards.specs.Kept as kept
 use Rattle.shards.specs.Standing as shards
 use Rattle.node.specs.Asking.{asks}
 use Rattle.node.specs.Holding.{Holding, begun, came_of, member_of, rules_of, state_of}
-use Rattle.node.specs.Standing.{Stands}
+use Rattle.node.specs.Standing.{PartsStand}
 use Rattle.node.specs.State.{stepped}
 use Rattle.node.specs.Store.{Store, stored_notes}
 use Rattle.voter.specs.Known.{Known, unknowing, with_note}
@@ -35,12 +35,12 @@ use Rattle.node.proofs.Noting.{notes_on, no_notes}
 
 -- a tally that is told more notes stands for the member with them
 pub stands_told : (hash : List ℕ → Digest32) (r : Rules)
-    → ((t : Known) (s : State) → voter.StandsFor hash t r s → (note : Note) → voter.StandsFor hash (with_note t note) r (with_notes s (note ∷ [])))
-    → (notes : List Note) (t : Known) (s : State) → voter.StandsFor hash t r s → voter.StandsFor hash (record t { notes = t.notes ++ notes }) r (with_notes s notes)
-stands_told hash r law [] t s stands = subst (λ (u : Known). voter.StandsFor hash u r (with_notes s [])) (λ i. record t { notes = sym (append-nil t.notes) i }) (subst (λ (u : State). voter.StandsFor hash t r u) (sym (no_notes s)) stands)
+    → ((t : Known) (s : State) → voter.IsTallyOf hash t r s → (note : Note) → voter.IsTallyOf hash (with_note t note) r (with_notes s (note ∷ [])))
+    → (notes : List Note) (t : Known) (s : State) → voter.IsTallyOf hash t r s → voter.IsTallyOf hash (record t { notes = t.notes ++ notes }) r (with_notes s notes)
+stands_told hash r law [] t s stands = subst (λ (u : Known). voter.IsTallyOf hash u r (with_notes s [])) (λ i. record t { notes = sym (append-nil t.notes) i }) (subst (λ (u : State). voter.IsTallyOf hash t r u) (sym (no_notes s)) stands)
 stands_told hash r law (note ∷ notes) t s stands =
     let more = stands_told hash r law notes (with_note t note) (with_notes s (note ∷ [])) (law t s stands note) in
-    subst (λ (u : Known). voter.StandsFor hash u r (with_notes s (note ∷ notes))) (λ i. record t { notes = append_assoc t.notes (note ∷ []) notes i }) (subst (λ (u : State). voter.StandsFor hash (record t { notes = (t.notes ++ note ∷ []) ++ notes }) r u) (notes_on s (note ∷ []) notes) more)
+    subst (λ (u : Known). voter.IsTallyOf hash u r (with_notes s (note ∷ notes))) (λ i. record t { notes = append_assoc t.notes (note ∷ []) notes i }) (subst (λ (u : State). voter.IsTallyOf hash (record t { notes = (t.notes ++ note ∷ []) ++ notes }) r u) (notes_on s (note ∷ []) notes) more)
 
 -- a note that can be stored can be counted
 pub storable_countable : (note : Note) → is_storable note ≡ true → is_countable note ≡ true
@@ -72,10 +72,10 @@ nothing_shown hash x c some =
 module _ {D A : Type 0} (hash : List ℕ → Digest32) (accepts : A → Block → Block → Bool) where
   pub stands_begun : (id : ℕ) (x : Epochs) (backlog : ℕ) (app : A) (t : Store) (log : LogState D)
       → t.epochs ≡ x → t.backlog ≡ backlog → t.failed ≡ false
-      → ((u : Known) (s : State) → voter.StandsFor hash u (coded hash x backlog (accepts app)) s → (note : Note) → voter.StandsFor hash (with_note u note) (coded hash x backlog (accepts app)) (with_notes s (note ∷ [])))
-      → voter.StandsFor hash (unknowing x id) (coded hash x backlog (accepts app)) (record { notes = []; came = nothing_came; given = t.given })
+      → ((u : Known) (s : State) → voter.IsTallyOf hash u (coded hash x backlog (accepts app)) s → (note : Note) → voter.IsTallyOf hash (with_note u note) (coded hash x backlog (accepts app)) (with_notes s (note ∷ [])))
+      → voter.IsTallyOf hash (unknowing x id) (coded hash x backlog (accepts app)) (record { notes = []; came = nothing_came; given = t.given })
       → shards.StandsFor hash (record { epochs = x; kept = [] }) (coded hash x backlog (accepts app)) nothing_came
-      → Stands hash accepts (begun id x backlog app t log)
+      → PartsStand hash accepts (begun id x backlog app t log)
   stands_begun id x backlog app t log epochs same running law first chunks = record {
     epochs = epochs;
     backlog = same;

@@ -18,7 +18,7 @@ use Rattle.node.specs.Acting.{HasActed, notes_of_event}
 use Rattle.node.specs.Answering.{HasAnswered}
 use Rattle.node.specs.Holding.{Holding, came_of, member_of, rules_of, state_of}
 use Rattle.node.specs.Noting.{committed}
-use Rattle.node.specs.Standing.{Stands}
+use Rattle.node.specs.Standing.{PartsStand}
 use Rattle.node.specs.State.{stepped}
 use Rattle.node.specs.Store.{Store, stored_notes}
 use Rattle.voter.specs.Standing as voter
@@ -35,13 +35,13 @@ module _ {D A : Type 0} (hash : List ℕ → Digest32) (accepts : A → Block �
   pub state_committed : (b c : Holding D A) → c ≡ record b { store = committed b.store; log = c.log } → state_of c ≡ state_of b
   state_committed b c is = ap (λ (h : Holding D A). state_of h) is ∙ (λ i. record { notes = same_notes b.store i; came = came_of b; given = b.store.given })
 
-  pub stands_committed : (b c : Holding D A) → Stands hash accepts b → c ≡ record b { store = committed b.store; log = c.log } → Stands hash accepts c
-  stands_committed b c s is = subst (λ (h : Holding D A). Stands hash accepts h) (sym is) (record {
+  pub stands_committed : (b c : Holding D A) → PartsStand hash accepts b → c ≡ record b { store = committed b.store; log = c.log } → PartsStand hash accepts c
+  stands_committed b c s is = subst (λ (h : Holding D A). PartsStand hash accepts h) (sym is) (record {
     epochs = s.epochs;
     backlog = s.backlog;
     running = s.running;
     id = s.id;
-    tally = subst (λ (t : State). voter.StandsFor hash b.tally (rules_of hash accepts b) t) (λ i. record { notes = sym (same_notes b.store) i; came = came_of b; given = b.store.given }) s.tally;
+    tally = subst (λ (t : State). voter.IsTallyOf hash b.tally (rules_of hash accepts b) t) (λ i. record { notes = sym (same_notes b.store) i; came = came_of b; given = b.store.given }) s.tally;
     shards = record { rules = s.shards.rules; rows = s.shards.rows };
     rows = s.rows;
     named = s.named;
@@ -49,10 +49,10 @@ module _ {D A : Type 0} (hash : List ℕ → Digest32) (accepts : A → Block �
   })
 
   -- what is handed out is kept
-  pub stands_handed : (b c : Holding D A) (out : List Handed) → Stands hash accepts b
-      → voter.StandsFor hash b.tally (rules_of hash accepts b) (rule.with_handed (state_of b) out)
-      → c ≡ record b { store = record b.store { given = b.store.given ++ map (λ h. h.height) out } } → Stands hash accepts c
-  stands_handed b c out s tally is = subst (λ (h : Holding D A). Stands hash accepts h) (sym is) (record {
+  pub stands_handed : (b c : Holding D A) (out : List Handed) → PartsStand hash accepts b
+      → voter.IsTallyOf hash b.tally (rules_of hash accepts b) (rule.with_handed (state_of b) out)
+      → c ≡ record b { store = record b.store { given = b.store.given ++ map (λ h. h.height) out } } → PartsStand hash accepts c
+  stands_handed b c out s tally is = subst (λ (h : Holding D A). PartsStand hash accepts h) (sym is) (record {
     epochs = s.epochs;
     backlog = s.backlog;
     running = s.running;
@@ -65,8 +65,8 @@ module _ {D A : Type 0} (hash : List ℕ → Digest32) (accepts : A → Block �
   })
 
   -- and tickets are nothing that the rules ask about
-  pub stands_ticketed : (b c : Holding D A) (t : Tickets) → Stands hash accepts b → c ≡ record b { store = record b.store { tickets = t } } → Stands hash accepts c
-  stands_ticketed b c t s is = subst (λ (h : Holding D A). Stands hash accepts h) (sym is) (record {
+  pub stands_ticketed : (b c : Holding D A) (t : Tickets) → PartsStand hash accepts b → c ≡ record b { store = record b.store { tickets = t } } → PartsStand hash accepts c
+  stands_ticketed b c t s is = subst (λ (h : Holding D A). PartsStand hash accepts h) (sym is) (record {
     epochs = s.epochs;
     backlog = s.backlog;
     running = s.running;

@@ -5,17 +5,17 @@ use Rattle.cw_base.specs.declared.hash.Digest32.{Digest32}
 use Rattle.cw_types.specs.Block.{Block}
 use Rattle.marshal.specs.Frames.{FindsAllOrNone, ReadBack, frame_bytes}
 use Rattle.node_disk.specs.Disk.{DiskState, LeavesOnly}
-use Rattle.node_disk.specs.Log.{IsSettled, LogState}
+use Rattle.node_disk.specs.Log.{HasSettled, LogState}
 use Rattle.node_disk.proofs.AtRest.{finds_at_rest}
 use Rattle.node.specs.Holding.{Holding, node_of}
-use Rattle.node.specs.Standing.{IsReady, Stands}
+use Rattle.node.specs.Standing.{IsReady, PartsStand}
 use Rattle.node.specs.State.{IsAtWork}
 
 pub at_work : {D A : Type 0} (state : D → DiskState) (h : Holding D A) → h.store.failed ≡ false
     → h.log.failed ≡ h.store.failed
     → h.log.frames ≡ map frame_bytes h.store.frames
     → ReadBack h.store.frames
-    → IsSettled h.log.frames h.log.gate (state h.log.disk).now
+    → HasSettled h.log.frames h.log.gate (state h.log.disk).now
     → LeavesOnly (state h.log.disk) (state h.log.disk) (FindsAllOrNone h.store.frames [])
     → IsAtWork state (node_of true h)
 at_work state h running failed frames readable settled still = record {
@@ -33,7 +33,7 @@ not_live false e = refl
 not_live true e = cc
 
 -- another log is nothing that a node stands on
-stands_logged : {D A : Type 0} (hash : List ℕ → Digest32) (accepts : A → Block → Block → Bool) (h : Holding D A) (log : LogState D) → Stands hash accepts h → Stands hash accepts (record h { log = log })
+stands_logged : {D A : Type 0} (hash : List ℕ → Digest32) (accepts : A → Block → Block → Bool) (h : Holding D A) (log : LogState D) → PartsStand hash accepts h → PartsStand hash accepts (record h { log = log })
 stands_logged hash accepts h log s = record {
   epochs = s.epochs;
   backlog = s.backlog;

@@ -13,7 +13,7 @@ use Rattle.cw_rules.specs.Step.{step_notes, taken, with_notes}
 use Rattle.node.specs.Accepting.{brings_row}
 use Rattle.node.specs.Holding.{Holding, rules_of, state_of}
 use Rattle.node.specs.Noting.{with_all_staged}
-use Rattle.node.specs.Standing.{Stands}
+use Rattle.node.specs.Standing.{PartsStand}
 use Rattle.node.specs.declared.act.Before.{Before}
 
 -- who the node is
@@ -31,7 +31,7 @@ notes_of_event r signed e h = step_notes r h.id (taken r signed (state_of h) e) 
 -- what the event brought is accepted, and the notes of the step wait for a commit
 pub record HasActed {D A : Type 0} (hash : List ℕ → Digest32) (accepts : A → Block → Block → Bool)
     (signed : ℕ → Vote → Bool) (e : Event) (old new : Holding D A) : Type 0 where
-  pub stands : Stands hash accepts new
+  pub stands : PartsStand hash accepts new
   pub state : state_of new ≡ with_notes (taken (rules_of hash accepts old) signed (state_of old) e)
       (notes_of_event (rules_of hash accepts old) signed e old)
   pub store : new.store ≡ with_all_staged old.store

@@ -3,7 +3,7 @@ use Rattle.std.specs.Prelude.{◌≡◌, ℕ, ◌≤◌, Err, List, Result, IsEr
 use Rattle.cw_base.specs.Causes.{Rose}
 use Rattle.cw_types.specs.declared.note.Note.{Note}
 use Rattle.cw_rules.specs.Step.{add_frame}
-use Rattle.marshal.specs.Frames.{FindsAllOrNone, FindsNotes, IsBeforeOrFound, ReadBack, frame_bytes, read_frames}
+use Rattle.marshal.specs.Frames.{FindsAllOrNone, FindsNotes, IsBeforeOrNotes, ReadBack, frame_bytes, read_frames}
 use Rattle.node_disk.specs.Disk.{DiskState, HasTold, IsFront, LeavesOnly}
 use Rattle.node_disk.specs.Log.{HasAppended, LogState, WasCutShort, calls_of_append, start_calls}
 use Rattle.node_disk.specs.declared.log.StoreError.{StoreError}
@@ -15,7 +15,7 @@ use Rattle.node_disk.specs.declared.log.StoreError.TheVariants as store
 pub record HasFound {D : Type 0} (state : D → DiskState) (continues : D → D → Type 0)
     (frames : List (List Note)) (old new : D) : Type 0 where
   pub found : FindsNotes frames (state old).now.seen
-  pub any_moment : LeavesOnly (state old) (state new) (IsBeforeOrFound (state old).now)
+  pub any_moment : LeavesOnly (state old) (state new) (IsBeforeOrNotes (state old).now)
   pub calls : HasTold (start_calls (state old).now.seen) (state old) (state new)
   pub faults : (state old).faults ≤ (state new).faults
   pub goes_on : continues old new
@@ -25,7 +25,7 @@ pub record HasFound {D : Type 0} (state : D → DiskState) (continues : D → D 
 -- bytes aren't frames of notes, and stays so; and a fault is told only where the disk counted it.
 pub record WasRefused {D : Type 0} (state : D → DiskState) (continues : D → D → Type 0)
     (error : StoreError) (old new : D) : Type 0 where
-  pub any_moment : LeavesOnly (state old) (state new) (IsBeforeOrFound (state old).now)
+  pub any_moment : LeavesOnly (state old) (state new) (IsBeforeOrNotes (state old).now)
   pub foreign : (place : ℕ) → error ≡ store.Foreign place → read_frames (state old).now.seen
       ≡ Err place
   pub foreign_again : (place : ℕ) → error ≡ store.Foreign place → read_frames (state new).now.seen

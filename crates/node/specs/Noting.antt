@@ -11,7 +11,7 @@ use Rattle.cw_rules.specs.Rules.{Rules}
 use Rattle.cw_rules.specs.Step.{add_frame, with_notes}
 use Rattle.node.specs.declared.arrival.Arrival.{Arrival}
 use Rattle.node.specs.Holding.{Holding, state_of}
-use Rattle.node.specs.Standing.{Stands}
+use Rattle.node.specs.Standing.{PartsStand}
 use Rattle.node.specs.Store.{Store}
 
 -- the note that is owed of the last cases: a floor, an epoch, a vote
@@ -34,7 +34,7 @@ with_all_staged s notes = record s { staged = s.staged ++ notes }
 -- nothing else changed
 pub record HasNoted {D A : Type 0} (hash : List ℕ → Digest32) (accepts : A → Block → Block → Bool)
     (notes : List Note) (old new : Holding D A) : Type 0 where
-  pub stands : Stands hash accepts new
+  pub stands : PartsStand hash accepts new
   pub state : state_of new ≡ with_notes (state_of old) notes
   pub store : new.store ≡ with_all_staged old.store notes
   pub id : new.id ≡ old.id

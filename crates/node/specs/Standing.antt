@@ -14,13 +14,13 @@ use Rattle.node.specs.Holding.{Holding, came_of, count_rows, rules_of, shown_und
 -- The tally and the chunks that are kept stand for one member, whose notes are those of the store;
 -- each arrival has the commitment of its part, and as many chunks came as are kept; and what chunks
 -- showed is what those that are kept show.
-pub record Stands {D A : Type 0} (hash : List ℕ → Digest32) (accepts : A → Block → Block → Bool)
+pub record PartsStand {D A : Type 0} (hash : List ℕ → Digest32) (accepts : A → Block → Block → Bool)
     (h : Holding D A) : Type 0 where
   pub epochs : h.store.epochs ≡ h.epochs
   pub backlog : h.store.backlog ≡ h.backlog
   pub running : h.store.failed ≡ false
   pub id : h.tally.id ≡ h.id
-  pub tally : voter.StandsFor hash h.tally (rules_of hash accepts h) (state_of h)
+  pub tally : voter.IsTallyOf hash h.tally (rules_of hash accepts h) (state_of h)
   pub shards : shards.StandsFor hash h.shards (rules_of hash accepts h) (came_of h)
   pub rows : count_rows h.arrivals ≡ length h.shards.kept
   pub named : named_commitments (rules_of hash accepts h) (state_of h)
@@ -33,7 +33,7 @@ pub record Stands {D A : Type 0} (hash : List ℕ → Digest32) (accepts : A →
 -- nothing waits for a commit.
 pub record IsReady {D A : Type 0} (hash : List ℕ → Digest32) (accepts : A → Block → Block → Bool)
     (h : Holding D A) : Type 0 where
-  pub stands : Stands hash accepts h
+  pub stands : PartsStand hash accepts h
   pub quiet : h.store.staged ≡ []
 
 -- what else there is beside what came and how it is kept
@@ -48,6 +48,6 @@ pub record IsSameBeside {D A : Type 0} (old new : Holding D A) : Type 0 where
 -- so much has come then, and nothing else changed
 pub record HasCome {D A : Type 0} (hash : List ℕ → Digest32) (accepts : A → Block → Block → Bool)
     (came : Came) (old new : Holding D A) : Type 0 where
-  pub stands : Stands hash accepts new
+  pub stands : PartsStand hash accepts new
   pub taken : came_of new ≡ came
   pub same : IsSameBeside old new

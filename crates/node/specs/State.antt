@@ -15,7 +15,7 @@ use Rattle.marshal.specs.Stored as marshal
 use Rattle.node_disk.specs.Disk.{DiskState}
 use Rattle.node_disk.specs.Frames.{Finds}
 use Rattle.node_disk.specs.Images.{IsImage}
-use Rattle.node_disk.specs.Log.{IsSettled, LogState}
+use Rattle.node_disk.specs.Log.{HasSettled, LogState}
 
 -- a member's number, the committees, the backlog, the application, the member of the rules, live
 -- unless a step was refused, and the log of its notes
@@ -63,7 +63,7 @@ pub record IsAtWork {D A : Type 0} (state : D → DiskState) (node : NodeState D
   pub running : node.log.failed ≡ false
   pub frames : node.log.frames ≡ map frame_bytes node.member.frames
   pub readable : ReadBack node.member.frames
-  pub settled : IsSettled node.log.frames node.log.gate (state node.log.disk).now
+  pub settled : HasSettled node.log.frames node.log.gate (state node.log.disk).now
   pub found : Finds node.log.frames (state node.log.disk).now.seen
   pub on_disk : (image : List ℕ) → IsImage (state node.log.disk).now image
       → FindsNotes node.member.frames image

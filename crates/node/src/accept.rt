@@ -14,7 +14,7 @@ ghost use Rattle.voter.specs.Standing.{are_signers};
 ghost use Rattle.node.specs.Accepting.{brings_row, is_acceptable, is_new_row, is_own_place};
 ghost use Rattle.node.specs.Accepting.{with_row};
 ghost use Rattle.node.specs.Holding.{came_of, is_whole, knowing, rules_of};
-ghost use Rattle.node.specs.Standing.{HasCome, Stands};
+ghost use Rattle.node.specs.Standing.{HasCome, PartsStand};
 
 use crate::arrival::{Arrival, Shown};
 use crate::holding::Holding;
@@ -78,7 +78,7 @@ impl<H: Hasher<Digest = Digest32>, D: Disk, A: Application> Holding<H, D, A> {
 
     // A vote that may be accepted.
     fn take_vote(&mut self, signer: u16, vote: &Vote) -> Result<(), NoMemory>
-        requires stands { Stands H.digest_of A.accepts self.old }
+        requires stands { PartsStand H.digest_of A.accepts self.old }
         requires formed { IsTrue (well_formed vote.now) }
         ensures ok { OnOk result (HasCome H.digest_of A.accepts
             (rule.take_ballot (came_of self.old) true (Single signer vote.now)) self.old self.new) }
@@ -95,7 +95,7 @@ impl<H: Hasher<Digest = Digest32>, D: Disk, A: Application> Holding<H, D, A> {
         signer: u16,
         vote: &Vote,
     ) -> Result<(), NoMemory>
-        requires { Stands H.digest_of A.accepts self.old }
+        requires { PartsStand H.digest_of A.accepts self.old }
         ensures ok { OnOk result (HasCome H.digest_of A.accepts
             (rule.take_ballot (came_of self.old)
             (is_acceptable (rules_of H.digest_of A.accepts self.old) (V.signs verifier.now) signer
@@ -110,7 +110,7 @@ impl<H: Hasher<Digest = Digest32>, D: Disk, A: Application> Holding<H, D, A> {
 
     // A certificate that is valid.
     fn take_cert(&mut self, cert: &Cert) -> Result<(), NoMemory>
-        requires stands { Stands H.digest_of A.accepts self.old }
+        requires stands { PartsStand H.digest_of A.accepts self.old }
         requires formed { IsTrue (well_formed cert.now.vote) }
         requires signed { IsTrue (are_signers self.old.epochs cert.now.vote cert.now.signers) }
         ensures ok { OnOk result (HasCome H.digest_of A.accepts
@@ -123,7 +123,7 @@ impl<H: Hasher<Digest = Digest32>, D: Disk, A: Application> Holding<H, D, A> {
     }
 
     fn accept_cert<V: Verifier>(&mut self, verifier: &V, cert: &Cert) -> Result<(), NoMemory>
-        requires { Stands H.digest_of A.accepts self.old }
+        requires { PartsStand H.digest_of A.accepts self.old }
         ensures ok { OnOk result (HasCome H.digest_of A.accepts
             (rule.take_ballot (came_of self.old)
             (rule.is_valid (rules_of H.digest_of A.accepts self.old) (V.signs verifier.now)
@@ -138,7 +138,7 @@ impl<H: Hasher<Digest = Digest32>, D: Disk, A: Application> Holding<H, D, A> {
 
     // One more wish.
     fn add_wish(&mut self, commitment: &Commitment) -> Result<(), NoMemory>
-        requires { Stands H.digest_of A.accepts self.old }
+        requires { PartsStand H.digest_of A.accepts self.old }
         ensures ok { OnOk result (HasCome H.digest_of A.accepts
             (rule.add_wish (came_of self.old) commitment.now) self.old self.new) }
         ensures kept { self.new ≡ knowing self.old self.new }
@@ -149,7 +149,7 @@ impl<H: Hasher<Digest = Digest32>, D: Disk, A: Application> Holding<H, D, A> {
     }
 
     fn accept_floor<V: Verifier>(&mut self, verifier: &V, cert: &Cert) -> Result<(), NoMemory>
-        requires { Stands H.digest_of A.accepts self.old }
+        requires { PartsStand H.digest_of A.accepts self.old }
         ensures ok { OnOk result (HasCome H.digest_of A.accepts
             (rule.wished (rules_of H.digest_of A.accepts self.old) (V.signs verifier.now)
             (came_of self.old) cert.now) self.old self.new) }
@@ -167,7 +167,7 @@ impl<H: Hasher<Digest = Digest32>, D: Disk, A: Application> Holding<H, D, A> {
 
     // Whether that block came whole.
     fn has_arrived(&self, block: &ChainBlock) -> bool
-        requires { Stands H.digest_of A.accepts self.now }
+        requires { PartsStand H.digest_of A.accepts self.now }
         ensures { result ≡ list_any (same_part (Whole block.now)) (came_of self.now).parts }
     {
         has_whole(self.arrivals.as_slice(), block)
@@ -175,7 +175,7 @@ impl<H: Hasher<Digest = Digest32>, D: Disk, A: Application> Holding<H, D, A> {
 
     // Puts a block that came whole behind the others.
     fn add_whole(&mut self, commitment: Commitment, block: ChainBlock) -> Result<(), NoMemory>
-        requires stands { Stands H.digest_of A.accepts self.old }
+        requires stands { PartsStand H.digest_of A.accepts self.old }
         requires commitment { commitment ≡ commit (rules_of H.digest_of A.accepts self.old) block }
         requires new { list_any (same_part (Whole block)) (came_of self.old).parts ≡ false }
         ensures ok { OnOk result (HasCome H.digest_of A.accepts
@@ -198,7 +198,7 @@ impl<H: Hasher<Digest = Digest32>, D: Disk, A: Application> Holding<H, D, A> {
         block: &ChainBlock,
         strategy: &S,
     ) -> Result<(), NoMemory>
-        requires { Stands H.digest_of A.accepts self.old }
+        requires { PartsStand H.digest_of A.accepts self.old }
         ensures ok { OnOk result (HasCome H.digest_of A.accepts
             (rule.take_part (came_of self.old) true (Whole block.now)) self.old self.new) }
         ensures kept { self.new ≡ knowing self.old self.new }
@@ -293,7 +293,7 @@ impl<H: Hasher<Digest = Digest32>, D: Disk, A: Application> Holding<H, D, A> {
         chunk: &Chunk<Digest32>,
         strategy: &S,
     ) -> Result<bool, NoMemory>
-        requires { Stands H.digest_of A.accepts self.old }
+        requires { PartsStand H.digest_of A.accepts self.old }
         ensures come { OnOk result
             (HasCome H.digest_of A.accepts
             (rule.take_part (came_of self.old)
@@ -316,7 +316,7 @@ impl<H: Hasher<Digest = Digest32>, D: Disk, A: Application> Holding<H, D, A> {
         chunk: Chunk<Digest32>,
         strategy: &S,
     ) -> Result<bool, NoMemory>
-        requires { Stands H.digest_of A.accepts self.old }
+        requires { PartsStand H.digest_of A.accepts self.old }
         ensures come { OnOk result
             (HasCome H.digest_of A.accepts
             (rule.take_part (came_of self.old)
@@ -360,7 +360,7 @@ impl<H: Hasher<Digest = Digest32>, D: Disk, A: Application> Holding<H, D, A> {
         verifier: &V,
         strategy: &S,
     ) -> Result<bool, NoMemory>
-        requires { Stands H.digest_of A.accepts self.old }
+        requires { PartsStand H.digest_of A.accepts self.old }
         ensures come { OnOk result
             (HasCome H.digest_of A.accepts
             (taken_came (rules_of H.digest_of A.accepts self.old) (V.signs verifier.now)

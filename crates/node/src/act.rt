@@ -11,7 +11,7 @@ ghost use Rattle.node.specs.Answering.{HasAnswered};
 ghost use Rattle.node.specs.Disks.{HasTried};
 ghost use Rattle.node.specs.Holding.{came_of, knowing, member_of, rules_of, state_of};
 ghost use Rattle.node.specs.Noting.{committed};
-ghost use Rattle.node.specs.Standing.{IsReady, Stands};
+ghost use Rattle.node.specs.Standing.{IsReady, PartsStand};
 ghost use Rattle.node.specs.State.{stepped};
 ghost use Rattle.node.specs.Store.{stored_notes};
 
@@ -120,7 +120,7 @@ impl<H: Hasher<Digest = Digest32>, D: Disk, A: Application> Holding<H, D, A> {
         before: &Before,
         strategy: &S,
     ) -> Result<Vec<Out>, NoMemory>
-        requires stands { Stands H.digest_of A.accepts self.now }
+        requires stands { PartsStand H.digest_of A.accepts self.now }
         requires notes { before.now.notes ≤ length (stored_notes self.now.store) }
         ensures { (old : State) → IsBefore (rules_of H.digest_of A.accepts self.now) event.now old
             before.now
@@ -168,7 +168,7 @@ impl<H: Hasher<Digest = Digest32>, D: Disk, A: Application> Holding<H, D, A> {
 
     // The tickets of a step.
     fn tickets(&mut self, alloc: Global, event: &Event) -> Result<Vec<TicketOut>, NoMemory>
-        requires stands { Stands H.digest_of A.accepts self.old }
+        requires stands { PartsStand H.digest_of A.accepts self.old }
         requires quiet { self.old.store.staged ≡ [] }
         ensures ok { OnOk result (self.new
             ≡ record self.old {
@@ -193,7 +193,7 @@ impl<H: Hasher<Digest = Digest32>, D: Disk, A: Application> Holding<H, D, A> {
 
     // Hands out what can be.
     pub(crate) fn hand_out(&mut self, alloc: Global) -> Result<Vec<Handed>, NoMemory>
-        requires stands { Stands H.digest_of A.accepts self.old }
+        requires stands { PartsStand H.digest_of A.accepts self.old }
         requires quiet { self.old.store.staged ≡ [] }
         ensures value { IfOk result
             (λ handed. handed.items ≡ rule.deliveries (rules_of H.digest_of A.accepts self.old)
@@ -203,7 +203,7 @@ impl<H: Hasher<Digest = Digest32>, D: Disk, A: Application> Holding<H, D, A> {
               store = record self.old.store
                   { given = self.old.store.given ++ map (λ h. h.height) handed.items };
             }) }
-        ensures stands { OnOk result (Stands H.digest_of A.accepts self.new) }
+        ensures stands { OnOk result (PartsStand H.digest_of A.accepts self.new) }
         ensures kept { self.new ≡ knowing self.old self.new }
     {
         standing_is_kept();
@@ -235,14 +235,14 @@ impl<H: Hasher<Digest = Digest32>, D: Disk, A: Application> Holding<H, D, A> {
         before: &Before,
         strategy: &S,
     ) -> Result<StepOut, NoMemory>
-        requires stands { Stands H.digest_of A.accepts self.old }
+        requires stands { PartsStand H.digest_of A.accepts self.old }
         requires quiet { self.old.store.staged ≡ [] }
         requires notes { before.now.notes ≤ length (stored_notes self.old.store) }
         ensures answer { (was : State)
             → IsBefore (rules_of H.digest_of A.accepts self.old) event.now was before.now
             → IfOk result (λ out. HasAnswered H.digest_of A.accepts event.now was self.old self.new
             out) }
-        ensures stands { OnOk result (Stands H.digest_of A.accepts self.new) }
+        ensures stands { OnOk result (PartsStand H.digest_of A.accepts self.new) }
         ensures kept { self.new ≡ knowing self.old self.new }
     {
         let sent = self.sends(rt, alloc, event, before, strategy)?;

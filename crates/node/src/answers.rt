@@ -9,7 +9,7 @@ ghost use Rattle.cw_rules.specs.Held as held_rule;
 ghost use Rattle.cw_rules.specs.Sends as rule;
 ghost use Rattle.cw_rules.specs.Accepted.{first_some};
 ghost use Rattle.node.specs.Holding.{rules_of};
-ghost use Rattle.node.specs.Standing.{Stands};
+ghost use Rattle.node.specs.Standing.{PartsStand};
 ghost use Rattle.node.specs.Store.{stored_notes};
 
 use crate::holding::Holding;
@@ -56,7 +56,7 @@ impl<H: Hasher<Digest = Digest32>, D: Disk, A: Application> Holding<H, D, A> {
 
     // The first noted finalization whose held block has that height.
     fn finalization(&self, height: u64) -> Option<&Cert>
-        requires { Stands H.digest_of A.accepts self.now }
+        requires { PartsStand H.digest_of A.accepts self.now }
         ensures { option_map (λ cert. cert.now) result
             ≡ first_some (rule.finalization_at (rules_of H.digest_of A.accepts self.now)
             (stored_notes self.now.store) height) (stored_notes self.now.store) }
@@ -111,7 +111,7 @@ impl<H: Hasher<Digest = Digest32>, D: Disk, A: Application> Holding<H, D, A> {
         height: u64,
         out: &mut Vec<Out>,
     ) -> Result<(), NoMemory>
-        requires { Stands H.digest_of A.accepts self.now }
+        requires { PartsStand H.digest_of A.accepts self.now }
         ensures { OnOk result (out.new.items ≡ out.old.items
             ++ rule.answer (rules_of H.digest_of A.accepts self.now) self.now.id
             (stored_notes self.now.store) (event.Deliver (message.AskHeight member height))) }
@@ -126,7 +126,7 @@ impl<H: Hasher<Digest = Digest32>, D: Disk, A: Application> Holding<H, D, A> {
     }
 
     fn ask_height(&self, height: u64, out: &mut Vec<Out>) -> Result<(), NoMemory>
-        requires { Stands H.digest_of A.accepts self.now }
+        requires { PartsStand H.digest_of A.accepts self.now }
         ensures { OnOk result (out.new.items ≡ out.old.items
             ++ rule.answer (rules_of H.digest_of A.accepts self.now) self.now.id
             (stored_notes self.now.store) (event.Hint height)) }
@@ -144,7 +144,7 @@ impl<H: Hasher<Digest = Digest32>, D: Disk, A: Application> Holding<H, D, A> {
         message: &Message,
         out: &mut Vec<Out>,
     ) -> Result<(), NoMemory>
-        requires { Stands H.digest_of A.accepts self.now }
+        requires { PartsStand H.digest_of A.accepts self.now }
         ensures { OnOk result (out.new.items ≡ out.old.items
             ++ rule.answer (rules_of H.digest_of A.accepts self.now) self.now.id
             (stored_notes self.now.store) (event.Deliver message.now)) }
@@ -165,7 +165,7 @@ impl<H: Hasher<Digest = Digest32>, D: Disk, A: Application> Holding<H, D, A> {
         event: &Event,
         out: &mut Vec<Out>,
     ) -> Result<(), NoMemory>
-        requires { Stands H.digest_of A.accepts self.now }
+        requires { PartsStand H.digest_of A.accepts self.now }
         ensures { OnOk result (out.new.items ≡ out.old.items
             ++ rule.answer (rules_of H.digest_of A.accepts self.now) self.now.id
             (stored_notes self.now.store) event.now) }

@@ -9,7 +9,7 @@ ghost use Rattle.cw_rules.specs.Held as held_rule;
 ghost use Rattle.cw_rules.specs.Owed as rule;
 ghost use Rattle.node.specs.Noting.{arrival_owed};
 ghost use Rattle.node.specs.Holding.{came_of, rules_of, shown_under, state_of, whole_under};
-ghost use Rattle.node.specs.Standing.{Stands};
+ghost use Rattle.node.specs.Standing.{PartsStand};
 ghost use Rattle.node.specs.Store.{stored_notes};
 
 use crate::arrival::{Arrival, Shown};
@@ -24,7 +24,7 @@ use std::alloc::Global;
 impl<H: Hasher<Digest = Digest32>, D: Disk, A: Application> Holding<H, D, A> {
     // The block that came whole under a commitment.
     fn whole(&self, commitment: &Commitment) -> Option<&ChainBlock>
-        requires { Stands H.digest_of A.accepts self.now }
+        requires { PartsStand H.digest_of A.accepts self.now }
         ensures { option_map (λ block. block.now) result
             ≡ first_some (held_rule.whole_of (rules_of H.digest_of A.accepts self.now)
             commitment.now) (came_of self.now).parts }
@@ -34,7 +34,7 @@ impl<H: Hasher<Digest = Digest32>, D: Disk, A: Application> Holding<H, D, A> {
 
     // The block as which a commitment is shown.
     fn shown(&self, commitment: &Commitment) -> Option<&ChainBlock>
-        requires { Stands H.digest_of A.accepts self.now }
+        requires { PartsStand H.digest_of A.accepts self.now }
         ensures { option_map (λ block. block.now) result
             ≡ held_rule.shown (rules_of H.digest_of A.accepts self.now) (came_of self.now)
             commitment.now }
@@ -60,7 +60,7 @@ impl<H: Hasher<Digest = Digest32>, D: Disk, A: Application> Holding<H, D, A> {
 
     // The block of which a note is owed under a commitment.
     fn unnoted(&self, commitment: &Commitment) -> Option<&ChainBlock>
-        requires { Stands H.digest_of A.accepts self.now }
+        requires { PartsStand H.digest_of A.accepts self.now }
         ensures { option_map (λ block. NoteValue.Block commitment.now block.now) result
             ≡ rule.block_owed (rules_of H.digest_of A.accepts self.now) (state_of self.now)
             commitment.now }
@@ -79,7 +79,7 @@ impl<H: Hasher<Digest = Digest32>, D: Disk, A: Application> Holding<H, D, A> {
 
     // The first of these under which a note of a block is owed, with the block.
     fn first_unnoted<'a>(&'a self, arrivals: &'a [Arrival]) -> Option<(Commitment, &'a ChainBlock)>
-        requires { Stands H.digest_of A.accepts self.now }
+        requires { PartsStand H.digest_of A.accepts self.now }
         ensures { option_map (λ found. NoteValue.Block found.0 found.1.now) result
             ≡ first_some (arrival_owed (rules_of H.digest_of A.accepts self.now)
             (state_of self.now)) arrivals.now }
@@ -94,7 +94,7 @@ impl<H: Hasher<Digest = Digest32>, D: Disk, A: Application> Holding<H, D, A> {
 
     // 1. A block that is shown, isn't noted and isn't below what was given up.
     pub(crate) fn owed_block(&self, alloc: Global) -> Result<Option<Note>, NoMemory>
-        requires { Stands H.digest_of A.accepts self.now }
+        requires { PartsStand H.digest_of A.accepts self.now }
         ensures value { IfOk result
             (λ note. note ≡ first_some
             (arrival_owed (rules_of H.digest_of A.accepts self.now) (state_of self.now))

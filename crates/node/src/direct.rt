@@ -14,7 +14,7 @@ ghost use Rattle.cw_rules.specs.Owed as owed_rule;
 ghost use Rattle.node.specs.Proposing.{is_fit, notes_proposed};
 ghost use Rattle.node.specs.Holding.{knowing, rules_of, state_of};
 ghost use Rattle.node.specs.Noting.{HasNoted};
-ghost use Rattle.node.specs.Standing.{Stands};
+ghost use Rattle.node.specs.Standing.{PartsStand};
 ghost use Rattle.node.specs.Store.{stored_notes};
 
 use crate::fits::digest_of;
@@ -33,7 +33,7 @@ use voter::parent_stands;
 impl<H: Hasher<Digest = Digest32>, D: Disk, A: Application> Holding<H, D, A> {
     // The greatest settled view below that one whose payload is held, with its payload and block.
     fn best_parent(&self, epoch: u64, view: u64) -> Option<(u64, Commitment, &ChainBlock)>
-        requires stands { Stands H.digest_of A.accepts self.now }
+        requires stands { PartsStand H.digest_of A.accepts self.now }
         requires view { view ≡ notes_rule.view_of (stored_notes self.now.store) epoch }
         ensures below { IfSome result (λ best. best.0 < view) }
         ensures value { option_map (λ best. (best.0, best.1, best.2.now)) result
@@ -73,7 +73,7 @@ impl<H: Hasher<Digest = Digest32>, D: Disk, A: Application> Holding<H, D, A> {
 
     // Writes the note of a block, where there is none under its commitment.
     fn write_block(&mut self, commitment: &Commitment, block: ChainBlock) -> Result<(), NoMemory>
-        requires { Stands H.digest_of A.accepts self.old }
+        requires { PartsStand H.digest_of A.accepts self.old }
         ensures ok { OnOk result (HasNoted H.digest_of A.accepts
             (if notes_rule.has_block (stored_notes self.old.store) commitment.now then []
             else NoteValue.Block commitment.now block ∷ []) self.old self.new) }
@@ -94,7 +94,7 @@ impl<H: Hasher<Digest = Digest32>, D: Disk, A: Application> Holding<H, D, A> {
         block: ChainBlock,
         strategy: &S,
     ) -> Result<(), NoMemory>
-        requires stands { Stands H.digest_of A.accepts self.old }
+        requires stands { PartsStand H.digest_of A.accepts self.old }
         requires ordered { IsTrue (is_ordered place.now) }
         ensures ok { OnOk result (HasNoted H.digest_of A.accepts
             (rule.proposal_notes (rules_of H.digest_of A.accepts self.old)
@@ -187,7 +187,7 @@ impl<H: Hasher<Digest = Digest32>, D: Disk, A: Application> Holding<H, D, A> {
 
     // What the member proposes in its view.
     fn proposal(&self, alloc: Global, payload: &Payload) -> Result<Proposed, NoMemory>
-        requires { Stands H.digest_of A.accepts self.now }
+        requires { PartsStand H.digest_of A.accepts self.now }
         ensures ordered { IfOk result (λ proposed. IsTrue (is_fit proposed)) }
         ensures value { IfOk result
             (λ proposed. notes_proposed (rules_of H.digest_of A.accepts self.now)
@@ -221,7 +221,7 @@ impl<H: Hasher<Digest = Digest32>, D: Disk, A: Application> Holding<H, D, A> {
         payload: &Payload,
         strategy: &S,
     ) -> Result<(), NoMemory>
-        requires { Stands H.digest_of A.accepts self.old }
+        requires { PartsStand H.digest_of A.accepts self.old }
         ensures ok { OnOk result (HasNoted H.digest_of A.accepts
             (rule.proposed (rules_of H.digest_of A.accepts self.old) self.old.id
             (stored_notes self.old.store) payload.now) self.old self.new) }
@@ -236,7 +236,7 @@ impl<H: Hasher<Digest = Digest32>, D: Disk, A: Application> Holding<H, D, A> {
 
     // Whether the member may vote to nullify that view: it is its view, and not closed.
     fn may_nullify(&self, epoch: u64, view: u64) -> bool
-        requires { Stands H.digest_of A.accepts self.now }
+        requires { PartsStand H.digest_of A.accepts self.now }
         ensures { result ≡ ((view == notes_rule.view_of (stored_notes self.now.store) epoch)
             && nat_lt view (2 ^ 64 - 1) && epochs_rule.is_member self.now.epochs epoch self.now.id
             && not (owed_rule.has_closed (stored_notes self.now.store) epoch view)) }
@@ -248,7 +248,7 @@ impl<H: Hasher<Digest = Digest32>, D: Disk, A: Application> Holding<H, D, A> {
     }
 
     fn time_out(&mut self, view: u64) -> Result<(), NoMemory>
-        requires { Stands H.digest_of A.accepts self.old }
+        requires { PartsStand H.digest_of A.accepts self.old }
         ensures ok { OnOk result (HasNoted H.digest_of A.accepts
             (rule.timed_out (rules_of H.digest_of A.accepts self.old) self.old.id
             (stored_notes self.old.store) view) self.old self.new) }
@@ -262,7 +262,7 @@ impl<H: Hasher<Digest = Digest32>, D: Disk, A: Application> Holding<H, D, A> {
     }
 
     fn acknowledge(&mut self) -> Result<(), NoMemory>
-        requires { Stands H.digest_of A.accepts self.old }
+        requires { PartsStand H.digest_of A.accepts self.old }
         ensures ok { OnOk result (HasNoted H.digest_of A.accepts
             (option_map_or (λ h. NoteValue.Ack h ∷ [])
             (rule.least (held_rule.pending (state_of self.old))) []) self.old self.new) }
@@ -288,7 +288,7 @@ impl<H: Hasher<Digest = Digest32>, D: Disk, A: Application> Holding<H, D, A> {
     }
 
     fn prune(&mut self, height: u64) -> Result<(), NoMemory>
-        requires { Stands H.digest_of A.accepts self.old }
+        requires { PartsStand H.digest_of A.accepts self.old }
         ensures ok { OnOk result (HasNoted H.digest_of A.accepts
             (rule.direct (rules_of H.digest_of A.accepts self.old) self.old.id (state_of self.old)
             (event.Prune height)) self.old self.new) }
@@ -308,7 +308,7 @@ impl<H: Hasher<Digest = Digest32>, D: Disk, A: Application> Holding<H, D, A> {
         event: &Event,
         strategy: &S,
     ) -> Result<(), NoMemory>
-        requires { Stands H.digest_of A.accepts self.old }
+        requires { PartsStand H.digest_of A.accepts self.old }
         ensures ok { OnOk result (HasNoted H.digest_of A.accepts
             (rule.direct (rules_of H.digest_of A.accepts self.old) self.old.id (state_of self.old)
             event.now) self.old self.new) }

@@ -8,7 +8,7 @@ ghost use Rattle.cw_rules.specs.Owed as rule;
 ghost use Rattle.cw_types.specs.Encoding.{block_bytes};
 ghost use Rattle.cw_types.specs.Epochs as epochs_rule;
 ghost use Rattle.node.specs.Holding.{rules_of, state_of};
-ghost use Rattle.node.specs.Standing.{Stands};
+ghost use Rattle.node.specs.Standing.{PartsStand};
 ghost use Rattle.node.specs.Store.{stored_notes};
 
 use crate::holding::Holding;
@@ -100,7 +100,7 @@ impl<H: Hasher<Digest = Digest32>, D: Disk, A: Application> Holding<H, D, A> {
     // Whether the block is one for the proposal over the held block that is settled for its parent
     // view.
     fn fits(&self, alloc: Global, proposal: &Proposal, block: &ChainBlock) -> Result<bool, NoMemory>
-        requires { Stands H.digest_of A.accepts self.now }
+        requires { PartsStand H.digest_of A.accepts self.now }
         ensures { IfOk result (λ fits. fits
             ≡ fits_rule.fits (rules_of H.digest_of A.accepts self.now) (stored_notes self.now.store)
             proposal.now block.now) }
@@ -117,7 +117,7 @@ impl<H: Hasher<Digest = Digest32>, D: Disk, A: Application> Holding<H, D, A> {
 
     // Whether the held block of the proposal's payload is one for it.
     fn block_fits(&self, alloc: Global, proposal: &Proposal) -> Result<bool, NoMemory>
-        requires { Stands H.digest_of A.accepts self.now }
+        requires { PartsStand H.digest_of A.accepts self.now }
         ensures { IfOk result (λ fits. fits
             ≡ fits_rule.block_fits (rules_of H.digest_of A.accepts self.now)
             (stored_notes self.now.store) proposal.now) }
@@ -130,7 +130,7 @@ impl<H: Hasher<Digest = Digest32>, D: Disk, A: Application> Holding<H, D, A> {
 
     // 3. A notarized proposal whose held block fits.
     pub(crate) fn owed_certified(&self, alloc: Global) -> Result<Option<Note>, NoMemory>
-        requires { Stands H.digest_of A.accepts self.now }
+        requires { PartsStand H.digest_of A.accepts self.now }
         ensures value { IfOk result
             (λ note. note ≡ first_some
             (rule.certified_owed (rules_of H.digest_of A.accepts self.now) (state_of self.now))

@@ -5,7 +5,7 @@ ghost use Rattle.cw_types.specs.declared.note.Note.{Note as NoteValue};
 ghost use Rattle.marshal.specs.Frames.{FindsAllOrNone, ReadBack, frame_bytes};
 ghost use Rattle.marshal.specs.Stored.{log_of};
 ghost use Rattle.node_disk.specs.Disk.{LeavesOnly};
-ghost use Rattle.node_disk.specs.Log.{IsSettled};
+ghost use Rattle.node_disk.specs.Log.{HasSettled};
 ghost use Rattle.node.specs.Store.{store_of};
 
 use crate::arrival::{Arrival, Shown};
@@ -67,7 +67,7 @@ impl<H: Hasher<Digest = Digest32>, D: Disk, A: Application> Holding<H, D, A> {
         ensures frames { self.now.log.frames ≡ map frame_bytes self.now.store.frames }
         ensures readable { ReadBack self.now.store.frames }
         ensures settled { self.now.store.failed ≡ false
-            → IsSettled self.now.log.frames self.now.log.gate (D.state self.now.log.disk).now }
+            → HasSettled self.now.log.frames self.now.log.gate (D.state self.now.log.disk).now }
         ensures still { self.now.store.failed ≡ false → (notes : List NoteValue)
             → LeavesOnly (D.state self.now.log.disk) (D.state self.now.log.disk)
             (FindsAllOrNone self.now.store.frames notes) }

@@ -12,7 +12,7 @@ ghost use Rattle.cw_rules.specs.Notes as notes_rule;
 ghost use Rattle.cw_rules.specs.Sends as rule;
 ghost use Rattle.node.specs.Asking.{asks};
 ghost use Rattle.node.specs.Holding.{rules_of, state_of};
-ghost use Rattle.node.specs.Standing.{Stands};
+ghost use Rattle.node.specs.Standing.{PartsStand};
 ghost use Rattle.node.specs.Store.{stored_notes};
 
 use crate::holding::Holding;
@@ -60,7 +60,7 @@ impl<H: Hasher<Digest = Digest32>, D: Disk, A: Application> Holding<H, D, A> {
 
     // The commitments that notes lead to but genesis, each once.
     fn led(&self, alloc: Global) -> Result<Vec<Commitment>, NoMemory>
-        requires { Stands H.digest_of A.accepts self.now }
+        requires { PartsStand H.digest_of A.accepts self.now }
         ensures { IfOk result (λ led. led.items
             ≡ rule.once (genesis_commitment (rules_of H.digest_of A.accepts self.now) ∷ [])
             (filter_map (rule.leads (rules_of H.digest_of A.accepts self.now)
@@ -85,7 +85,7 @@ impl<H: Hasher<Digest = Digest32>, D: Disk, A: Application> Holding<H, D, A> {
 
     /// The commitments that are missing.
     pub(crate) fn missing(&self, alloc: Global) -> Result<Vec<Commitment>, NoMemory>
-        requires { Stands H.digest_of A.accepts self.now }
+        requires { PartsStand H.digest_of A.accepts self.now }
         ensures { IfOk result (λ missing. missing.items
             ≡ rule.missing (rules_of H.digest_of A.accepts self.now) (state_of self.now)) }
     {

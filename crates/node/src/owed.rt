@@ -12,7 +12,7 @@ ghost use Rattle.cw_rules.specs.Owed as rule;
 ghost use Rattle.node.specs.Noting.{last_owed};
 ghost use Rattle.std.specs.List.{list_all};
 ghost use Rattle.node.specs.Holding.{rules_of, state_of};
-ghost use Rattle.node.specs.Standing.{Stands};
+ghost use Rattle.node.specs.Standing.{PartsStand};
 ghost use Rattle.node.specs.Store.{stored_notes};
 
 use crate::holding::Holding;
@@ -27,7 +27,7 @@ use voter::tally_stands;
 impl<H: Hasher<Digest = Digest32>, D: Disk, A: Application> Holding<H, D, A> {
     // That of a floor, an epoch or a vote.
     fn owed_without_memory(&self) -> Option<Note>
-        requires { Stands H.digest_of A.accepts self.now }
+        requires { PartsStand H.digest_of A.accepts self.now }
         ensures value { result ≡ last_owed (rules_of H.digest_of A.accepts self.now) self.now.id
             (state_of self.now) }
         ensures storable { IfSome result (λ note. IsTrue (is_storable note)) }
@@ -43,7 +43,7 @@ impl<H: Hasher<Digest = Digest32>, D: Disk, A: Application> Holding<H, D, A> {
 
     /// The note that is owed: that of the first case that applies. It can be stored.
     pub(crate) fn owed(&self, alloc: Global) -> Result<Option<Note>, NoMemory>
-        requires { Stands H.digest_of A.accepts self.now }
+        requires { PartsStand H.digest_of A.accepts self.now }
         ensures value { IfOk result
             (λ note. note ≡ rule.owed (rules_of H.digest_of A.accepts self.now) self.now.id
             (state_of self.now)) }
@@ -65,7 +65,7 @@ impl<H: Hasher<Digest = Digest32>, D: Disk, A: Application> Holding<H, D, A> {
 
     // 2. A certificate that isn't noted.
     fn owed_cert(&self, alloc: Global) -> Result<Option<Note>, NoMemory>
-        requires { Stands H.digest_of A.accepts self.now }
+        requires { PartsStand H.digest_of A.accepts self.now }
         ensures value { IfOk result
             (λ note. note ≡ first_some
             (rule.cert_owed (rules_of H.digest_of A.accepts self.now) self.now.id
@@ -197,7 +197,7 @@ impl<H: Hasher<Digest = Digest32>, D: Disk, A: Application> Holding<H, D, A> {
 
     // The commitment at a height.
     fn commitment_at(&self, height: u64) -> Option<Commitment>
-        requires { Stands H.digest_of A.accepts self.now }
+        requires { PartsStand H.digest_of A.accepts self.now }
         ensures { result ≡ held_rule.at_height (rules_of H.digest_of A.accepts self.now)
             (stored_notes self.now.store) height }
     {
@@ -208,7 +208,7 @@ impl<H: Hasher<Digest = Digest32>, D: Disk, A: Application> Holding<H, D, A> {
     // before it is reached.
     fn reached_epoch(&self, span: u64, top: u64) -> Option<Note>
         requires fits { top * span < 2 ^ 64 }
-        requires stands { Stands H.digest_of A.accepts self.now }
+        requires stands { PartsStand H.digest_of A.accepts self.now }
         ensures value { result ≡ rule.reached_epoch (rules_of H.digest_of A.accepts self.now)
             (stored_notes self.now.store) span top }
         ensures storable { IfSome result (λ note. IsTrue (is_storable note)) }
@@ -235,7 +235,7 @@ impl<H: Hasher<Digest = Digest32>, D: Disk, A: Application> Holding<H, D, A> {
 
     // 5. The greatest epoch whose beginning is reached.
     fn owed_epoch(&self) -> Option<Note>
-        requires { Stands H.digest_of A.accepts self.now }
+        requires { PartsStand H.digest_of A.accepts self.now }
         ensures value { result ≡ rule.epoch_owed (rules_of H.digest_of A.accepts self.now)
             (state_of self.now) }
         ensures storable { IfSome result (λ note. IsTrue (is_storable note)) }
@@ -251,7 +251,7 @@ impl<H: Hasher<Digest = Digest32>, D: Disk, A: Application> Holding<H, D, A> {
 
     // 6. and 7. A vote to notarize, else to finalize.
     fn owed_vote(&self) -> Option<Note>
-        requires { Stands H.digest_of A.accepts self.now }
+        requires { PartsStand H.digest_of A.accepts self.now }
         ensures value { result ≡ option_or
             (first_some (rule.notarize_owed (rules_of H.digest_of A.accepts self.now) self.now.id
             (state_of self.now)) (rule.named_proposals (state_of self.now)))

@@ -1,7 +1,7 @@
 //! A node that takes turns, for mailboxes.
 
 ghost use Rattle.std.specs.Prelude.{◌≡◌, false, true, IfOk, OnErr};
-ghost use Rattle.mailbox.specs.Calls.{HasStepped};
+ghost use Rattle.mailbox.specs.Calls.{HasAddedCall};
 ghost use Rattle.node.specs.Seating.{IsSeatTurn, IsStep};
 
 use crate::node::{Node, NodeError};
@@ -172,7 +172,7 @@ pub fn step_seat<
     event: Event,
 ) -> Result<u64, NoMemory>
     ensures ok { IfOk result (λ place.
-        HasStepped (IsSeatTurn H.digest_of A.accepts V.signs D.state D.continues)
+        HasAddedCall (IsSeatTurn H.digest_of A.accepts V.signs D.state D.continues)
         ⟦<Event as PartialEq>⟧.eq ⟦<Result<StepOut, NodeError> as PartialEq>⟧.eq event place
         mailbox.old mailbox.new) }
     ensures err { OnErr result (mailbox.new ≡ mailbox.old) }

@@ -12,7 +12,7 @@ ghost use Rattle.cw_rules.specs.Accepted.{Came};
 ghost use Rattle.node.specs.Accepting.{brings_row};
 ghost use Rattle.node.specs.Asking.{is_own_row};
 ghost use Rattle.node.specs.Holding.{rules_of};
-ghost use Rattle.node.specs.Standing.{Stands};
+ghost use Rattle.node.specs.Standing.{PartsStand};
 ghost use Rattle.node.specs.Store.{stored_notes};
 
 use crate::holding::Holding;
@@ -97,7 +97,7 @@ impl<H: Hasher<Digest = Digest32>, D: Disk, A: Application> Holding<H, D, A> {
         strategy: &S,
         out: &mut Vec<Out>,
     ) -> Result<(), NoMemory>
-        requires { Stands H.digest_of A.accepts self.now }
+        requires { PartsStand H.digest_of A.accepts self.now }
         ensures { (view : ℕ) → OnOk result
             (out.new.items ≡ out.old.items
             ++ rule.note_sends (rules_of H.digest_of A.accepts self.now) self.now.id
@@ -127,7 +127,7 @@ impl<H: Hasher<Digest = Digest32>, D: Disk, A: Application> Holding<H, D, A> {
         strategy: &S,
         out: &mut Vec<Out>,
     ) -> Result<(), NoMemory>
-        requires { Stands H.digest_of A.accepts self.now }
+        requires { PartsStand H.digest_of A.accepts self.now }
         ensures { OnOk result (out.new.items ≡ out.old.items
             ++ rule.note_sends (rules_of H.digest_of A.accepts self.now) self.now.id
             (stored_notes self.now.store) note.now) }
@@ -156,7 +156,7 @@ impl<H: Hasher<Digest = Digest32>, D: Disk, A: Application> Holding<H, D, A> {
         notes: &[Note],
         strategy: &S,
     ) -> Result<Vec<Out>, NoMemory>
-        requires { Stands H.digest_of A.accepts self.now }
+        requires { PartsStand H.digest_of A.accepts self.now }
         ensures { IfOk result (λ out. out.items
             ≡ flat_map (rule.note_sends (rules_of H.digest_of A.accepts self.now) self.now.id
             (stored_notes self.now.store)) notes.now) }

@@ -16,7 +16,7 @@ ghost use Rattle.cw_rules.specs.Step.{no_tickets, served, ticketed, unserved};
 ghost use Rattle.cw_types.specs.declared.event.Event.TheVariants as event;
 ghost use Rattle.cw_types.specs.declared.note.Note.{Note as NoteValue};
 ghost use Rattle.node_disk.specs.Disk.{LeavesOnly};
-ghost use Rattle.node_disk.specs.Log.{IsSettled};
+ghost use Rattle.node_disk.specs.Log.{HasSettled};
 ghost use Rattle.note_scans.specs.Heights.{greatest_of};
 ghost use Rattle.marshal.specs.Frames.{FindsAllOrNone, ReadBack, frame_bytes};
 ghost use Rattle.marshal.specs.Stored.{log_of};
@@ -77,7 +77,7 @@ impl<H: Hasher<Digest = Digest32>, D: Disk> Store<H, D> {
             ≡ map frame_bytes (store_of self.now.marshal).frames }
         ensures readable { ReadBack (store_of self.now.marshal).frames }
         ensures settled { (store_of self.now.marshal).failed ≡ false
-            → IsSettled (log_of self.now.marshal).frames (log_of self.now.marshal).gate
+            → HasSettled (log_of self.now.marshal).frames (log_of self.now.marshal).gate
             (D.state (log_of self.now.marshal).disk).now }
         ensures still { (store_of self.now.marshal).failed ≡ false → (notes : List NoteValue)
             → LeavesOnly (D.state (log_of self.now.marshal).disk)

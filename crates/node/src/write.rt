@@ -5,7 +5,7 @@ ghost use Rattle.cw_types.specs.Values.{is_storable};
 ghost use Rattle.cw_rules.specs.Step.{marks, settle};
 ghost use Rattle.node.specs.Holding.{knowing, rules_of, state_of};
 ghost use Rattle.node.specs.Noting.{HasNoted};
-ghost use Rattle.node.specs.Standing.{Stands};
+ghost use Rattle.node.specs.Standing.{PartsStand};
 
 use crate::holding::Holding;
 use cw_base::{Digest32, Hasher, NoMemory};
@@ -18,7 +18,7 @@ use voter::standing_is_kept;
 impl<H: Hasher<Digest = Digest32>, D: Disk, A: Application> Holding<H, D, A> {
     /// Writes a note, which then waits for a commit.
     pub(crate) fn write(&mut self, note: Note) -> Result<(), NoMemory>
-        requires stands { Stands H.digest_of A.accepts self.old }
+        requires stands { PartsStand H.digest_of A.accepts self.old }
         requires storable { IsTrue (is_storable note) }
         ensures ok { OnOk result (HasNoted H.digest_of A.accepts (note ∷ []) self.old self.new) }
         ensures kept { self.new ≡ knowing self.old self.new }
@@ -31,7 +31,7 @@ impl<H: Hasher<Digest = Digest32>, D: Disk, A: Application> Holding<H, D, A> {
 
     /// Writes the notes that are owed, until none is.
     pub(crate) fn settle(&mut self, alloc: Global) -> Result<(), NoMemory>
-        requires { Stands H.digest_of A.accepts self.old }
+        requires { PartsStand H.digest_of A.accepts self.old }
         ensures ok { OnOk result (HasNoted H.digest_of A.accepts
             (settle (rules_of H.digest_of A.accepts self.old) self.old.id
             (marks (state_of self.old)) (state_of self.old)) self.old self.new) }

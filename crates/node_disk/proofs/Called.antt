@@ -6,7 +6,7 @@ use Rattle.cw_base.specs.Causes.{Rose}
 use Rattle.node_disk.specs.Images.{Moment}
 use Rattle.node_disk.specs.Disk.{DeviceCall, told_more, put_at, Torn, HasWritten, HasFailedToWrite, HasSynced, HasFailedToSync}
 use Rattle.node_disk.specs.Record.{Held, Written, Entry, Request, Write, Sync, request_of, entry_of, range_of, moment_of, torn, done_writes, effect, opened, step, run, moments, empty_disk, held_after, past_of, told_calls, told_entry, told_request, is_done, is_reached, is_listed, by_number, outcome_at}
-use Rattle.node_disk.specs.Memory.{MemoryState, memory_state, next_outcome, next_fails, Keeps, HasCalled, Continues}
+use Rattle.node_disk.specs.Memory.{MemoryState, memory_state, next_outcome, next_fails, IsHeldBy, HasCalled, Continues}
 use Rattle.node_disk.specs.MemoryLaws.{length-torn, length-put_torn}
 use Rattle.node_disk.specs.declared.record.Stop.{Stop}
 use Rattle.node_disk.specs.declared.record.Call.{Call}
@@ -105,7 +105,7 @@ module _ (request : Request) (old new : MemoryState) (called : HasCalled request
   told_some done is = ap (λ (l : List DeviceCall). Some l) told_now ∙ ap (λ (b : Bool). Some (told_calls old.calls ++ told_request request b ∷ [])) is
 
   pub keeps_now : (outcome : Outcome) (bytes : List ℕ) (pending : List (ℕ × List ℕ)) (calls : List Call) → outcome ≡ outcome_at old.stop old.failing (length calls) → old.calls ≡ map entry_of calls → bytes ≡ (effect held request outcome).seen → pending ≡ done_writes (effect held request outcome).writes
-      → Keeps (held_after new.calls new.reopened) bytes pending
+      → IsHeldBy (held_after new.calls new.reopened) bytes pending
   keeps_now outcome bytes pending calls known before seen unsynced =
       let count : length calls ≡ length old.calls = sym (length-map calls entry_of) ∙ ap length (sym before) in
       let same : effect held request outcome ≡ held_after new.calls new.reopened = ap (λ (o : Outcome). effect held request o) (known ∙ ap (λ (n : ℕ). outcome_at old.stop old.failing n) count) ∙ sym held_now in

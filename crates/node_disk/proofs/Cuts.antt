@@ -5,7 +5,7 @@ use Rattle.std.proofs.lemmas.Bool.{cases_lt}
 use Rattle.std.proofs.lemmas.Bool.Decides.{nat_tests}
 use Rattle.node_disk.specs.Disk.{DeviceCall, Wrote, Synced, failing, told_more, HasTold, put_at, Holds, IsCutShort}
 use Rattle.node_disk.specs.Frames.{body, blocks, IsAtRest, Finds}
-use Rattle.node_disk.specs.Log.{IsSettled, with_frame, append_calls, calls_of_append}
+use Rattle.node_disk.specs.Log.{HasSettled, with_frame, append_calls, calls_of_append}
 use Rattle.node_disk.specs.Record.{Held, Written, Entry, Request, Write, Sync, range_of, put_within, torn, put_torn, done_writes, effect, opened, step, run, empty_disk, held_after, told_calls, told_entry, told_request, is_done, outcome_at, decided, reopened_still}
 use Rattle.node_disk.specs.MemoryLaws.{length-torn}
 use Rattle.node_disk.specs.Memory.{MemoryState, memory_state, Continues}
@@ -133,7 +133,7 @@ cut_cases a b c d (p ∷ q ∷ []) next rest is one two three four = three (let 
 cut_cases a b c d (p ∷ q ∷ r ∷ []) next rest is one two three four = four (let e : next ≡ d = cc in let f : p ≡ a = cc in let g : q ≡ b = cc in let h : r ≡ c = cc in (λ i. f i ∷ g i ∷ h i ∷ failing (e i) ∷ []))
 cut_cases a b c d (p ∷ q ∷ r ∷ t ∷ did) next rest is one two three four = absurd (omega (arith, ap length is, length-append did (next ∷ rest)))
 
-module _ (old new : MemoryState) (frames : List (List ℕ)) (gate : ℕ) (frame : List ℕ) (call cut fill : ℕ) (settled : IsSettled frames gate (memory_state old).now) (short : length frame < 2 ^ 64) (armed : IsArmed call cut fill old) (go : Continues old new) where
+module _ (old new : MemoryState) (frames : List (List ℕ)) (gate : ℕ) (frame : List ℕ) (call cut fill : ℕ) (settled : HasSettled frames gate (memory_state old).now) (short : length frame < 2 ^ 64) (armed : IsArmed call cut fill old) (go : Continues old new) where
   abbrev made : ℕ
   made = length old.calls
 
@@ -314,14 +314,14 @@ module _ (old new : MemoryState) (frames : List (List ℕ)) (gate : ℕ) (frame 
       omega arith
 
 -- an append of any frame that was cut short
-pub cut_any : (old new : MemoryState) (frames : List (List ℕ)) (gate : ℕ) (frame : List ℕ) (call cut fill : ℕ) → IsSettled frames gate (memory_state old).now → length frame < 2 ^ 64 → IsArmed call cut fill old → Continues old new
+pub cut_any : (old new : MemoryState) (frames : List (List ℕ)) (gate : ℕ) (frame : List ℕ) (call cut fill : ℕ) → HasSettled frames gate (memory_state old).now → length frame < 2 ^ 64 → IsArmed call cut fill old → Continues old new
     → IsCutShort (calls_of_append gate frame) (memory_state old) (memory_state new) → (call ≤ 4) × Finds (kept_frames call cut fill frames frame) (memory_state new).now.seen
 cut_any old new frames gate [] call cut fill settled short armed go short_of = absurd (omega (arith, ap length short_of.whole, length-append short_of.did (short_of.next ∷ short_of.rest)))
 cut_any old new frames gate (byte ∷ frame) call cut fill settled short armed go short_of = cut_leaves old new frames gate (byte ∷ frame) call cut fill settled short armed go short_of
 
 -- an append of a frame that isn't empty and was not cut short
-pub whole_any : (old new : MemoryState) (frames more : List (List ℕ)) (gate after : ℕ) (frame : List ℕ) (call cut fill : ℕ) → IsSettled frames gate (memory_state old).now → length frame < 2 ^ 64 → IsArmed call cut fill old → Continues old new
-    → HasTold (calls_of_append gate frame) (memory_state old) (memory_state new) → 0 < length frame → more ≡ with_frame frames frame → IsSettled more after (memory_state new).now → (4 < call) × Finds (frames ++ frame ∷ []) (memory_state new).now.seen
+pub whole_any : (old new : MemoryState) (frames more : List (List ℕ)) (gate after : ℕ) (frame : List ℕ) (call cut fill : ℕ) → HasSettled frames gate (memory_state old).now → length frame < 2 ^ 64 → IsArmed call cut fill old → Continues old new
+    → HasTold (calls_of_append gate frame) (memory_state old) (memory_state new) → 0 < length frame → more ≡ with_frame frames frame → HasSettled more after (memory_state new).now → (4 < call) × Finds (frames ++ frame ∷ []) (memory_state new).now.seen
 whole_any old new frames more gate after [] call cut fill settled short armed go told some is settled_after = absurd (omega arith)
 whole_any old new frames more gate after (byte ∷ frame) call cut fill settled short armed go told some is settled_after = (
   whole_leaves old new frames gate (byte ∷ frame) call cut fill settled short armed go told,

@@ -10,7 +10,7 @@ abbrev pub all_items : List (Vec ℕ Global) → List (List ℕ)
 all_items frames = map (λ (v : Vec ℕ Global). v.items) frames
 
 -- the file is these frames and a closed gate, all of it on the disk
-pub record IsSettled (frames : List (List ℕ)) (gate : ℕ) (moment : Moment) : Type 0 where
+pub record HasSettled (frames : List (List ℕ)) (gate : ℕ) (moment : Moment) : Type 0 where
   pub file : IsAtRest frames gate moment.seen
   pub durable : IsDurable moment
 
@@ -57,8 +57,8 @@ pub record LogState (D : Type 0) : Type 0 where
 -- the disk went on by the device calls of the append.
 pub record HasAppended {D : Type 0} (state : D → DiskState) (continues : D → D → Type 0) (frame : List ℕ) (old new : LogState D) : Type 0 where
   pub frames : new.frames ≡ with_frame old.frames frame
-  pub before : IsSettled old.frames old.gate (state old.disk).now
-  pub after : IsSettled new.frames new.gate (state new.disk).now
+  pub before : HasSettled old.frames old.gate (state old.disk).now
+  pub after : HasSettled new.frames new.gate (state new.disk).now
   pub calls : HasTold (calls_of_append old.gate frame) (state old.disk) (state new.disk)
   pub short : length frame < 2 ^ 64
   pub disk : continues old.disk new.disk
@@ -67,7 +67,7 @@ pub record HasAppended {D : Type 0} (state : D → DiskState) (continues : D →
 -- of the append up to one that failed.
 pub record WasCutShort {D : Type 0} (state : D → DiskState) (continues : D → D → Type 0) (frame : List ℕ) (old new : LogState D) : Type 0 where
   pub frames : new.frames ≡ old.frames
-  pub before : IsSettled old.frames old.gate (state old.disk).now
+  pub before : HasSettled old.frames old.gate (state old.disk).now
   pub calls : IsCutShort (calls_of_append old.gate frame) (state old.disk) (state new.disk)
   pub short : length frame < 2 ^ 64
   pub disk : continues old.disk new.disk

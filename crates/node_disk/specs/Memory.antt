@@ -29,7 +29,7 @@ abbrev pub memory_state : MemoryState → DiskState
 memory_state disk = record { now = moment_of (held_after disk.calls disk.reopened); past = past_of disk.calls; calls = Some (told_calls disk.calls); faults = disk.faults; tries = disk.tries }
 
 -- its bytes, and the writes that wait for a sync, are those that it holds
-pub record Keeps (held : Held) (bytes : List ℕ) (pending : List (ℕ × List ℕ)) : Type 0 where
+pub record IsHeldBy (held : Held) (bytes : List ℕ) (pending : List (ℕ × List ℕ)) : Type 0 where
   pub seen : bytes ≡ held.seen
   pub unsynced : pending ≡ done_writes held.writes
 

@@ -5,7 +5,7 @@ ghost use Rattle.std.specs.Prelude.{◌≡◌, ℕ, ◌<◌, ◌≤◌, ◌++◌
 ghost use Rattle.node_disk.specs.Images.{Moment, IsImage};
 ghost use Rattle.node_disk.specs.Disk.{DiskState, LeftSince, LeavesOnly};
 ghost use Rattle.node_disk.specs.Frames.{Finds, FindsWithOrWithout};
-ghost use Rattle.node_disk.specs.Log.{IsSettled, LogState, HasAppended, WasCutShort};
+ghost use Rattle.node_disk.specs.Log.{HasSettled, LogState, HasAppended, WasCutShort};
 ghost use Rattle.node_disk.specs.Memory.{MemoryState, memory_state, is_calm, Continues};
 ghost use Rattle.node_disk.specs.Cut.{IsArmed, kept_frames};
 
@@ -50,12 +50,12 @@ pub fn law_of_moments()
 /// crash may leave, and as long as nothing is done to the disk no other image can be left.
 pub fn law_of_rest()
     ensures seen { (frames : List (List ℕ)) (gate : ℕ) (moment : Moment)
-        → IsSettled frames gate moment → Finds frames moment.seen }
+        → HasSettled frames gate moment → Finds frames moment.seen }
     ensures images { (frames : List (List ℕ)) (gate : ℕ) (moment : Moment)
-        → IsSettled frames gate moment → (image : List ℕ) → IsImage moment image
+        → HasSettled frames gate moment → (image : List ℕ) → IsImage moment image
         → Finds frames image }
     ensures stays { (frames : List (List ℕ)) (frame : List ℕ) (gate : ℕ) (disk : DiskState)
-        → IsSettled frames gate disk.now → LeavesOnly disk disk (FindsWithOrWithout frames frame) }
+        → HasSettled frames gate disk.now → LeavesOnly disk disk (FindsWithOrWithout frames frame) }
 {}
 
 /// A law. A calm disk stays calm, and one in memory cuts no append of a log short.

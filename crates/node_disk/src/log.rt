@@ -8,7 +8,7 @@ ghost use Rattle.cw_base.specs.Causes.{Rose};
 ghost use Rattle.node_disk.specs.Disk.{Holds, Torn, LeavesOnly, Synced, HasTold, IsCutShort};
 ghost use Rattle.node_disk.specs.Disk.{IsFront};
 ghost use Rattle.node_disk.specs.Frames.{body, read_log, IsAtRest, Finds, FindsWithOrWithout};
-ghost use Rattle.node_disk.specs.Log.{IsSettled, all_items, write_then_sync, with_frame};
+ghost use Rattle.node_disk.specs.Log.{HasSettled, all_items, write_then_sync, with_frame};
 ghost use Rattle.node_disk.specs.Log.{calls_of_append, start_calls, IsBeforeOrSame, HasAppended};
 ghost use Rattle.node_disk.specs.Log.{WasCutShort};
 
@@ -106,7 +106,7 @@ pub struct Log<D: Disk> {
     gate: u64,
     // An earlier call left the disk in doubt.
     failed: bool,
-    ghost settled: { failed ≡ false → IsSettled (all_items frames.items) gate (D.state disk).now },
+    ghost settled: { failed ≡ false → HasSettled (all_items frames.items) gate (D.state disk).now },
 }
 
 impl<D: Disk> Log<D> {
@@ -372,7 +372,7 @@ fn add_frame<D: Disk>(disk: &mut D, gate: u64, bytes: &[u8]) -> Result<(), DiskE
     ensures ok { OnOk result ((frames : List (List ℕ)) (frame : List ℕ)
         → IsAtRest frames gate (D.state disk.old).now.seen → bytes.now ≡ body frame ++ 0 ∷ []
         → length frame < 2 ^ 64
-        → IsSettled (frames ++ frame ∷ []) (gate + length bytes.now) (D.state disk.new).now) }
+        → HasSettled (frames ++ frame ∷ []) (gate + length bytes.now) (D.state disk.new).now) }
     ensures any_moment { (frames : List (List ℕ)) (frame : List ℕ)
         → IsAtRest frames gate (D.state disk.old).now.seen → bytes.now ≡ body frame ++ 0 ∷ []
         → length frame < 2 ^ 64

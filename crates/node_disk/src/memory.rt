@@ -41,7 +41,7 @@ pub struct MemoryDisk {
 impl Model for MemoryDisk {
     ghost use Rattle.std.specs.Prelude.{map};
     ghost use Rattle.node_disk.specs.Record.{entry_of, write_of, held_after};
-    ghost use Rattle.node_disk.specs.Memory.{MemoryState, Keeps};
+    ghost use Rattle.node_disk.specs.Memory.{MemoryState, IsHeldBy};
 
     ghost Value = { MemoryState };
 
@@ -55,7 +55,7 @@ impl Model for MemoryDisk {
     } };
 
     ghost invariant = { λ disk.
-        Keeps (held_after (map entry_of disk.calls.items) disk.reopened) disk.bytes.items
+        IsHeldBy (held_after (map entry_of disk.calls.items) disk.reopened) disk.bytes.items
         (map write_of disk.pending.items) };
 }
 

@@ -12,10 +12,11 @@ use Rattle.cw_types.specs.Same.{same_commitment}
 use Rattle.cw_types.specs.declared.commitment.Commitment.{Commitment}
 use Rattle.cw_rules.specs.Accepted.{is_chunk_of}
 use Rattle.cw_rules.specs.Held.{if_committed}
-use Rattle.cw_rules.specs.Rules.{Chunk, Rules, block_of, is_under, total_of}
+use Rattle.cw_rules.specs.Rules.{Chunk, Rules, block_of, is_under}
+use Rattle.cw_coding.specs.Totals.{total_of}
 use Rattle.cw_types.specs.Numbers.{config_for}
 use Rattle.shards.specs.Enough.{AreEnough, AreUnder}
-use Rattle.shards.specs.Kept.{AreKept, chunks_of, is_known, rules_of, with_chunk}
+use Rattle.shards.specs.Kept.{AreTakenOnce, chunks_of, is_known, rules_of, with_chunk}
 use Rattle.shards.specs.Verdicts.{kept_verdict, of_shown, verdict}
 use Rattle.shards.specs.declared.pieces.KeptChunk.{KeptChunk}
 use Rattle.shards.specs.declared.verdict.Verdict.{Verdict}
@@ -40,7 +41,7 @@ all_under hash epochs c (x ∷ xs) a =
     ((and_parts (list_any (λ (list : List ℕ). same_counts c.config (config_for (length list))) epochs.lists) (is_under (rules_of hash epochs) c x) a.0).1, all_under hash epochs c xs a.1)
 
 -- k chunks that are kept are enough
-pub enough_kept : (hash : List ℕ → Digest32) (epochs : Epochs) (kept : List KeptChunk) (c : Commitment) (x : Chunk) → AreKept (rules_of hash epochs) kept → is_known kept c x ≡ false
+pub enough_kept : (hash : List ℕ → Digest32) (epochs : Epochs) (kept : List KeptChunk) (c : Commitment) (x : Chunk) → AreTakenOnce (rules_of hash epochs) kept → is_known kept c x ≡ false
     → is_chunk_of (rules_of hash epochs) c x ≡ true → 2 ≤ c.config.minimum → total_of c.config ≤ 65535 → count c kept ≡ c.config.minimum - 1 → AreEnough hash c (chunks_of c kept ++ x ∷ [])
 enough_kept hash epochs kept c x are new taken some few n =
     let more = keep_more (rules_of hash epochs) kept c x are new taken in

@@ -10,7 +10,7 @@ use Rattle.cw_rules.specs.Accepted.{first_some, is_chunk_of}
 use Rattle.cw_rules.specs.Coding.{AreApart}
 use Rattle.cw_rules.specs.Held.{if_committed, row_of, shown, whole_of}
 use Rattle.cw_rules.specs.Rules.{Chunk, Rules, block_of}
-use Rattle.shards.specs.Kept.{AreKept, came_of, chunks_of, is_known, part_of, with_chunk}
+use Rattle.shards.specs.Kept.{AreTakenOnce, came_of, chunks_of, is_known, part_of, with_chunk}
 use Rattle.shards.specs.declared.pieces.KeptChunk.{KeptChunk}
 use Rattle.cw_types.proofs.Same.{same_commitment-true}
 
@@ -71,7 +71,7 @@ unknown_apart c x (k ∷ ks) h = go (same_commitment c k.commitment) refl h (unk
         here false f m = (λ same. cc (eq-eqb x.index k.chunk.index (sym same)), more (ap (λ b. b || is_known ks c x) (sym f) ∙ m))
 
 -- what is kept stays lawful
-pub keep_more : (r : Rules) (kept : List KeptChunk) (c : Commitment) (x : Chunk) → AreKept r kept → is_known kept c x ≡ false → is_chunk_of r c x ≡ true → AreKept r (with_chunk kept c x)
+pub keep_more : (r : Rules) (kept : List KeptChunk) (c : Commitment) (x : Chunk) → AreTakenOnce r kept → is_known kept c x ≡ false → is_chunk_of r c x ≡ true → AreTakenOnce r (with_chunk kept c x)
 keep_more r kept c x are new taken = record { taken = λ d. rw (chunks_more d kept c x) (take_in d (cases_Bool (same_commitment d c))); apart = λ d. rw (chunks_more d kept c x) (apart_in d (cases_Bool (same_commitment d c))) }
   where
     take_in : (d : Commitment) → (same_commitment d c ≡ true) ⊎ (same_commitment d c ≡ false) → AllByRecursion (λ y. IsTrue (is_chunk_of r d y)) (chunks_of d kept ++ (if same_commitment d c then x ∷ [] else []))

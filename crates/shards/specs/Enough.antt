@@ -8,7 +8,8 @@ use Rattle.cw_tree.specs.Tree.{root_of}
 use Rattle.cw_types.specs.Epochs.{Epochs}
 use Rattle.cw_types.specs.declared.commitment.Commitment.{Commitment}
 use Rattle.cw_rules.specs.Coding.{AreApart}
-use Rattle.cw_rules.specs.Rules.{Chunk, is_under, total_of}
+use Rattle.cw_rules.specs.Rules.{Chunk, is_under}
+use Rattle.cw_coding.specs.Totals.{total_of}
 use Rattle.cw_rules_coded.specs.Coded.{decoded, digest_bytes}
 use Rattle.shards.specs.Kept.{rules_of}
 

@@ -41,6 +41,6 @@ abbrev pub is_known : List KeptChunk → Commitment → Chunk → Bool
 is_known kept c x = list_any (λ k. same_part (Row c x) (part_of k)) kept
 
 -- the rules take each kept chunk, and no two of one commitment have one index
-pub record AreKept (r : Rules) (kept : List KeptChunk) : Type 0 where
+pub record AreTakenOnce (r : Rules) (kept : List KeptChunk) : Type 0 where
   pub taken : (c : Commitment) → AllByRecursion (λ x. IsTrue (is_chunk_of r c x)) (chunks_of c kept)
   pub apart : (c : Commitment) → AreApart (chunks_of c kept)

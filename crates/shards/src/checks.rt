@@ -3,7 +3,7 @@
 ghost use Rattle.std.specs.Prelude.{◌≡◌, ◌≤◌, IfOk, IsTrue, map};
 ghost use Rattle.cw_rules.specs.Accepted.{is_chunk_of};
 ghost use Rattle.cw_rules.specs.Coding.{AreBytes, AreByteChunks};
-ghost use Rattle.cw_rules.specs.Rules.{total_of};
+ghost use Rattle.cw_coding.specs.Totals.{total_of};
 ghost use Rattle.cw_rules_coded.specs.Coded.{leads_up};
 ghost use Rattle.shards.specs.Enough.{AreUnder, checked_of, is_under_root};
 ghost use Rattle.shards.specs.Kept.{rules_of};

@@ -3,7 +3,7 @@
 ghost use Rattle.std.specs.Prelude.{◌≡◌, ◌≤◌, IsTrue, length};
 ghost use Rattle.std.specs.List.{list_any};
 ghost use Rattle.cw_base.specs.Config.{same_counts};
-ghost use Rattle.cw_rules.specs.Rules.{total_of};
+ghost use Rattle.cw_coding.specs.Totals.{total_of};
 ghost use Rattle.cw_types.specs.Numbers.{config_for};
 
 use cw_base::Config;

@@ -41,13 +41,13 @@ pub struct Shards<H: Hasher<Digest = Digest32>> {
 }
 
 impl<H: Hasher<Digest = Digest32>> Model for Shards<H> {
-    ghost use Rattle.shards.specs.Kept.{AreKept, Gathered, rules_of};
+    ghost use Rattle.shards.specs.Kept.{AreTakenOnce, Gathered, rules_of};
 
     ghost Value = { Gathered };
 
     ghost view = { λ s. record { epochs = s.committees; kept = s.kept } };
 
-    ghost invariant = { λ s. AreKept (rules_of H.digest_of s.committees) s.kept };
+    ghost invariant = { λ s. AreTakenOnce (rules_of H.digest_of s.committees) s.kept };
 }
 
 impl<H: Hasher<Digest = Digest32>> Shards<H> {

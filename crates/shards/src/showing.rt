@@ -5,12 +5,13 @@ ghost use Rattle.std.specs.Prelude.{ℕ, map, option_and_then, true};
 ghost use Rattle.cw_base.specs.Config.{same_counts};
 ghost use Rattle.cw_rules.specs.Accepted.{is_chunk_of};
 ghost use Rattle.cw_rules.specs.Held.{if_committed};
-ghost use Rattle.cw_rules.specs.Rules.{block_of, commit, total_of};
+ghost use Rattle.cw_rules.specs.Rules.{block_of, commit};
+ghost use Rattle.cw_coding.specs.Totals.{total_of};
 ghost use Rattle.cw_types.specs.Encoding.{block_bytes};
 ghost use Rattle.cw_types.specs.Reading.{block_in};
 ghost use Rattle.cw_types.specs.Same.{same_commitment, same_digest};
 ghost use Rattle.shards.specs.Enough.{AreEnough, AreOfText, IsRooted};
-ghost use Rattle.shards.specs.Kept.{AreKept, is_known, rules_of};
+ghost use Rattle.shards.specs.Kept.{AreTakenOnce, is_known, rules_of};
 ghost use Rattle.shards.specs.Verdicts.{kept_verdict};
 
 use crate::checks::checked_all;
@@ -156,7 +157,7 @@ pub(crate) fn kept_verdict<H: Hasher<Digest = Digest32>, R: Threads + Sync, S: S
 ) -> Result<Verdict, NoMemory>
     requires some { 2 ≤ commitment.now.config.minimum }
     requires few { total_of commitment.now.config ≤ 65535 }
-    requires kept { AreKept (rules_of H.digest_of committees.now) kept.now }
+    requires kept { AreTakenOnce (rules_of H.digest_of committees.now) kept.now }
     requires new { is_known kept.now commitment.now chunk.now ≡ false }
     requires taken { is_chunk_of (rules_of H.digest_of committees.now) commitment.now chunk.now
         ≡ true }

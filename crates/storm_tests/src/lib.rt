@@ -1,5 +1,5 @@
-//! Tests of the program over text tables: worked runs, what is refused, what fails, and hostile
-//! use. There is nothing here but tests.
+//! Tests of scripts and of the program over text tables: worked runs, what is refused, what fails,
+//! and hostile use. There is nothing here but tests.
 #![tactic(auto)]
 
 #[cfg(test)]
@@ -10,6 +10,8 @@ mod fuzzed_tests;
 mod outside_tests;
 #[cfg(test)]
 mod runs;
+#[cfg(test)]
+mod script_tests;
 #[cfg(test)]
 mod stopped_tests;
 #[cfg(test)]

@@ -21,7 +21,7 @@ use Rattle.cw_rules.specs.Owed.{all_nullified, cert_owed, certified_owed, finali
 use Rattle.cw_rules.specs.Rules.{Rules, genesis_commitment}
 use Rattle.voter.specs.Known.{Known, is_own_at, vote_rules, state_of}
 use Rattle.voter.specs.Owing as owing
-use Rattle.voter.specs.Standing.{StandsFor, best_from}
+use Rattle.voter.specs.Standing.{IsTallyOf, best_from}
 use Rattle.voter.proofs.Candidates.{certified_found}
 use Rattle.voter.proofs.BestParent.{best_held, best_next, best_none, best_start}
 use Rattle.voter.proofs.Voted.{own_at}
@@ -62,7 +62,7 @@ notarize_with r id notes ballots own p =
     && all_nullified notes p.epoch p.parent p.view)
     (Note.Vote (Notarize p))
 
-module _ (hash : List ℕ → Digest32) (t : Known) (r : Rules) (s : State) (stands : StandsFor hash t r s) where
+module _ (hash : List ℕ → Digest32) (t : Known) (r : Rules) (s : State) (stands : IsTallyOf hash t r s) where
   pub cert_agrees : first_some (cert_owed r t.id s) (named_votes s) ≡ owing.cert_owed hash t
   cert_agrees = λ i. first_some (cert_owed (rules_with (stands.epochs i) hash block_bytes context_bytes) t.id (state_with (stands.notes i) (stands.ballots i))) (named_votes (state_with (stands.notes i) (stands.ballots i)))
 

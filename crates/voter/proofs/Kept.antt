@@ -17,7 +17,7 @@ use Rattle.cw_rules.specs.Rules.{Chunk, Rules}
 use Rattle.cw_rules.specs.Step.{nothing_came, with_handed, with_notes}
 use Rattle.cw_types.proofs.Same.{same_commitment-true}
 use Rattle.voter.specs.Known.{Known, came_of, is_own_at, unknowing, with_ballot, with_note, with_own}
-use Rattle.voter.specs.Standing.{StandsFor, with_came}
+use Rattle.voter.specs.Standing.{IsTallyOf, with_came}
 
 or_false : (b : Bool) → (b || false) ≡ b
 or_false true = refl
@@ -90,11 +90,11 @@ row_taken came d x at c = taken_at came (Row d x) at c (λ there own.
     subst (λ e. list_any (is_row_at at e) came.parts ≡ true) of (subst (λ i. list_any (is_row_at i d) came.parts ≡ true) (eqb-true x.index at p.1) (row_seen d x came.parts there)))
 
 pub start_stands : (hash : List ℕ → Digest32) (r : Rules) (id : ℕ) (given : List ℕ) → r.hash ≡ hash → r.block_bytes ≡ block_bytes → r.context_bytes ≡ context_bytes
-    → StandsFor hash (unknowing r.epochs id) r (record { notes = []; came = nothing_came; given = given })
+    → IsTallyOf hash (unknowing r.epochs id) r (record { notes = []; came = nothing_came; given = given })
 start_stands hash r id given h b c = record { epochs = refl; hash_same = h; blocks = b; contexts = c; notes = refl; ballots = refl; own = λ epoch at c p. refl }
 
-module _ (hash : List ℕ → Digest32) (t : Known) (r : Rules) (s : State) (stands : StandsFor hash t r s) where
-  pub note_kept : (note : Note) → StandsFor hash (with_note t note) r (with_notes s (note ∷ []))
+module _ (hash : List ℕ → Digest32) (t : Known) (r : Rules) (s : State) (stands : IsTallyOf hash t r s) where
+  pub note_kept : (note : Note) → IsTallyOf hash (with_note t note) r (with_notes s (note ∷ []))
   note_kept note = record {
     epochs = stands.epochs;
     hash_same = stands.hash_same;
@@ -105,7 +105,7 @@ module _ (hash : List ℕ → Digest32) (t : Known) (r : Rules) (s : State) (sta
     own = stands.own;
   }
 
-  pub ballot_kept : (x : Ballot) → StandsFor hash (with_ballot t x) r (with_came s (take_ballot s.came true x))
+  pub ballot_kept : (x : Ballot) → IsTallyOf hash (with_ballot t x) r (with_came s (take_ballot s.came true x))
   ballot_kept x = record {
     epochs = stands.epochs;
     hash_same = stands.hash_same;
@@ -119,7 +119,7 @@ module _ (hash : List ℕ → Digest32) (t : Known) (r : Rules) (s : State) (sta
   -- a part that came to the member, where the tally was told the like
   part_kept : (u : Known) (x : Part) → u.epochs ≡ t.epochs → u.id ≡ t.id → u.notes ≡ t.notes → u.ballots ≡ t.ballots
       → ((epoch at : ℕ) (c : Commitment) → place u.epochs epoch u.id ≡ Some at → list_any (is_row_at at c) (take_part s.came true x).parts ≡ list_any (is_own_at at c) u.own)
-      → StandsFor hash u r (with_came s (take_part s.came true x))
+      → IsTallyOf hash u r (with_came s (take_part s.came true x))
   part_kept u x e i n b own = record {
     epochs = stands.epochs ∙ sym e;
     hash_same = stands.hash_same;
@@ -130,13 +130,13 @@ module _ (hash : List ℕ → Digest32) (t : Known) (r : Rules) (s : State) (sta
     own = own;
   }
 
-  pub own_kept : (d : Commitment) (x : Chunk) → StandsFor hash (with_own t d x.index) r (with_came s (take_part s.came true (Row d x)))
+  pub own_kept : (d : Commitment) (x : Chunk) → IsTallyOf hash (with_own t d x.index) r (with_came s (take_part s.came true (Row d x)))
   own_kept d x = part_kept (with_own t d x.index) (Row d x) refl refl refl refl (λ epoch at c p.
       row_taken s.came d x at c
       ∙ (ap (λ b. b || is_row_at at c (Row d x)) (stands.own epoch at c p)
       ∙ sym (list_any-append (is_own_at at c) t.own (record { commitment = d; index = x.index } ∷ []) ∙ ap (λ b. list_any (is_own_at at c) t.own || b) (or_false (is_own_at at c (record { commitment = d; index = x.index }))))))
 
-  pub other_kept : (d : Commitment) (x : Chunk) → ((epoch : ℕ) → place t.epochs epoch t.id ≡ Some x.index → ⊥) → StandsFor hash t r (with_came s (take_part s.came true (Row d x)))
+  pub other_kept : (d : Commitment) (x : Chunk) → ((epoch : ℕ) → place t.epochs epoch t.id ≡ Some x.index → ⊥) → IsTallyOf hash t r (with_came s (take_part s.came true (Row d x)))
   other_kept d x other = part_kept t (Row d x) refl refl refl refl (λ epoch at c p.
       row_taken s.came d x at c ∙ (ap (λ b. list_any (is_row_at at c) s.came.parts || b) (elsewhere epoch at c p (cases_Bool (is_row_at at c (Row d x)))) ∙ (or_false (list_any (is_row_at at c) s.came.parts) ∙ stands.own epoch at c p)))
     where
@@ -144,11 +144,11 @@ module _ (hash : List ℕ → Digest32) (t : Known) (r : Rules) (s : State) (sta
       elsewhere epoch at c p (inl e) = absurd (other epoch (p ∙ ap Some (sym (eqb-true x.index at (and_parts (same_commitment c d) (x.index == at) e).1))))
       elsewhere epoch at c p (inr e) = e
 
-  pub block_kept : (b : Block) → StandsFor hash t r (with_came s (take_part s.came true (Whole b)))
+  pub block_kept : (b : Block) → IsTallyOf hash t r (with_came s (take_part s.came true (Whole b)))
   block_kept b = part_kept t (Whole b) refl refl refl refl (λ epoch at c p.
       taken_at s.came (Whole b) at c (λ there own. cc) ∙ (or_false (list_any (is_row_at at c) s.came.parts) ∙ stands.own epoch at c p))
 
-  pub wish_kept : (c : Commitment) → StandsFor hash t r (with_came s (add_wish s.came c))
+  pub wish_kept : (c : Commitment) → IsTallyOf hash t r (with_came s (add_wish s.came c))
   wish_kept c = record {
     epochs = stands.epochs;
     hash_same = stands.hash_same;
@@ -159,7 +159,7 @@ module _ (hash : List ℕ → Digest32) (t : Known) (r : Rules) (s : State) (sta
     own = stands.own;
   }
 
-  pub handed_kept : (out : List Handed) → StandsFor hash t r (with_handed s out)
+  pub handed_kept : (out : List Handed) → IsTallyOf hash t r (with_handed s out)
   handed_kept out = record {
     epochs = stands.epochs;
     hash_same = stands.hash_same;

@@ -8,7 +8,7 @@ use Rattle.cw_types.specs.Votes.{vote_epoch}
 use Rattle.cw_types.specs.declared.vote.Vote.{Vote}
 use Rattle.cw_rules.specs.Accepted.{Ballot, Many, Single}
 use Rattle.cw_types.proofs.Same.{same_vote-true}
-use Rattle.voter.specs.Known.{ballot_signers, certifies}
+use Rattle.voter.specs.Known.{ballot_signers, is_cert_for}
 use Rattle.voter.specs.Standing.{are_signers, is_signed}
 use Rattle.cw_types.proofs.EpochLemmas.{committee_size}
 
@@ -73,18 +73,18 @@ module _ (x : Epochs) (v : Vote) where
       (filter_passes (is_member x (vote_epoch v)) p (members_in x (vote_epoch v)) (all_there (members_in x (vote_epoch v))))
 
   -- so may those of the first certificate that came, or those spare ones
-  first_sign : (ballots : List Ballot) (spare : List ℕ) → list_all (is_signed x) ballots ≡ true → are_signers x v spare ≡ true → are_signers x v (unwrap_or (option_map ballot_signers (find (certifies v) ballots)) spare) ≡ true
+  first_sign : (ballots : List Ballot) (spare : List ℕ) → list_all (is_signed x) ballots ≡ true → are_signers x v spare ≡ true → are_signers x v (unwrap_or (option_map ballot_signers (find (is_cert_for v) ballots)) spare) ≡ true
   first_sign [] spare a h = h
   first_sign (Single i w ∷ ballots) spare a h = first_sign ballots spare a h
   first_sign (Many s ∷ ballots) spare a h = let p = and_parts (are_signers x s.vote s.signers) (list_all (is_signed x) ballots) a in go (same_vote v s.vote) refl p.0 (first_sign ballots spare p.1 h)
     where
-      go : (b : Bool) → same_vote v s.vote ≡ b → are_signers x s.vote s.signers ≡ true → are_signers x v (unwrap_or (option_map ballot_signers (find (certifies v) ballots)) spare) ≡ true
-          → are_signers x v (unwrap_or (option_map ballot_signers (find (certifies v) (Many s ∷ ballots))) spare) ≡ true
+      go : (b : Bool) → same_vote v s.vote ≡ b → are_signers x s.vote s.signers ≡ true → are_signers x v (unwrap_or (option_map ballot_signers (find (is_cert_for v) ballots)) spare) ≡ true
+          → are_signers x v (unwrap_or (option_map ballot_signers (find (is_cert_for v) (Many s ∷ ballots))) spare) ≡ true
       go true e own more = rw e (subst (λ w. are_signers x w s.signers ≡ true) (sym (same_vote-true v s.vote e)) own)
       go false e own more = rw e more
 
   pub chosen_sign : (total : ℕ) (ballots : List Ballot) (p : ℕ → Bool) → is_committee total (members_in x (vote_epoch v)) ≡ true → list_all (is_signed x) ballots ≡ true
-      → are_signers x v (unwrap_or (option_map ballot_signers (find (certifies v) ballots)) (filter p (members_in x (vote_epoch v)))) ≡ true
+      → are_signers x v (unwrap_or (option_map ballot_signers (find (is_cert_for v) ballots)) (filter p (members_in x (vote_epoch v)))) ≡ true
   chosen_sign total ballots p h a = first_sign ballots (filter p (members_in x (vote_epoch v))) a (picked_sign total p h)
 
   -- no more sign than there are members
@@ -103,5 +103,5 @@ module _ (x : Epochs) (v : Vote) where
 
   -- and no more than there are members
   pub chosen_few : (total : ℕ) (ballots : List Ballot) (p : ℕ → Bool) → is_committee total (members_in x (vote_epoch v)) ≡ true → list_all (is_signed x) ballots ≡ true
-      → length (unwrap_or (option_map ballot_signers (find (certifies v) ballots)) (filter p (members_in x (vote_epoch v)))) ≤ total
-  chosen_few total ballots p h a = few_sign total (unwrap_or (option_map ballot_signers (find (certifies v) ballots)) (filter p (members_in x (vote_epoch v)))) h (chosen_sign total ballots p h a)
+      → length (unwrap_or (option_map ballot_signers (find (is_cert_for v) ballots)) (filter p (members_in x (vote_epoch v)))) ≤ total
+  chosen_few total ballots p h a = few_sign total (unwrap_or (option_map ballot_signers (find (is_cert_for v) ballots)) (filter p (members_in x (vote_epoch v)))) h (chosen_sign total ballots p h a)

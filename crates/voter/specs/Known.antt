@@ -91,9 +91,9 @@ with_ballot t x = record {
 -- ---- what came
 
 -- a certificate of the vote
-abbrev pub certifies : Vote → Ballot → Bool
-certifies v (Single i w) = false
-certifies v (Many s) = same_vote v s.vote
+abbrev pub is_cert_for : Vote → Ballot → Bool
+is_cert_for v (Single i w) = false
+is_cert_for v (Many s) = same_vote v s.vote
 
 -- the signers of a certificate
 abbrev pub ballot_signers : Ballot → List ℕ

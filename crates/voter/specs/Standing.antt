@@ -19,7 +19,7 @@ use Rattle.voter.specs.Known.{Known, is_own_at}
 
 -- the tally has the member's committees, its notes, the votes and certificates that came to it, and
 -- those chunks that came and stand at its place of some epoch
-pub record StandsFor (hash : List ℕ → Digest32) (t : Known) (r : Rules) (s : State) : Type 0 where
+pub record IsTallyOf (hash : List ℕ → Digest32) (t : Known) (r : Rules) (s : State) : Type 0 where
   pub epochs : r.epochs ≡ t.epochs
   pub hash_same : r.hash ≡ hash
   pub blocks : r.block_bytes ≡ block_bytes

@@ -4,7 +4,7 @@ ghost use Rattle.std.specs.Prelude.{◌≡◌, Option, option_map};
 ghost use Rattle.cw_rules.specs.Accepted.{Many, Single, same_ballot};
 ghost use Rattle.cw_rules.specs.Owed as rule;
 ghost use Rattle.cw_types.specs.Votes as votes;
-ghost use Rattle.voter.specs.Known.{ballot_signers, certifies};
+ghost use Rattle.voter.specs.Known.{ballot_signers, is_cert_for};
 
 use cw_types::{Cert, Proposal, Vote};
 use note_scans::voted_proposal;
@@ -96,7 +96,7 @@ impl Ballot {
 
     /// Whether it is a certificate of this vote.
     pub(crate) fn is_cert_of(&self, vote: &Vote) -> bool
-        ensures { result ≡ certifies vote.now self.now }
+        ensures { result ≡ is_cert_for vote.now self.now }
     {
         match &self.kind {
             Kind::Single(_, _) => false,

@@ -11,7 +11,7 @@ ghost use Rattle.cw_types.specs.Numbers.{quorum};
 ghost use Rattle.cw_types.specs.Votes.{vote_epoch, well_formed};
 ghost use Rattle.cw_types.specs.declared.note.Note.{Note};
 ghost use Rattle.note_scans.specs.Countable.{is_countable};
-ghost use Rattle.voter.specs.Known.{ballot_signers, certifies, state_of, vote_rules};
+ghost use Rattle.voter.specs.Known.{ballot_signers, is_cert_for, state_of, vote_rules};
 ghost use Rattle.voter.specs.Owing as owing;
 ghost use Rattle.voter.specs.Standing.{are_signers};
 
@@ -72,7 +72,7 @@ impl<H> Tally<H> {
     // Whether no certificate of the vote is noted, and one came or a quorum is known.
     fn is_certifiable(&self, vote: &Vote) -> bool
         ensures { result ≡ (not (has_cert self.now.notes vote.now)
-            && (is_some (find (certifies vote.now) self.now.ballots)
+            && (is_some (find (is_cert_for vote.now) self.now.ballots)
             || nat_le (quorum (size self.now.epochs (vote_epoch vote.now)))
             (length (filter (rule.knows self.now.id (state_of self.now) vote.now)
             (members_in self.now.epochs (vote_epoch vote.now)))))) }
@@ -83,7 +83,7 @@ impl<H> Tally<H> {
 
     // Whether a certificate of the vote came.
     fn has_arrived(&self, vote: &Vote) -> bool
-        ensures { result ≡ is_some (find (certifies vote.now) self.now.ballots) }
+        ensures { result ≡ is_some (find (is_cert_for vote.now) self.now.ballots) }
     {
         self.first_cert(vote).is_some()
     }
@@ -91,7 +91,7 @@ impl<H> Tally<H> {
     // The first certificate of the vote that came.
     fn first_cert(&self, vote: &Vote) -> Option<&Ballot>
         ensures { option_map (λ ballot. ballot.now) result
-            ≡ find (certifies vote.now) self.now.ballots }
+            ≡ find (is_cert_for vote.now) self.now.ballots }
     {
         self.ballots
             .as_slice()
@@ -148,7 +148,7 @@ impl<H: Hasher<Digest = Digest32>> Tally<H> {
     // The signers of the first certificate of the vote that came, else those that are known.
     fn chosen(&self, alloc: Global, vote: &Vote) -> Result<Items<u16>, NoMemory>
         ensures { IfOk result (λ signers. signers
-            ≡ unwrap_or (option_map ballot_signers (find (certifies vote.now) self.now.ballots))
+            ≡ unwrap_or (option_map ballot_signers (find (is_cert_for vote.now) self.now.ballots))
             (rule.known (vote_rules H.digest_of self.now.epochs) self.now.id (state_of self.now)
             vote.now)) }
     {
@@ -163,7 +163,7 @@ impl<H: Hasher<Digest = Digest32>> Tally<H> {
     fn signers(&self, alloc: Global, vote: &Vote) -> Result<Items<u16>, NoMemory>
         ensures value { IfOk result
             (λ signers. signers ≡ unwrap_or
-            (option_map ballot_signers (find (certifies vote.now) self.now.ballots))
+            (option_map ballot_signers (find (is_cert_for vote.now) self.now.ballots))
             (rule.known (vote_rules H.digest_of self.now.epochs) self.now.id (state_of self.now)
             vote.now)) }
         ensures signed { IfOk result

@@ -24,7 +24,7 @@ ghost use Rattle.cw_rules.specs.Step.{nothing_came, with_handed, with_notes};
 ghost use Rattle.note_scans.specs.Countable.{is_countable};
 ghost use Rattle.voter.specs.Known.{Known, unknowing, with_ballot, with_note, with_own};
 ghost use Rattle.voter.specs.Owing as owing;
-ghost use Rattle.voter.specs.Standing.{StandsFor, best_from, is_formed, is_signed, with_came};
+ghost use Rattle.voter.specs.Standing.{IsTallyOf, best_from, is_formed, is_signed, with_came};
 
 use crate::tally::Tally;
 use cw_types::{Note, Proposal, Vote};
@@ -33,19 +33,19 @@ use cw_types::{Note, Proposal, Vote};
 /// rules stand on and whatever else the member knows. Whether a block fits is the member's to say.
 pub fn tally_stands()
     ensures certificates { (hash : List ℕ → Digest32) (t : Known) (r : Rules) (s : State)
-        → StandsFor hash t r s
+        → IsTallyOf hash t r s
         → first_some (rule.cert_owed r t.id s) (rule.named_votes s) ≡ owing.cert_owed hash t }
     // of the proposals that aren't certified, the first whose block fits
     ensures certified { (hash : List ℕ → Digest32) (t : Known) (r : Rules) (s : State)
-        → StandsFor hash t r s
+        → IsTallyOf hash t r s
         → first_some (rule.certified_owed r s) (rule.named_proposals s)
         ≡ option_map Note.Certified (find (block_fits r t.notes) (owing.uncertified t)) }
     ensures notarized { (hash : List ℕ → Digest32) (t : Known) (r : Rules) (s : State)
-        → StandsFor hash t r s
+        → IsTallyOf hash t r s
         → first_some (rule.notarize_owed r t.id s) (rule.named_proposals s)
         ≡ owing.notarize_owed hash t }
     ensures finalized { (hash : List ℕ → Digest32) (t : Known) (r : Rules) (s : State)
-        → StandsFor hash t r s
+        → IsTallyOf hash t r s
         → first_some (rule.finalize_owed r t.id s) (rule.named_proposals s)
         ≡ owing.finalize_owed hash t }
 {}
@@ -55,23 +55,23 @@ pub fn tally_stands()
 pub fn parent_stands()
     // the search begins at the member's view
     ensures start { (hash : List ℕ → Digest32) (t : Known) (r : Rules) (s : State)
-        → StandsFor hash t r s
+        → IsTallyOf hash t r s
         → (epoch : ℕ) → best_parent r s.notes epoch (view_of s.notes epoch)
         ≡ best_from r t.notes epoch (view_of t.notes epoch) }
     // where no parent is given there is none
     ensures none { (hash : List ℕ → Digest32) (t : Known) (r : Rules) (s : State)
-        → StandsFor hash t r s
+        → IsTallyOf hash t r s
         → (epoch below : ℕ) → owing.parent_over (genesis_commitment hash) t.notes epoch below ≡ None
         → best_from r t.notes epoch below ≡ None }
     // one whose block is held is it
     ensures held { (hash : List ℕ → Digest32) (t : Known) (r : Rules) (s : State)
-        → StandsFor hash t r s
+        → IsTallyOf hash t r s
         → (epoch below view : ℕ) (c : Commitment) (b : Block)
         → owing.parent_over (genesis_commitment hash) t.notes epoch below ≡ Some (view, c)
         → held r t.notes c ≡ Some b → best_from r t.notes epoch below ≡ Some (view, c, b) }
     // over one whose block isn't held the search goes on below it
     ensures next { (hash : List ℕ → Digest32) (t : Known) (r : Rules) (s : State)
-        → StandsFor hash t r s
+        → IsTallyOf hash t r s
         → (epoch below view : ℕ) (c : Commitment)
         → owing.parent_over (genesis_commitment hash) t.notes epoch below ≡ Some (view, c)
         → held r t.notes c ≡ None
@@ -88,34 +88,34 @@ pub fn standing_is_kept()
     // a tally that knows nothing stands for a member that starts with no notes
     ensures start { (hash : List ℕ → Digest32) (r : Rules) (id : ℕ) (given : List ℕ)
         → r.hash ≡ hash → r.block_bytes ≡ block_bytes → r.context_bytes ≡ context_bytes
-        → StandsFor hash (unknowing r.epochs id) r
+        → IsTallyOf hash (unknowing r.epochs id) r
         (record { notes = []; came = nothing_came; given = given }) }
     ensures note { (hash : List ℕ → Digest32) (t : Known) (r : Rules) (s : State)
-        → StandsFor hash t r s
-        → (note : Note) → StandsFor hash (with_note t note) r (with_notes s (note ∷ [])) }
+        → IsTallyOf hash t r s
+        → (note : Note) → IsTallyOf hash (with_note t note) r (with_notes s (note ∷ [])) }
     ensures ballot { (hash : List ℕ → Digest32) (t : Known) (r : Rules) (s : State)
-        → StandsFor hash t r s
-        → (x : Ballot) → StandsFor hash (with_ballot t x) r
+        → IsTallyOf hash t r s
+        → (x : Ballot) → IsTallyOf hash (with_ballot t x) r
         (with_came s (take_ballot s.came true x)) }
     ensures own_chunk { (hash : List ℕ → Digest32) (t : Known) (r : Rules) (s : State)
-        → StandsFor hash t r s
+        → IsTallyOf hash t r s
         → (c : Commitment) (x : Chunk)
-        → StandsFor hash (with_own t c x.index) r (with_came s (take_part s.came true (Row c x))) }
+        → IsTallyOf hash (with_own t c x.index) r (with_came s (take_part s.came true (Row c x))) }
     // a chunk that stands at the member's place of no epoch
     ensures other_chunk { (hash : List ℕ → Digest32) (t : Known) (r : Rules) (s : State)
-        → StandsFor hash t r s
+        → IsTallyOf hash t r s
         → (c : Commitment) (x : Chunk)
         → ((epoch : ℕ) → place t.epochs epoch t.id ≡ Some x.index → ⊥)
-        → StandsFor hash t r (with_came s (take_part s.came true (Row c x))) }
+        → IsTallyOf hash t r (with_came s (take_part s.came true (Row c x))) }
     ensures whole_block { (hash : List ℕ → Digest32) (t : Known) (r : Rules) (s : State)
-        → StandsFor hash t r s
-        → (b : Block) → StandsFor hash t r (with_came s (take_part s.came true (Whole b))) }
+        → IsTallyOf hash t r s
+        → (b : Block) → IsTallyOf hash t r (with_came s (take_part s.came true (Whole b))) }
     ensures wish { (hash : List ℕ → Digest32) (t : Known) (r : Rules) (s : State)
-        → StandsFor hash t r s
-        → (c : Commitment) → StandsFor hash t r (with_came s (add_wish s.came c)) }
+        → IsTallyOf hash t r s
+        → (c : Commitment) → IsTallyOf hash t r (with_came s (add_wish s.came c)) }
     ensures handed { (hash : List ℕ → Digest32) (t : Known) (r : Rules) (s : State)
-        → StandsFor hash t r s
-        → (out : List Handed) → StandsFor hash t r (with_handed s out) }
+        → IsTallyOf hash t r s
+        → (out : List Handed) → IsTallyOf hash t r (with_handed s out) }
 {}
 
 /// What a tally holds may be counted.

@@ -1,6 +1,7 @@
 use Rattle.std.proofs.Common.{◌≡◌, ◌∙◌, ◌++◌, ◌∷◌, [], Bor, List, None, Some, ap, append-nil, arith, length, length-append, map, sym}
 use Rattle.std.proofs.lemmas.List.{length-map, map-append}
-use Rattle.cw_rules.specs.Rules.{Chunk, total_of}
+use Rattle.cw_rules.specs.Rules.{Chunk}
+use Rattle.cw_coding.specs.Totals.{total_of}
 use Rattle.cw_archive.specs.Archived.{chunk_at}
 use Rattle.cw_archive.proofs.IndexLemmas.{enough_answers, list_more}
 use Rattle.cw_archive.proofs.PutLemmas.{copied_none}

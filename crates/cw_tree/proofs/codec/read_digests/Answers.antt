@@ -1,6 +1,6 @@
 use Rattle.std.proofs.Common.{map, ◌≡◌, ◌+◌, ◌-◌, ◌++◌, ◌∷◌, []}
 use Rattle.std.proofs.lemmas.List.{map_push}
-use Rattle.cw_base.specs.Ends.{end_of_end}
+use Rattle.cw_base.proofs.Ends.{end_of_end}
 use Rattle.cw_tree.specs.Formats.{digests_at}
 use Rattle.cw_tree.proofs.ReadLoop.{goes_on, ends, refused_all, with_front}
 use Rattle.cw_tree.proofs.codec.read_digests.Goals as goal

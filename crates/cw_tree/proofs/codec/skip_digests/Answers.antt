@@ -1,4 +1,4 @@
-use Rattle.cw_base.specs.Ends.{end_of_end}
+use Rattle.cw_base.proofs.Ends.{end_of_end}
 use Rattle.cw_tree.proofs.ReadLoop.{refused_here, refused_more}
 use Rattle.cw_tree.proofs.codec.skip_digests.Goals as goal
 

@@ -1,5 +1,5 @@
 use Rattle.hailstorm.proofs.Framing.{early_answers, early_fault, early_silent}
-use Rattle.hail_ledger.specs.Ledgers.{IsDone}
+use Rattle.hail_ledger.specs.Ledgers.{AreDone}
 use Rattle.hail_ledger.proofs.program.run_input.Goals as goal
 
 pub returns-in-Ok-clause-answer : goal.returns-in-Ok-clause-answer
@@ -10,7 +10,7 @@ returns-in-Ok-clause-fault g c = c.write_run.ensures.fault (g.I.Source.faults c.
 
 pub returns-in-Err-clause-answer : goal.returns-in-Err-clause-answer
 returns-in-Err-clause-answer g c = λ text left.
-    early_answers g.H.Hasher.digest_of (IsDone g.H.Hasher.digest_of) text (g.I.Source.left c.run_source.new.input) (g.O.Sink.held c.args.output.now) (g.O.Sink.held c.end_early.new.output)
+    early_answers g.H.Hasher.digest_of (AreDone g.H.Hasher.digest_of) text (g.I.Source.left c.run_source.new.input) (g.O.Sink.held c.args.output.now) (g.O.Sink.held c.end_early.new.output)
     (g.O.Sink.faults c.args.output.now) (g.O.Sink.faults c.end_early.new.output) c.in-Err.early c.end_early.result (c.in-Err.ensures.err text left) c.end_early.ensures
 
 pub returns-in-Err-clause-fault : goal.returns-in-Err-clause-fault

@@ -3,14 +3,14 @@ use Rattle.std.specs.Option.{option_map_or}
 use Rattle.cw_rules.specs.Chains.{chain_to, links_to}
 use Rattle.cw_rules.specs.Rules.{Rules}
 use Rattle.cw_rules.specs.World.{World}
-use Rattle.hailstorm.specs.Places.{AreMembers}
+use Rattle.hailstorm.specs.Places.{SitAs}
 use Rattle.hailstorm.specs.Runs.{GoesBy}
 use Rattle.hailstorm.proofs.chain.links_to.Given as goal
 
 -- the blocks so far stand on those that the next leads to
 abbrev pub invariant-loop-next : goal.invariant-loop-next
 invariant-loop-next g l =
-    (r : Rules) (w : World) → GoesBy g.H.Hasher.digest_of r → AreMembers l.places w.members
+    (r : Rules) (w : World) → GoesBy g.H.Hasher.digest_of r → SitAs l.places w.members
     → option_map_or (links_to r w l.left) l.next [] ++ reverse l.down.items ≡ option_map_or (λ b. chain_to r w b) l.fn.top []
 
 abbrev pub decreases-loop-next : goal.decreases-loop-next

@@ -1,6 +1,6 @@
 use Rattle.std.proofs.Common.{sym, subst}
 use Rattle.hailstorm.specs.declared.frame.Early.{Early}
-use Rattle.hailstorm.specs.Programs.{IsEarly}
+use Rattle.hailstorm.specs.Programs.{HasNoReport}
 use Rattle.hailstorm.proofs.Meaning.{cause_early, run_read, too_long_early}
 use Rattle.hailstorm.proofs.frame.run_source.Goals as goal
 
@@ -12,7 +12,7 @@ returns-in-Ok-clause-ok g c text left =
 pub returns-in-Whole-clause-err : goal.returns-in-Whole-clause-err
 returns-in-Whole-clause-err g c text left =
     let read = c.in-Whole.ensures in
-    subst (λ (e : Early). IsEarly g.H.Hasher.digest_of text (g.I.Source.left c.read_script.new.input) e) (sym c.early_of.ensures)
+    subst (λ (e : Early). HasNoReport g.H.Hasher.digest_of text (g.I.Source.left c.read_script.new.input) e) (sym c.early_of.ensures)
     (cause_early g.H.Hasher.digest_of text c.in-Whole.text.items _ _ left read.0 read.1 read.2 c.in-Err.error (rw c.deref.ensures.value at c.in-Err.ensures.err))
 
 pub returns-in-TooLong-clause-err : goal.returns-in-TooLong-clause-err

@@ -1,6 +1,6 @@
 use Rattle.std.proofs.Common.{◌≡◌, sym, subst, ◌∙◌}
 use Rattle.hail_script.specs.Events.{ask_of}
-use Rattle.hailstorm.specs.Places.{IsMember, IsSound, over, rules_of, table}
+use Rattle.hailstorm.specs.Places.{SitsAs, WorksBy, over, rules_of, table}
 use Rattle.hailstorm.specs.declared.place.Place.{Place}
 use Rattle.hailstorm.specs.Pool.{sent_in}
 use Rattle.hailstorm.specs.Seats.{HasStepped, Seat, rules_by}

@@ -1,7 +1,7 @@
 use Rattle.std.proofs.Common.{◌≡◌, Some, sym, subst, ◌∙◌}
 use Rattle.cw_rules.specs.Step.{Member, cut_step}
 use Rattle.hail_script.specs.Events.{ask_of}
-use Rattle.hailstorm.specs.Places.{IsMember, over, rules_of, table}
+use Rattle.hailstorm.specs.Places.{SitsAs, over, rules_of, table}
 use Rattle.hailstorm.specs.Pool.{sent_in}
 use Rattle.hailstorm.specs.Seats.{Seat, out_of, rules_by}
 use Rattle.hailstorm.proofs.Taking.{cut_took}
@@ -16,5 +16,5 @@ returns-in_ok-place-in-Some-clause-makes g c o who =
     let there = rw c.in-Live.is at who in
     let asks = sym c.in_ok-event_for-in-Live.ensures ∙ c.in-Some.is in
     let done = λ (s : Seat). cut_step (rules_by g.H.Hasher.digest_of s) s.id signed s.member c.args.stop.call c.args.stop.cut c.args.stop.fill c.in-Some.event in
-    let made = subst (λ (s : Seat). IsMember c.in_ok-place-in-Some.place (Some (done s).member) × (c.in_ok-place-in-Some.out ≡ out_of (done s))) c.seat.view_is c.in_ok-place-in-Some.ensures.cut in
+    let made = subst (λ (s : Seat). SitsAs c.in_ok-place-in-Some.place (Some (done s).member) × (c.in_ok-place-in-Some.out ≡ out_of (done s))) c.seat.view_is c.in_ok-place-in-Some.ensures.cut in
     cut_took r c.args.id signed w c.args.stop.call c.args.stop.cut c.args.stop.fill (ask_of c.args.ask.now) c.in-Some.event c.in-Live.seat c.in_ok-place-in-Some.place c.in_ok-place-in-Some.out o sound asks made.0 made.1 there

@@ -1,6 +1,6 @@
 use Rattle.std.proofs.Common.{◌≡◌, length, take}
 use Rattle.hail_script.specs.Lanes.{rows}
-use Rattle.hailstorm.specs.Places.{AreSound, rules_of}
+use Rattle.hailstorm.specs.Places.{WorkBy, rules_of}
 use Rattle.hailstorm.specs.Runs.{opened}
 use Rattle.hailstorm.specs.Turns.{HavePlayed}
 use Rattle.hailstorm.proofs.turning.play_before.Given as goal
@@ -9,5 +9,5 @@ use Rattle.hailstorm.proofs.turning.play_before.Given as goal
 abbrev pub invariant-loop-index : goal.invariant-loop-index
 invariant-loop-index g l = record {
   played : HavePlayed (rules_of g.H.Hasher.digest_of l.script.script) (opened g.H.Hasher.digest_of l.script.script) (take l.index (rows l.script)) l.pool l.places l.faulty;
-  sound : AreSound (rules_of g.H.Hasher.digest_of l.script.script) 0 l.places;
+  sound : WorkBy (rules_of g.H.Hasher.digest_of l.script.script) 0 l.places;
 }

@@ -6,7 +6,7 @@ use Rattle.cw_rules.specs.Report.{Entry}
 use Rattle.cw_rules.specs.Step.{Member, start}
 use Rattle.cw_rules.specs.World.{Sent, faults}
 use Rattle.marshal.specs.Frames.{FindsNotes, read_frames}
-use Rattle.hailstorm.specs.Places.{IsMember, rules_of}
+use Rattle.hailstorm.specs.Places.{SitsAs, rules_of}
 use Rattle.hailstorm.proofs.Opening.{faulty_entry, honest_entry, marked_is}
 use Rattle.hailstorm.proofs.world.open_one.Goals as goal
 
@@ -36,5 +36,5 @@ pub returns-clause-member : goal.returns-clause-member
 returns-clause-member g c =
     let s = c.args.script.now in
     let is : list_any (faults c.args.id) s.lines ≡ false = sym (marked_is s.lines s.committees.total c.args.id c.args.faulty.now c.requires.marks c.requires.known) ∙ sym c.is_faulty.ensures ∙ c.if-is_faulty.false in
-    subst (λ (o : Option Member). IsMember c.in_ok-place.place o) (sym (honest_entry (rules_of g.H.Hasher.digest_of s) s.lines c.args.id is).1)
+    subst (λ (o : Option Member). SitsAs c.in_ok-place.place o) (sym (honest_entry (rules_of g.H.Hasher.digest_of s) s.lines c.args.id is).1)
     (c.in_ok-place.ensures.started [] (ap read_frames c.new-disk.ensures.empty)).0

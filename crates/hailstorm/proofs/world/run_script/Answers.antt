@@ -2,7 +2,7 @@ use Rattle.std.proofs.Common.{◌≡◌, ◌++◌, ◌<◌, ◌^◌, ℕ, List, 
 use Rattle.std.specs.Prelude.{flat_map}
 use Rattle.cw_rules.specs.Report.{Entry, highest}
 use Rattle.hailstorm.specs.declared.place.Place.{Place}
-use Rattle.hailstorm.specs.Places.{AreMembers, AreSound, rules_of}
+use Rattle.hailstorm.specs.Places.{SitAs, WorkBy, rules_of}
 use Rattle.hailstorm.specs.Runs.{chain_from, opened}
 use Rattle.hailstorm.specs.Seats.{Seat}
 use Rattle.hailstorm.proofs.Known.{few_members}
@@ -34,8 +34,8 @@ returns-clause-ok g c =
     let new : List (Place Seat) = c.play_all.new.places in
     let same : length new ≡ c.in_ok-opening.places.len = c.play_all.auto.places ∙ c.deref_mut.ensures.len in
     let back : take c.in_ok-opening.places.len (new ++ drop (length new) c.in_ok-opening.places.items) ≡ new = whole_front new (drop (length new) c.in_ok-opening.places.items) c.in_ok-opening.places.len same in
-    let sound = subst (λ (l : List (Place Seat)). AreSound r 0 l) (sym back) c.in-Ok.ensures.sound in
-    let members = subst (λ (l : List (Place Seat)). AreMembers l h.last.members) (sym back) h.members in
+    let sound = subst (λ (l : List (Place Seat)). WorkBy r 0 l) (sym back) c.in-Ok.ensures.sound in
+    let members = subst (λ (l : List (Place Seat)). SitAs l h.last.members) (sym back) h.members in
     let chain = c.in_ok-chain.ensures r h.last (record { hashes = refl; blocks = refl; contexts = refl }) (rw c.deref-4.ensures.value members)
     ∙ ap (λ (l : List Entry). chain_from r h.last (highest (flat_map (λ (e : Entry). e.handed) (l ++ c.as_slice-2.result.now)))) c.as_slice.ensures
     ∙ ap (λ (l : List Entry). chain_from r h.last (highest (flat_map (λ (e : Entry). e.handed) (c.in_ok-opening.opening ++ l)))) c.as_slice-2.ensures in

@@ -1,5 +1,6 @@
 use Rattle.std.proofs.Common.{◌<◌, IsTrue}
-use Rattle.cw_rules.specs.Rules.{Chunk, total_of}
+use Rattle.cw_rules.specs.Rules.{Chunk}
+use Rattle.cw_coding.specs.Totals.{total_of}
 use Rattle.cw_types.specs.declared.commitment.Commitment.{Commitment}
 use Rattle.shards.specs.Kept.{chunks_of}
 use Rattle.cw_archive.specs.Archived.{checks}

@@ -4,7 +4,7 @@ use Rattle.cw_rules.specs.Coding.{AreApart}
 use Rattle.cw_rules.specs.Rules.{Chunk}
 use Rattle.cw_types.specs.declared.commitment.Commitment.{Commitment}
 use Rattle.cw_archive.specs.Archived.{by_index, checks, least_chunks}
-use Rattle.cw_archive.specs.Showing.{AllCheck}
+use Rattle.cw_archive.specs.Showing.{AreChecked}
 use Rattle.cw_archive.proofs.IndexLemmas.{all_of, least_all, least_apart}
 use Rattle.cw_archive.proofs.archive.Archive.get.Goals as goal
 
@@ -21,6 +21,6 @@ shown-requires-after_bounds g c κs within =
     record {
       some = omega arith;
       enough = omega arith;
-      check = subst (λ (xs : List Chunk). AllCheck hash d xs) (sym is) (least_all (λ (x : Chunk). IsTrue (checks hash d x)) d kept (all_of (λ (e : Commitment) (x : Chunk). IsTrue (checks hash e x)) d kept c.self.invariant.check));
+      check = subst (λ (xs : List Chunk). AreChecked hash d xs) (sym is) (least_all (λ (x : Chunk). IsTrue (checks hash d x)) d kept (all_of (λ (e : Commitment) (x : Chunk). IsTrue (checks hash e x)) d kept c.self.invariant.check));
       apart = subst AreApart (sym is) (least_apart d kept);
     }

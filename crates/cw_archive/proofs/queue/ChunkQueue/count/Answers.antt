@@ -1,6 +1,7 @@
 use Rattle.std.proofs.Common.{◌≡◌, ◌∙◌, ◌<◌, List, ap, arith, false, is_some, length, subst, sym, true}
 use Rattle.std.specs.List.{AllByRecursion}
-use Rattle.cw_rules.specs.Rules.{Chunk, total_of}
+use Rattle.cw_rules.specs.Rules.{Chunk}
+use Rattle.cw_coding.specs.Totals.{total_of}
 use Rattle.shards.specs.Kept.{chunks_of}
 use Rattle.shards.specs.declared.pieces.KeptChunk.{KeptChunk}
 use Rattle.cw_archive.specs.Keys.{at_key, key_of}

@@ -1,6 +1,6 @@
 use Rattle.std.proofs.Common.{◌≡◌, ◌∙◌, ap, false, subst, sym, true}
 use Rattle.cw_rules.specs.Accepted.{is_chunk_of}
-use Rattle.shards.specs.Kept.{AreKept, Gathered, is_known, rules_of}
+use Rattle.shards.specs.Kept.{AreTakenOnce, Gathered, is_known, rules_of}
 use Rattle.shards.specs.Verdicts.{kept_verdict, verdict}
 use Rattle.shards.proofs.Answered.{verdict_taken}
 use Rattle.shards.proofs.KeptLemmas.{keep_more}
@@ -9,7 +9,7 @@ use Rattle.shards.proofs.kept.Shards.take.Goals as goal
 pub invariant_of-self-2 : goal.invariant_of-self-2
 invariant_of-self-2 g c =
     let r = rules_of g.H.Hasher.digest_of c.self.inside.committees in
-    subst (AreKept r) (sym c.in_ok-push.ensures.ok)
+    subst (AreTakenOnce r) (sym c.in_ok-push.ensures.ok)
     (keep_more r c.self.inside.kept c.args.commitment.now c.args.chunk c.self.invariant
     (ap (λ ks. is_known ks c.args.commitment.now c.args.chunk) (sym c.as_slice.ensures) ∙ (sym c.is_known.ensures ∙ c.if-is_known.false))
     (sym c.is_chunk_of.ensures.value ∙ c.if-not-is_chunk_of.false))

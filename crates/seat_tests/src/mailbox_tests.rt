@@ -1,7 +1,9 @@
+//! Tests of mailboxes of a counter.
+
 ghost use Rattle.std.specs.Prelude.{◌≡◌, ◌+◌, ◌%◌, ◌^◌, Some};
 
-use super::*;
 use cw_base::{Gate, NoMemory};
+use mailbox::{CloseError, Mailbox, Session, Turn, TurnAlone};
 use std::alloc::Global;
 use std::marker::Brand;
 use std::sync::Wait;

@@ -1,4 +1,6 @@
-use crate::{Archive, Put};
+//! Tests of the archive: what its limit lets it keep, and what it refuses.
+
+use cw_archive::{Archive, Put};
 use cw_base::{Digest32, Sequential, Sha256};
 use cw_coding::Chunk;
 use cw_types::{ChainBlock, Commitment, Committees, Context, Payload, genesis_commitment};

@@ -1,4 +1,6 @@
-use crate::*;
+//! Tests of scripts, with and without lanes: which texts are run, and why the others are not.
+
+use hail_script::{LaneScript, RunError, Script};
 use std::alloc::Global;
 use std::test::Fail;
 
