@@ -14,12 +14,12 @@ use Rattle.std.proofs.lemmas.Option.{same_Some, slice_get_past}
 use Rattle.std.proofs.lemmas.Slice.Eq.{bytes_eq-Decides}
 use Rattle.cw_base.specs.declared.hash.Digest32.{Digest32}
 use Rattle.cw_base.specs.Bytes.{be32}
-use Rattle.cw_base.specs.Rows.{listed}
+use Rattle.cw_base.specs.Rows.{listed, row_of}
 use Rattle.cw_base.proofs.Listed.{length-listed}
 use Rattle.cw_base.specs.Counts.{Counts}
 use Rattle.rs_code.specs.Codeword.{ArePoints}
 use Rattle.rs_code.specs.Rows.{AreRows, OriginalsComeFirst, RowsFixCodeword, RowsHaveCodeword}
-use Rattle.rs_code.specs.Rows.{code_row, joined, row_of, row_through}
+use Rattle.rs_code.specs.Rows.{code_row, joined, row_through}
 use Rattle.cw_tree.specs.Tree.{leaves_from, paired, path_of, root_by, root_of, rooted_some}
 use Rattle.cw_tree.specs.Tree.{top_within}
 use Rattle.cw_tree.proofs.TreeRoots.{root_by-path_of}
