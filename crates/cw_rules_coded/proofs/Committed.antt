@@ -1,5 +1,6 @@
 -- The commitment and the chunks of a block are those of the rules.
-use Rattle.std.proofs.Common.{◌≡◌, ℕ, zero, suc, ◌+◌, ◌<◌, Bool, List, [], ◌∷◌, ◌++◌, length, map, unwrap_or, refl, sym, ◌∙◌, ap, arith, add-one}
+use Rattle.std.proofs.Common.{◌≡◌, ℕ, zero, suc, ◌+◌, ◌<◌, Bool, List, [], ◌∷◌, ◌++◌, length, map}
+use Rattle.std.proofs.Common.{unwrap_or, refl, sym, ◌∙◌, ap, arith, add-one}
 use Rattle.std.specs.List.{enumerate_from}
 use Rattle.std.proofs.lemmas.List.{map-append}
 use Rattle.cw_base.specs.Rows.{listed}
@@ -18,14 +19,16 @@ use Rattle.cw_types.specs.Numbers.{config_for}
 use Rattle.cw_rules.specs.Rules.{Rules, chunk_at, chunks, commit}
 use Rattle.cw_rules_coded.specs.Coded.{code_rows, coded, root_over}
 
-enumerate_push : {X : Type 0} (n : ℕ) (xs : List X) (y : X) → enumerate_from n (xs ++ y ∷ []) ≡ enumerate_from n xs ++ (n + length xs, y) ∷ []
+enumerate_push : {X : Type 0} (n : ℕ) (xs : List X) (y : X)
+    → enumerate_from n (xs ++ y ∷ []) ≡ enumerate_from n xs ++ (n + length xs, y) ∷ []
 enumerate_push n [] y = let e : n ≡ n + 0 = omega arith in ap (λ k. (k, y) ∷ []) e
 enumerate_push n (x ∷ xs) y =
     let e : n + 1 + length xs ≡ n + length (x ∷ xs) = omega arith in
     ap (λ zs. (n, x) ∷ zs) (enumerate_push (n + 1) xs y) ∙ ap (λ k. (n, x) ∷ (enumerate_from (n + 1) xs ++ (k, y) ∷ [])) e
 
 -- what is made of each row and its place, in order
-enumerated : {X Y : Type 0} (F : ℕ → X → Y) (n : ℕ) (f : ℕ → X) → map (λ (at : ℕ × X). F at.0 at.1) (enumerate_from 0 (listed n f)) ≡ listed n (λ i. F i (f i))
+enumerated : {X Y : Type 0} (F : ℕ → X → Y) (n : ℕ) (f : ℕ → X)
+    → map (λ (at : ℕ × X). F at.0 at.1) (enumerate_from 0 (listed n f)) ≡ listed n (λ i. F i (f i))
 enumerated F zero f = rw (listed_none f, listed_none (λ i. F i (f i))) refl
 enumerated {X = X} F (suc n) f =
     let more : listed (suc n) f ≡ listed n f ++ f n ∷ [] = rw (← add-one) (listed_more n f) in
@@ -37,11 +40,13 @@ enumerated {X = X} F (suc n) f =
     ∙ (ap (λ k. listed n (λ i. F i (f i)) ++ F k (f n) ∷ []) long ∙ sym (rw (← add-one) (listed_more n (λ i. F i (f i))))))))
 
 -- the digests of a text's rows
-row_digests_are : (hash : List ℕ → Digest32) (k m : ℕ) (text : List ℕ) → row_digests hash k m text ≡ map hash (code_rows text k m)
+row_digests_are : (hash : List ℕ → Digest32) (k m : ℕ) (text : List ℕ)
+    → row_digests hash k m text ≡ map hash (code_rows text k m)
 row_digests_are hash k m text = sym (map-listed (k + m) (row_at k text) hash)
 
 -- the root of a text is that over the digests of its rows
-pub text_root_is : (hash : List ℕ → Digest32) (x : Counts) (text : List ℕ) → text_root hash x text ≡ root_over hash (map hash (code_rows text x.minimum x.extra))
+pub text_root_is : (hash : List ℕ → Digest32) (x : Counts) (text : List ℕ)
+    → text_root hash x text ≡ root_over hash (map hash (code_rows text x.minimum x.extra))
 text_root_is hash x text = ap (λ ds. unwrap_or (root_of hash digest_bytes ds) empty_digest) (row_digests_are hash x.minimum x.extra text)
 
 module _ (hash : List ℕ → Digest32) (epochs : Epochs) (backlog : ℕ) (accepts : Block → Block → Bool) (b : Block) where
@@ -64,7 +69,8 @@ module _ (hash : List ℕ → Digest32) (epochs : Epochs) (backlog : ℕ) (accep
       rows : List (List ℕ)
       rows = code_rows (block_bytes b) own.minimum own.extra
 
-      each : (i : ℕ) → i < own.minimum + own.extra → piece_of hash digest_bytes own (block_bytes b) i ≡ chunk_at r rows i (row_at own.minimum (block_bytes b) i)
+      each : (i : ℕ) → i < own.minimum + own.extra
+          → piece_of hash digest_bytes own (block_bytes b) i ≡ chunk_at r rows i (row_at own.minimum (block_bytes b) i)
       each i l =
           let long : own.minimum + own.extra ≡ length rows = sym (length-listed (own.minimum + own.extra) (row_at own.minimum (block_bytes b))) in
           let digests : row_digests hash own.minimum own.extra (block_bytes b) ≡ map hash rows = row_digests_are hash own.minimum own.extra (block_bytes b) in

@@ -5,14 +5,15 @@ use Rattle.std.proofs.Common.{append_assoc, arith}
 use Rattle.std.proofs.lemmas.List.{append-nil}
 use Rattle.std.proofs.lemmas.Bool.{ltb-true, ltb-false, lt-ltb, le-ltb}
 use Rattle.cw_base.specs.declared.hash.Digest32.{Digest32}
-use Rattle.cw_base.specs.declared.reader.CodecError.{CodecError}
 use Rattle.cw_base.specs.declared.reader.CodecError.TheVariants.{TooLong}
 use Rattle.cw_base.specs.Bytes.{be16, be64, varint}
 use Rattle.cw_base.specs.Config.{config_bytes}
 use Rattle.cw_base.specs.Counts.{Counts}
 use Rattle.cw_base.specs.Reading.{Reading, ◌>>=◌, bytes_at, be64_at, varint_at}
 use Rattle.cw_base.specs.ReadsBack.{ReadsBack, IsBytes, IsConfig}
-use Rattle.cw_base.proofs.ReadingLaws.{IsBytes-rest, bind_ok, read_is, bytes_read_back, be16_reads_back, be64_reads_back, varint_reads_back, config_reads_back}
+use Rattle.cw_base.proofs.ReadingLaws.{IsBytes-rest, bind_ok, guard_then, read_is, bytes_read_back}
+use Rattle.cw_base.proofs.ReadingLaws.{be16_reads_back, be64_reads_back, varint_reads_back}
+use Rattle.cw_base.proofs.ReadingLaws.{config_reads_back}
 use Rattle.cw_types.specs.Block.{Block}
 use Rattle.cw_types.specs.Encoding.{commitment_bytes, context_bytes, block_bytes, proposal_bytes}
 use Rattle.cw_types.specs.Reading.{valid_if, as_read, digest_at, commitment_at, context_at}
@@ -201,12 +202,6 @@ payload_bytes payload = varint (length payload) ++ payload
 abbrev bounded : ℕ × List ℕ → Reading (List ℕ)
 bounded count = cond (nat_lt 1048576 count.0) (Err (TooLong, count.1)) (bytes_at count.0 count.1)
 
--- a test behind which more is read
-guard_then : {A : Type 0} (b : Bool) (d : CodecError × List ℕ) (r : Reading A) (y : A × List ℕ)
-    → cond b (Err d) r ≡ Ok y → (b ≡ false) × (r ≡ Ok y)
-guard_then true d r y e = absurd cc
-guard_then false d r y e = (refl, e)
-
 payload_reads_back : ReadsBack payload_bytes IsPayload payload_at
 unfolding payload_at
 payload_reads_back = record { found = found; again = again }
@@ -287,8 +282,8 @@ block_again b fits =
 
 -- ---- proposals
 
-abbrev proposal_of : ℕ → ℕ → ℕ → Commitment → Proposal
-proposal_of epoch view parent payload = record { epoch = epoch; view = view; parent = parent; payload = payload }
+abbrev the_proposal : ℕ → ℕ → ℕ → Commitment → Proposal
+the_proposal epoch view parent payload = record { epoch = epoch; view = view; parent = parent; payload = payload }
 
 pub proposal_reads_back : (epoch : ℕ)
     → ReadsBack proposal_bytes (IsProposal epoch) (proposal_at epoch)
@@ -296,11 +291,11 @@ unfolding proposal_bytes proposal_at
 proposal_reads_back epoch = alike _ _ _ _ (proposal_at epoch) regrouped to from (
     behind _ _ _ (λ p. p.view) _ at_view _ (λ a d (parent, (payload, is)). ap (λ x. x.view) is) be64_reads_back λ view first.
     behind _ _ _ (λ p. p.parent) _ (at_parent view) _ (λ a d (payload, is). ap (λ x. x.parent) is) be64_reads_back λ parent second.
-    behind _ _ _ (λ p. p.payload) _ (λ payload p. p ≡ proposal_of epoch view parent payload) _ (λ a d is. ap (λ x. x.payload) is) commitment_reads_back λ payload third.
-    made (proposal_of epoch view parent payload))
+    behind _ _ _ (λ p. p.payload) _ (λ payload p. p ≡ the_proposal epoch view parent payload) _ (λ a d is. ap (λ x. x.payload) is) commitment_reads_back λ payload third.
+    made (the_proposal epoch view parent payload))
   where
     at_parent : ℕ → ℕ → Proposal → Type 0
-    at_parent view parent p = IsCommitment p.payload × (p ≡ proposal_of epoch view parent p.payload)
+    at_parent view parent p = IsCommitment p.payload × (p ≡ the_proposal epoch view parent p.payload)
 
     at_view : ℕ → Proposal → Type 0
     at_view view p = (p.parent < 2 ^ 64) × at_parent view p.parent p
@@ -313,7 +308,7 @@ proposal_reads_back epoch = alike _ _ _ _ (proposal_at epoch) regrouped to from 
     to p (view, (parent, (payload, is))) = record { epoch = ap (λ x. x.epoch) is; view = view; parent = parent; payload = payload }
 
     from : (p : Proposal) → IsProposal epoch p → (p.view < 2 ^ 64) × at_view p.view p
-    from p fits = (fits.view, (fits.parent, (fits.payload, ap (λ x. proposal_of x p.view p.parent p.payload) fits.epoch)))
+    from p fits = (fits.view, (fits.parent, (fits.payload, ap (λ x. the_proposal x p.view p.parent p.payload) fits.epoch)))
 
 pub later_epoch_reads_back : ReadsBack be64 IsLaterEpoch later_epoch_at
 unfolding later_epoch_at

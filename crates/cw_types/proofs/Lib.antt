@@ -5,6 +5,7 @@ pub mod TaggedLaws
 pub mod NoteLaws
 pub mod MessageLaws
 pub mod Sizes
+pub mod Wanting
 pub mod SignersRead
 pub mod Taken
 pub mod Refused

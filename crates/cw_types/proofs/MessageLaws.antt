@@ -4,14 +4,16 @@ use Rattle.std.proofs.Common.{ap, subst, ◌∙◌, inl, inr}
 use Rattle.std.proofs.lemmas.List.{append-nil}
 use Rattle.cw_base.specs.declared.hash.Digest32.{Digest32}
 use Rattle.cw_base.specs.Bytes.{be16, be64}
-use Rattle.cw_base.specs.Reading.{Reading, byte_at, be16_at, be64_at}
+use Rattle.cw_base.specs.Reading.{Reading, be16_at, be64_at}
 use Rattle.cw_base.specs.ReadsBack.{ReadsBack, IsBytes}
-use Rattle.cw_base.proofs.ReadingLaws.{IsBytes-rest, bind_ok, byte_reads_back, be16_reads_back, be64_reads_back}
+use Rattle.cw_base.proofs.ReadingLaws.{be16_reads_back}
+use Rattle.cw_base.proofs.ReadingLaws.{be64_reads_back}
 use Rattle.cw_base.specs.Counts.{Counts}
 use Rattle.cw_tree.specs.Chunks.{Piece}
 use Rattle.cw_tree.specs.Formats.{chunk_at, chunk_bytes, piece_of_bytes, widest}
 use Rattle.cw_tree.specs.Fits.{FitsChunk}
 use Rattle.cw_tree.proofs.FormatLaws.{chunk_reads_back, chunk_bytes_same}
+use Rattle.cw_types.specs.Commit.{digest_bytes}
 use Rattle.cw_types.specs.Encoding.{block_bytes, cert_bytes, commitment_bytes, message_bytes}
 use Rattle.cw_types.specs.Encoding.{vote_bytes}
 use Rattle.cw_types.specs.Reading.{as_read, block_at, cert_at, commitment_at, message_behind}
@@ -21,37 +23,34 @@ use Rattle.cw_types.specs.Values.{IsBlock, IsCert, IsCommitment, IsMember, IsMes
 use Rattle.cw_types.specs.Values.{IsVote}
 use Rattle.cw_types.proofs.FormatLaws.{as_ok, block_reads_back, commitment_reads_back}
 use Rattle.cw_types.proofs.TaggedLaws.{IsForm, cert_reads_back, form_again, form_found, pair_at}
-use Rattle.cw_types.proofs.TaggedLaws.{pair_reads_back, paired, pick, vote_reads_back}
+use Rattle.cw_types.proofs.TaggedLaws.{pair_reads_back, paired, pick, tag_found, vote_reads_back}
 use Rattle.cw_types.specs.declared.commitment.Commitment.{Commitment}
 use Rattle.cw_types.specs.declared.message.Message.{Message}
 use Rattle.cw_types.specs.declared.message.Message.TheVariants as message
 
 -- ---- chunks
 
-abbrev content : Digest32 → List ℕ
-content d = d.0
-
 abbrev digest : List ℕ → Digest32
 digest bytes = record { 0 = bytes }
 
-digests_of_contents : (ds : List Digest32) → map digest (map content ds) ≡ ds
+digests_of_contents : (ds : List Digest32) → map digest (map digest_bytes ds) ≡ ds
 digests_of_contents [] = refl
 digests_of_contents (d ∷ ds) = ap (λ (xs : List Digest32). d ∷ xs) (digests_of_contents ds)
 
-contents_of_digests : (xs : List (List ℕ)) → map content (map digest xs) ≡ xs
+contents_of_digests : (xs : List (List ℕ)) → map digest_bytes (map digest xs) ≡ xs
 contents_of_digests [] = refl
 contents_of_digests (x ∷ xs) = ap (λ (ys : List (List ℕ)). x ∷ ys) (contents_of_digests xs)
 
-pub digests_back : (p : Piece Digest32) → with_digests (piece_of_bytes content p) ≡ p
+pub digests_back : (p : Piece Digest32) → with_digests (piece_of_bytes digest_bytes p) ≡ p
 digests_back p =
     ap (λ (ds : List Digest32). let q : Piece Digest32 = record { shard = p.shard; index = p.index; leaf_count = p.leaf_count; siblings = ds } in q) (digests_of_contents p.siblings)
 
-contents_back : (p : Piece (List ℕ)) → piece_of_bytes content (with_digests p) ≡ p
+contents_back : (p : Piece (List ℕ)) → piece_of_bytes digest_bytes (with_digests p) ≡ p
 contents_back p =
     ap (λ (ds : List (List ℕ)). let q : Piece (List ℕ) = record { shard = p.shard; index = p.index; leaf_count = p.leaf_count; siblings = ds } in q) (contents_of_digests p.siblings)
 
 shard_reads_back : (config : Counts)
-    → ReadsBack (chunk_bytes content) (IsShard config) (shard_at config)
+    → ReadsBack (chunk_bytes digest_bytes) (IsShard config) (shard_at config)
 unfolding shard_at
 shard_reads_back config = record { found = found; again = again }
   where
@@ -60,20 +59,20 @@ shard_reads_back config = record { found = found; again = again }
 
     found : (bytes rest : List ℕ) (p : Piece Digest32) → IsBytes bytes
         → as_read with_digests (chunk_at 32 (widest config.minimum 1048745) bytes) ≡ Ok (p, rest)
-        → (bytes ≡ chunk_bytes content p ++ rest) × IsShard config p
+        → (bytes ≡ chunk_bytes digest_bytes p ++ rest) × IsShard config p
     found bytes rest p fits e =
         let a = as_ok with_digests (chunk_at 32 (widest config.minimum 1048745) bytes) (p, rest) e in
         let h = (chunk_reads_back 32 (widest config.minimum 1048745)).found bytes a.0.1 a.0.0 fits a.1 in
-        let back : a.0.0 ≡ piece_of_bytes content p = sym (contents_back a.0.0) ∙ ap (piece_of_bytes content) a.2 in
-        let parts : bytes ≡ chunk_bytes (λ sibling. sibling) (piece_of_bytes content p) ++ rest =
-        h.0 ∙ ap (λ q. chunk_bytes (λ sibling. sibling) q ++ a.0.1) back ∙ ap (λ xs. chunk_bytes (λ sibling. sibling) (piece_of_bytes content p) ++ xs) a.3 in
-        (parts ∙ ap (λ xs. xs ++ rest) (sym (chunk_bytes_same content p)), subst (λ (q : Piece (List ℕ)). FitsChunk 32 (widest config.minimum 1048745) q) back h.1)
+        let back : a.0.0 ≡ piece_of_bytes digest_bytes p = sym (contents_back a.0.0) ∙ ap (piece_of_bytes digest_bytes) a.2 in
+        let parts : bytes ≡ chunk_bytes (λ sibling. sibling) (piece_of_bytes digest_bytes p) ++ rest =
+        h.0 ∙ ap (λ q. chunk_bytes (λ sibling. sibling) q ++ a.0.1) back ∙ ap (λ xs. chunk_bytes (λ sibling. sibling) (piece_of_bytes digest_bytes p) ++ xs) a.3 in
+        (parts ∙ ap (λ xs. xs ++ rest) (sym (chunk_bytes_same digest_bytes p)), subst (λ (q : Piece (List ℕ)). FitsChunk 32 (widest config.minimum 1048745) q) back h.1)
 
     again : (p : Piece Digest32) (rest : List ℕ) → IsShard config p
-        → as_read with_digests (chunk_at 32 (widest config.minimum 1048745) (chunk_bytes content p ++ rest)) ≡ Ok (p, rest)
+        → as_read with_digests (chunk_at 32 (widest config.minimum 1048745) (chunk_bytes digest_bytes p ++ rest)) ≡ Ok (p, rest)
     again p rest fits =
-        ap (λ xs. as_read with_digests (chunk_at 32 (widest config.minimum 1048745) (xs ++ rest))) (chunk_bytes_same content p)
-        ∙ ap (as_read with_digests) ((chunk_reads_back 32 (widest config.minimum 1048745)).again (piece_of_bytes content p) rest fits)
+        ap (λ xs. as_read with_digests (chunk_at 32 (widest config.minimum 1048745) (xs ++ rest))) (chunk_bytes_same digest_bytes p)
+        ∙ ap (as_read with_digests) ((chunk_reads_back 32 (widest config.minimum 1048745)).again (piece_of_bytes digest_bytes p) rest fits)
         ∙ ap (λ (q : Piece Digest32). let x : Reading (Piece Digest32) = Ok (q, rest) in x) (digests_back p)
 
 -- ---- messages
@@ -81,7 +80,7 @@ shard_reads_back config = record { found = found; again = again }
 abbrev shards_at : List ℕ → Reading (Commitment × Piece Digest32)
 shards_at = pair_at commitment_at (λ c. shard_at c.config)
 
-shards : IsForm (λ p. commitment_bytes p.0 ++ chunk_bytes content p.1) (λ p. IsCommitment p.0 × IsShard p.0.config p.1) shards_at (λ p. message.Shard p.0 p.1) message_bytes IsMessage 0
+shards : IsForm (λ p. commitment_bytes p.0 ++ chunk_bytes digest_bytes p.1) (λ p. IsCommitment p.0 × IsShard p.0.config p.1) shards_at (λ p. message.Shard p.0 p.1) message_bytes IsMessage 0
 unfolding message_bytes
 shards = record {
   part = pair_reads_back _ _ _ _ (λ c. IsShard c.config) (λ c. shard_at c.config) commitment_reads_back (λ c h. shard_reads_back c.config);
@@ -113,15 +112,12 @@ blocks = record { part = block_reads_back; form = λ p h. refl; fits = λ p h. h
 tagged_found : (bytes rest : List ℕ) (m : Message) → IsBytes bytes
     → tagged_message_at bytes ≡ Ok (m, rest) → (bytes ≡ message_bytes m ++ rest) × IsMessage m
 unfolding tagged_message_at
-tagged_found bytes rest m fits e =
-    let a = bind_ok (byte_at bytes) (λ t. message_behind t.0 t.1) (m, rest) e in
-    let tag = byte_reads_back.found bytes a.0.1 a.0.0 fits a.1 in
-    let more = chosen a.0.0 a.0.1 (IsBytes-rest bytes (a.0.0 ∷ []) a.0.1 tag.0 fits) a.2 in
-    (tag.0 ∙ more.0, more.1)
+tagged_found = tag_found message_bytes IsMessage message_behind chosen
   where
-    chosen : (n : ℕ) (bytes : List ℕ) → IsBytes bytes → message_behind n bytes ≡ Ok (m, rest)
+    chosen : (n : ℕ) (bytes rest : List ℕ) (m : Message) → IsBytes bytes
+        → message_behind n bytes ≡ Ok (m, rest)
         → (n ∷ bytes ≡ message_bytes m ++ rest) × IsMessage m
-    chosen n bytes fits e =
+    chosen n bytes rest m fits e =
         elim (pick n 0 _ _ _ e) [
           | inl h ↦ form_found _ _ _ _ _ _ _ shards n bytes rest m fits h.0 (sym (paired (commitment_at bytes) (λ c. shard_at c.config) message.Shard) ∙ h.1)
           | inr e ↦ elim (pick n 1 _ _ _ e) [

@@ -1,12 +1,12 @@
 -- Notes read back as they were written, and what is read is in its format.
-use Rattle.std.proofs.Common.{◌≡◌, ℕ, ◌%◌, ◌^◌, ◌<◌, true, List, [], ◌∷◌}
+use Rattle.std.proofs.Common.{◌≡◌, ℕ, ◌%◌, ◌^◌, ◌<◌, true, List, ◌∷◌}
 use Rattle.std.proofs.Common.{◌++◌, length, Ok, Err, refl, sym, ap, subst, ◌∙◌, append_assoc, inl}
 use Rattle.std.proofs.Common.{inr}
 use Rattle.std.specs.List.{flat_map}
 use Rattle.cw_base.specs.Bytes.{be16, be64}
 use Rattle.cw_base.specs.Reading.{Reading, ◌>>=◌, byte_at, be64_at}
 use Rattle.cw_base.specs.ReadsBack.{ReadsBack, IsBytes}
-use Rattle.cw_base.proofs.ReadingLaws.{IsBytes-rest, bind_ok, byte_reads_back, be64_reads_back}
+use Rattle.cw_base.proofs.ReadingLaws.{be64_reads_back}
 use Rattle.cw_types.specs.Encoding.{block_bytes, cert_bytes, commitment_bytes, epoch_tag_bytes}
 use Rattle.cw_types.specs.Encoding.{note_bytes, proposal_bytes, vote_bytes}
 use Rattle.cw_types.specs.Reading.{as_read, block_at, commitment_at, formed_vote_at, height_at}
@@ -19,7 +19,7 @@ use Rattle.cw_types.proofs.FormatLaws.{height_reads_back, later_epoch_reads_back
 use Rattle.cw_types.proofs.FormatLaws.{proposal_reads_back, tested}
 use Rattle.cw_types.proofs.TaggedLaws.{IsForm, IsKind, Signed, form_again, form_found, front_of}
 use Rattle.cw_types.proofs.TaggedLaws.{kind_again, kind_first, kind_later, later_alike, own_epoch}
-use Rattle.cw_types.proofs.TaggedLaws.{pair_at, pair_reads_back, paired, pick, signed_bytes}
+use Rattle.cw_types.proofs.TaggedLaws.{pair_at, pair_reads_back, paired, pick, tag_found, signed_bytes}
 use Rattle.cw_types.proofs.TaggedLaws.{signed_reads_back, vote_reads_back}
 use Rattle.cw_types.specs.Votes.{is_ordered, well_formed}
 use Rattle.cw_types.specs.declared.commitment.Commitment.{Commitment}
@@ -124,13 +124,10 @@ verified_as e left = paired (be64_at left) (λ _. commitment_at) (note.Verified 
 
 pub note_reads_back : ReadsBack note_bytes IsNote note_at
 unfolding note_at
-note_reads_back = record { found = found; again = again }
+note_reads_back = record { found = tag_found note_bytes IsNote note_behind chosen; again = again }
   where
-    Found : List ℕ → List ℕ → Note → Type 0
-    Found bytes rest x = (bytes ≡ note_bytes x ++ rest) × IsNote x
-
     chosen : (n : ℕ) (bytes rest : List ℕ) (x : Note) → IsBytes bytes
-        → note_behind n bytes ≡ Ok (x, rest) → Found (n ∷ bytes) rest x
+        → note_behind n bytes ≡ Ok (x, rest) → (n ∷ bytes ≡ note_bytes x ++ rest) × IsNote x
     chosen n bytes rest x fits e =
         elim (pick n 0 _ _ _ e) [
           | inl h ↦ form_found _ _ _ _ _ _ _ blocks n bytes rest x fits h.0 (sym (paired (commitment_at bytes) (λ _. block_at) note.Block) ∙ h.1)
@@ -166,14 +163,6 @@ note_reads_back = record { found = found; again = again }
             ]
           ]
         ]
-
-    found : (bytes rest : List ℕ) (x : Note) → IsBytes bytes
-        → byte_at bytes >>= (λ t. note_behind t.0 t.1) ≡ Ok (x, rest) → Found bytes rest x
-    found bytes rest x fits e =
-        let a = bind_ok (byte_at bytes) (λ t. note_behind t.0 t.1) (x, rest) e in
-        let tag = byte_reads_back.found bytes a.0.1 a.0.0 fits a.1 in
-        let more = chosen a.0.0 a.0.1 rest x (IsBytes-rest bytes (a.0.0 ∷ []) a.0.1 tag.0 fits) a.2 in
-        (tag.0 ∙ more.0, more.1)
 
     again : (x : Note) (rest : List ℕ) → IsNote x
         → byte_at (note_bytes x ++ rest) >>= (λ t. note_behind t.0 t.1) ≡ Ok (x, rest)

@@ -6,19 +6,12 @@ use Rattle.std.proofs.Common.{length-append}
 use Rattle.std.proofs.lemmas.Bool.{ltb-false}
 use Rattle.cw_base.specs.Bytes.{be16, be64, varint, varint_within}
 use Rattle.cw_base.specs.Config.{config_bytes}
+use Rattle.cw_base.proofs.Lengths.{length-be16, length-be64}
 use Rattle.cw_types.specs.Block.{Block}
 use Rattle.cw_types.specs.declared.block.Context.{Context}
 use Rattle.cw_types.specs.declared.commitment.Commitment.{Commitment}
 use Rattle.cw_types.specs.Encoding.{commitment_bytes, context_bytes, block_bytes}
 use Rattle.cw_types.specs.Values.{IsBlock, IsCommitment, IsContext}
-
-length-be16 : (n : ℕ) → length (be16 n) ≡ 2
-unfolding be16
-length-be16 n = refl
-
-length-be64 : (n : ℕ) → length (be64 n) ≡ 8
-unfolding be64
-length-be64 n = refl
 
 -- a number below 128 to a power has at most that many bytes
 varint_short : (more fuel n : ℕ) → n < 128 ^ suc more → length (varint_within fuel n) ≤ suc more

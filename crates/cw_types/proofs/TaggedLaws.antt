@@ -10,7 +10,8 @@ use Rattle.std.proofs.Math.Dec.{eqb-suc-zero}
 use Rattle.cw_base.specs.Bytes.{be16, be64}
 use Rattle.cw_base.specs.Reading.{Reading, ◌>>=◌, byte_at, be16_at, be64_at}
 use Rattle.cw_base.specs.ReadsBack.{ReadsBack, IsBytes}
-use Rattle.cw_base.proofs.ReadingLaws.{IsBytes-rest, bind_ok, read_is, byte_reads_back, be16_reads_back, be64_reads_back}
+use Rattle.cw_base.proofs.ReadingLaws.{IsBytes-rest, bind_ok, read_is, byte_reads_back}
+use Rattle.cw_base.proofs.ReadingLaws.{be16_reads_back, be64_reads_back}
 use Rattle.cw_types.specs.Encoding.{proposal_bytes, tag_bytes, vote_bytes, cert_bytes}
 use Rattle.cw_types.specs.Reading.{as_read, later_at, later_epoch_at, proposal_at, vote_behind}
 use Rattle.cw_types.specs.Reading.{vote_at, signers_at, signed_at, cert_at}
@@ -32,6 +33,20 @@ pick n k r s y = go (eqb n k) refl
     go : (b : Bool) → eqb n k ≡ b → cond b r s ≡ Ok y → ((n ≡ k) × (r ≡ Ok y)) ⊎ (s ≡ Ok y)
     go true is e = inl (eqb-true n k is, e)
     go false is e = inr e
+
+-- what is read behind its tag
+pub tag_found : {D : Type 0} (format : D → List ℕ) (Q : D → Type 0)
+    → (choice : ℕ → List ℕ → Reading D)
+    → ((n : ℕ) (bytes rest : List ℕ) (d : D) → IsBytes bytes → choice n bytes ≡ Ok (d, rest)
+    → (n ∷ bytes ≡ format d ++ rest) × Q d)
+    → (bytes rest : List ℕ) (d : D) → IsBytes bytes
+    → byte_at bytes >>= (λ t. choice t.0 t.1) ≡ Ok (d, rest) → (bytes ≡ format d ++ rest) × Q d
+tag_found format Q choice chosen bytes rest d fits e =
+    let a = bind_ok (byte_at bytes) (λ t. choice t.0 t.1) (d, rest) e in
+    let tag = byte_reads_back.found bytes a.0.1 a.0.0 fits a.1 in
+    let left = IsBytes-rest bytes (a.0.0 ∷ []) a.0.1 tag.0 fits in
+    let more = chosen a.0.0 a.0.1 rest d left a.2 in
+    (tag.0 ∙ more.0, more.1)
 
 positive : (n : ℕ) → 0 < n → eqb n 0 ≡ false
 positive zero h = absurd (omega arith)
@@ -210,13 +225,10 @@ finalizes = record {
 
 pub vote_reads_back : ReadsBack vote_bytes IsVote vote_at
 unfolding vote_at
-vote_reads_back = record { found = found; again = again }
+vote_reads_back = record { found = tag_found vote_bytes IsVote vote_behind chosen; again = again }
   where
-    Found : List ℕ → List ℕ → Vote → Type 0
-    Found bytes rest v = (bytes ≡ vote_bytes v ++ rest) × IsVote v
-
     chosen : (n : ℕ) (bytes rest : List ℕ) (v : Vote) → IsBytes bytes
-        → vote_behind n bytes ≡ Ok (v, rest) → Found (n ∷ bytes) rest v
+        → vote_behind n bytes ≡ Ok (v, rest) → (n ∷ bytes ≡ vote_bytes v ++ rest) × IsVote v
     chosen n bytes rest v fits e =
         elim (pick n 0 _ _ _ e) [
           | inl h ↦ kind_first _ _ _ _ _ _ _ _ notarizes n bytes rest v fits h.0 h.1
@@ -237,14 +249,6 @@ vote_reads_back = record { found = found; again = again }
             ]
           ]
         ]
-
-    found : (bytes rest : List ℕ) (v : Vote) → IsBytes bytes
-        → byte_at bytes >>= (λ t. vote_behind t.0 t.1) ≡ Ok (v, rest) → Found bytes rest v
-    found bytes rest v fits e =
-        let a = bind_ok (byte_at bytes) (λ t. vote_behind t.0 t.1) (v, rest) e in
-        let tag = byte_reads_back.found bytes a.0.1 a.0.0 fits a.1 in
-        let more = chosen a.0.0 a.0.1 rest v (IsBytes-rest bytes (a.0.0 ∷ []) a.0.1 tag.0 fits) a.2 in
-        (tag.0 ∙ more.0, more.1)
 
     again : (v : Vote) (rest : List ℕ) → IsVote v
         → byte_at (vote_bytes v ++ rest) >>= (λ t. vote_behind t.0 t.1) ≡ Ok (v, rest)

@@ -1,9 +1,9 @@
 -- How each value is read at the front of bytes, item by item in the order of its format: the value
 -- and the bytes after it, or the first refusal and the bytes that it leaves.
-use Rattle.std.specs.Prelude.{ℕ, zero, suc, ◌-◌, ◌^◌, ◌==◌, Bool, nat_lt, if◌then◌else◌}
+use Rattle.std.specs.Prelude.{ℕ, zero, suc, ◌-◌, ◌^◌, ◌==◌, ◌≢◌, Bool, nat_lt, if◌then◌else◌}
 use Rattle.std.specs.Prelude.{List, [], ◌∷◌, map, Option, Some, None, unwrap_or, Ok, Err}
 use Rattle.cw_base.specs.declared.hash.Digest32.{Digest32}
-use Rattle.cw_base.specs.declared.reader.CodecError.TheVariants.{TooLong, Invalid}
+use Rattle.cw_base.specs.declared.reader.CodecError.TheVariants.{TooLong, Invalid, NoMemory}
 use Rattle.cw_base.specs.Reading.{Reading, ◌>>=◌, byte_at, bytes_at, be16_at, be64_at}
 use Rattle.cw_base.specs.Reading.{varint_at, config_at}
 use Rattle.cw_base.specs.Counts.{Counts}
@@ -30,6 +30,10 @@ valid_if passes x = if passes then Ok x else Err (Invalid, x.1)
 abbrev pub as_read : {A B : Type 0} → (A → B) → Reading A → Reading B
 as_read make (Ok x) = Ok (make x.0, x.1)
 as_read make (Err e) = Err e
+
+-- no bytes are refused for want of memory
+abbrev pub NeverWantsMemory : {A : Type 0} → (List ℕ → Reading A) → Type 0
+NeverWantsMemory read = (bytes left : List ℕ) → read bytes ≢ Err (NoMemory, left)
 
 -- thirty-two bytes
 unfoldable pub digest_at : List ℕ → Reading Digest32

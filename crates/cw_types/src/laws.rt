@@ -3,6 +3,7 @@
 ghost use Rattle.std.specs.Prelude.{◌≡◌, ◌<◌, ◌≤◌, ◌^◌, ℕ, IsTrue, List, Some, length};
 ghost use Rattle.cw_base.specs.ReadsBack.{IsBytes, ReadsBack};
 ghost use Rattle.std.specs.List.{AllByRecursion};
+ghost use Rattle.cw_base.specs.Counts.{Counts};
 ghost use Rattle.cw_types.specs.Block.{Block as BlockValue};
 ghost use Rattle.cw_types.specs.Handoff.{IsMapped};
 ghost use Rattle.cw_types.specs.declared.handoff.Handoff.{Handoff as HandoffValue};
@@ -10,7 +11,8 @@ ghost use Rattle.cw_types.specs.Epochs.{members_in, rises_from, size};
 ghost use Rattle.cw_types.specs.Encoding.{block_bytes, commitment_bytes, context_bytes, cert_bytes};
 ghost use Rattle.cw_types.specs.Encoding.{message_bytes, note_bytes, proposal_bytes, vote_bytes};
 ghost use Rattle.cw_types.specs.Reading.{block_at, block_in, cert_at, commitment_at, context_at};
-ghost use Rattle.cw_types.specs.Reading.{message_of, note_at, proposal_at, vote_at};
+ghost use Rattle.cw_types.specs.Reading.{message_of, note_at, proposal_at, shard_at};
+ghost use Rattle.cw_types.specs.Reading.{tagged_message_at, vote_at, NeverWantsMemory};
 ghost use Rattle.cw_types.specs.Values.{AreMembers, is_storable, IsBlock, IsCert, IsCommitment};
 ghost use Rattle.cw_types.specs.Values.{IsContext, IsMessage, IsNote, IsPrefixFree, IsProposal};
 ghost use Rattle.cw_types.specs.Values.{IsVote};
@@ -45,6 +47,20 @@ pub fn forms_are_told()
     ensures vote { IsPrefixFree vote_bytes IsVote }
     ensures cert { IsPrefixFree cert_bytes IsCert }
     ensures note { IsPrefixFree note_bytes IsNote }
+{}
+
+/// No format refuses bytes for want of memory: a reader that does so has read a whole value, and
+/// stands behind it.
+pub fn formats_want_no_memory()
+    ensures commitment { NeverWantsMemory commitment_at }
+    ensures context { NeverWantsMemory context_at }
+    ensures block { NeverWantsMemory block_at }
+    ensures proposal { (epoch : ℕ) → NeverWantsMemory (proposal_at epoch) }
+    ensures vote { NeverWantsMemory vote_at }
+    ensures cert { NeverWantsMemory cert_at }
+    ensures note { NeverWantsMemory note_at }
+    ensures shard { (config : Counts) → NeverWantsMemory (shard_at config) }
+    ensures message { NeverWantsMemory tagged_message_at }
 {}
 
 /// A text that is read as a block is that block's bytes and no other's, and the bytes of a block
