@@ -5,7 +5,8 @@ use Rattle.cw_base.specs.Counts.{Counts}
 use Rattle.std.proofs.lemmas.Bool.{cases_lt}
 use Rattle.std.proofs.lemmas.List.{get_or_append_left, get_or_push, length-map}
 use Rattle.std.proofs.Math.Nat.{le-min}
-use Rattle.cw_base.specs.Rows.{listed, length-listed}
+use Rattle.cw_base.specs.Rows.{listed}
+use Rattle.cw_base.proofs.Listed.{length-listed}
 use Rattle.cw_tree.specs.Chunks.{Piece}
 use Rattle.cw_tree.specs.Formats.{chunk_bytes, widest, piece_of_bytes}
 use Rattle.cw_tree.specs.Fits.{FitsChunk}

@@ -6,12 +6,12 @@ use Rattle.std.proofs.lemmas.Nat.{from_be_bytes-to_be_bytes_4}
 use Rattle.std.proofs.lemmas.List.{take_more, take_at, map-append, get_or-take, drop-take, length-take-le, take-take, take_rest}
 use Rattle.std.proofs.lemmas.List.Elements.{All-append}
 use Rattle.cw_base.specs.Bytes.{be32}
-use Rattle.rs_code.specs.Rows.{joined, row_of, code_row, row_through, AreRows, OriginalsComeFirst}
+use Rattle.rs_code.specs.Rows.{joined, code_row, row_through, AreRows, OriginalsComeFirst}
+use Rattle.cw_base.specs.Rows.{row_of, row_hashes}
 use Rattle.rs_code.specs.Plans.{Shape}
 use Rattle.cw_coding.proofs.Joined.{joined_same, joined_rows, length-joined, length-symbol_bytes}
 use Rattle.cw_coding.specs.Checked.{Checked}
 use Rattle.cw_tree.specs.Widths.{shard_len}
-use Rattle.cw_base.specs.Rows.{row_hashes}
 use Rattle.cw_coding.specs.Layout.{layout, row_at, row_digests}
 use Rattle.cw_tree.specs.Tree.{root_of}
 use Rattle.rs_code.proofs.IndexLaws.{AreSound-push}

@@ -1,8 +1,9 @@
 -- What a text is encoded to.
 use Rattle.std.proofs.Common.{◌≡◌, ℕ, ◌+◌, ◌<◌, ◌≤◌, List, length, sym, ap, ◌∙◌, arith, refl, Some}
 use Rattle.cw_base.specs.Counts.{Counts}
-use Rattle.cw_base.specs.Rows.{listed, listed_same, length-listed, row_hashes}
-use Rattle.rs_code.specs.Rows.{joined, row_of}
+use Rattle.cw_base.specs.Rows.{listed, row_hashes, row_of}
+use Rattle.cw_base.proofs.Listed.{listed_same, length-listed}
+use Rattle.rs_code.specs.Rows.{joined}
 use Rattle.cw_tree.specs.Chunks.{Piece}
 use Rattle.cw_tree.specs.Tree.{root_of, path_of}
 use Rattle.cw_tree.specs.Widths.{shard_len}

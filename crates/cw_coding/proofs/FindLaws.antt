@@ -2,7 +2,8 @@
 use Rattle.std.proofs.Common.{◌≡◌, ◌≢◌, ℕ, ◌<◌, ◌≤◌, List, length, get_or, slice_get, Some, refl, sym, ap, subst, ◌∙◌, arith}
 use Rattle.std.proofs.lemmas.Option.{slice_get_read}
 use Rattle.cw_base.specs.Counts.{Counts}
-use Rattle.cw_base.specs.Rows.{listed, length-listed}
+use Rattle.cw_base.specs.Rows.{listed}
+use Rattle.cw_base.proofs.Listed.{length-listed}
 use Rattle.rs_code.specs.Codeword.{ArePoints}
 use Rattle.rs_code.specs.Rows.{OriginalsComeFirst, RowsFixCodeword}
 use Rattle.cw_tree.specs.Chunks.{Piece}

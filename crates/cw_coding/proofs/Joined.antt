@@ -2,7 +2,8 @@
 use Rattle.std.proofs.Common.{◌≡◌, ℕ, suc, zero, ◌+◌, ◌*◌, ◌<◌, List, [], ◌++◌, length, drop, take, refl, sym, ap, ◌∙◌, arith, add-one, length-append}
 use Rattle.std.proofs.lemmas.List.{take_all}
 use Rattle.std.proofs.Math.Seq.{take-add}
-use Rattle.rs_code.specs.Rows.{joined, row_of, symbol_bytes}
+use Rattle.rs_code.specs.Rows.{joined, symbol_bytes}
+use Rattle.cw_base.specs.Rows.{row_of}
 
 pub joined_none : (row : ℕ → List ℕ) → joined 0 row ≡ []
 unfolding joined

@@ -4,9 +4,10 @@ use Rattle.std.proofs.Math.Nat.{mul-le-mul_right, mul-le-mul, mul-div_cancel}
 use Rattle.std.proofs.lemmas.List.{length-append, length-replicate, drop_at, take_all, drop-append-le, take-append-le, length-drop, append-nil}
 use Rattle.std.proofs.lemmas.Bool.{cases_lt}
 use Rattle.cw_base.specs.Bytes.{be32}
-use Rattle.rs_code.specs.Rows.{joined, row_of, code_row, AreRows, OriginalsComeFirst}
+use Rattle.rs_code.specs.Rows.{joined, code_row, AreRows, OriginalsComeFirst}
+use Rattle.cw_base.specs.Rows.{row_of, listed, row_hashes}
 use Rattle.cw_coding.proofs.Joined.{joined_none, joined_more, length-joined, length-symbol_bytes}
-use Rattle.cw_base.specs.Rows.{listed, listed_same, length-listed, row_hashes}
+use Rattle.cw_base.proofs.Listed.{listed_same, length-listed}
 use Rattle.cw_tree.specs.Widths.{shard_len}
 use Rattle.cw_tree.proofs.WidthLaws.{shard_len-even, shard_len-covers, shard_len-some}
 use Rattle.cw_coding.specs.Layout.{layout, row_at, row_digests}
@@ -130,9 +131,9 @@ text_hashes {D = D} hash k m text rows width some w r =
     let long : length rows ≡ (k + m) * width = ap length r ∙ length-joined (k + m) width (row_at k text) (λ i l. length-row_at k text i ∙ sym w) in
     let positive : 0 < width = rw w (shard_len-some (length text) k some) in
     let count : length rows / width ≡ k + m = ap (λ (x : ℕ). x / width) long ∙ whole_rows (k + m) width positive in
-    ap (λ (n : ℕ). listed n (λ i. hash (take width (drop (i * width) rows)))) count
-    ∙ listed_same (k + m) (λ i. hash (take width (drop (i * width) rows))) (λ i. hash (row_at k text i))
-    (λ i l. ap hash (sym (row_of_is rows width i) ∙ row_of-text k m text rows width i w r l))
+    ap (λ (n : ℕ). listed n (λ i. hash (row_of rows width i))) count
+    ∙ listed_same (k + m) (λ i. hash (row_of rows width i)) (λ i. hash (row_at k text i))
+    (λ i l. ap hash (row_of-text k m text rows width i w r l))
 
 -- ---- bytes
 bytes_append : (xs ys : List ℕ) → ((i : ℕ) → get_or xs i 0 < 256) → ((i : ℕ) → get_or ys i 0 < 256) → (i : ℕ) → get_or (xs ++ ys) i 0 < 256

@@ -3,7 +3,7 @@ use Rattle.std.proofs.Common.{◌≡◌, ℕ, suc, zero, ◌+◌, ◌*◌, ◌<�
 use Rattle.std.specs.List.{filter, flat_map}
 use Rattle.std.proofs.lemmas.List.{length-append, map-append, length-map, take_at, drop_at, get_or-take, drop-drop, length-take-le}
 use Rattle.std.proofs.lemmas.List.Elements.{All-append}
-use Rattle.rs_code.specs.Rows.{row_of}
+use Rattle.cw_base.specs.Rows.{row_of}
 use Rattle.rs_code.specs.Indices.{AreSound}
 use Rattle.cw_coding.specs.Checked.{Checked}
 use Rattle.cw_base.specs.Counts.{Counts}

@@ -1,7 +1,7 @@
 -- What chunks are decoded, and to what.
 use Rattle.std.specs.Prelude.{◌≡◌, ◌≢◌, ℕ, ◌-◌, ◌^◌, ◌<◌, ◌≤◌, ◌==◌, nat_lt, not, if◌then◌else◌, ◌⊎◌, List, [], ◌∷◌, ◌++◌, length, take, map, filter, All, Contains, Some, slice_get, slice_index}
 use Rattle.cw_base.specs.Counts.{Counts}
-use Rattle.rs_code.specs.Rows.{row_of}
+use Rattle.cw_base.specs.Rows.{row_of}
 use Rattle.rs_code.specs.Indices.{AreSound}
 use Rattle.cw_coding.specs.Checked.{Checked}
 use Rattle.cw_coding.specs.Layout.{row_at, row_digests}

@@ -2,7 +2,7 @@
 
 ghost use Rattle.std.specs.Prelude.{◌≡◌, ℕ, ◌+◌, ◌-◌, ◌*◌, ◌^◌, ◌<◌, ◌≤◌, ◌↔◌, List, length, IfOk};
 ghost use Rattle.std.specs.Prelude.{IfErr, IsTrue, MatchResult};
-ghost use Rattle.rs_code.specs.Rows.{row_of};
+ghost use Rattle.cw_base.specs.Rows.{row_of};
 ghost use Rattle.cw_base.specs.Rows.{listed, row_hashes};
 ghost use Rattle.cw_tree.specs.Tree.{path_of};
 ghost use Rattle.cw_coding.specs.Totals.{total_of};

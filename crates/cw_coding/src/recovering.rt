@@ -2,7 +2,8 @@
 
 ghost use Rattle.std.specs.Prelude.{◌≡◌, ℕ, ◌+◌, ◌-◌, ◌*◌, ◌%◌, ◌^◌, ◌<◌, ◌≤◌, ◌↔◌, List, length};
 ghost use Rattle.std.specs.Prelude.{slice_index, take, IfOk, IsTrue, Some, MatchOption};
-ghost use Rattle.rs_code.specs.Rows.{joined, row_of, code_row};
+ghost use Rattle.rs_code.specs.Rows.{joined, code_row};
+ghost use Rattle.cw_base.specs.Rows.{row_of};
 ghost use Rattle.rs_code.specs.Indices.{AreSound};
 ghost use Rattle.cw_tree.specs.Tree.{root_of};
 ghost use Rattle.cw_tree.specs.Widths.{shard_len};

@@ -1,5 +1,5 @@
 use Rattle.std.proofs.Common.{sym, ◌∙◌}
-use Rattle.cw_base.specs.Rows.{listed_none, push_listed}
+use Rattle.cw_base.proofs.Listed.{listed_none, push_listed}
 use Rattle.cw_coding.proofs.encoding.cut.Goals as goal
 
 pub loop-i-init : goal.loop-i-init

@@ -1,6 +1,5 @@
 use Rattle.std.proofs.Common.{◌≡◌, length}
-use Rattle.rs_code.specs.Rows.{row_of}
-use Rattle.cw_base.specs.Rows.{listed}
+use Rattle.cw_base.specs.Rows.{row_of, listed}
 use Rattle.cw_tree.specs.Tree.{path_of}
 use Rattle.cw_coding.proofs.encoding.cut.Given as goal
 

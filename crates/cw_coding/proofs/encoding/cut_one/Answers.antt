@@ -1,5 +1,5 @@
 use Rattle.std.proofs.Common.{◌≡◌, ◌∙◌, refl}
-use Rattle.rs_code.specs.Rows.{row_of}
+use Rattle.cw_base.specs.Rows.{row_of}
 use Rattle.cw_tree.specs.Tree.{path_of}
 use Rattle.cw_coding.proofs.LayoutLaws.{row_is}
 use Rattle.cw_coding.proofs.encoding.cut_one.Goals as goal

@@ -1,5 +1,5 @@
 use Rattle.std.proofs.Common.{◌≡◌, ℕ, ◌<◌, get_or, ◌∙◌, ap, sym, Some}
-use Rattle.rs_code.specs.Rows.{row_of}
+use Rattle.cw_base.specs.Rows.{row_of}
 use Rattle.cw_coding.specs.Layout.{row_at, row_digests}
 use Rattle.cw_tree.specs.Tree.{root_of}
 use Rattle.cw_coding.proofs.DecodingLaws.{row_by_index, some_same, root_is}

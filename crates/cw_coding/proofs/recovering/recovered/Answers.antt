@@ -1,5 +1,6 @@
 use Rattle.std.proofs.Common.{◌≡◌, ℕ, ◌+◌, ◌<◌, List, get_or, ◌∙◌, ap, sym, IsTrue, arith, rules}
-use Rattle.rs_code.specs.Rows.{row_of, code_row, joined}
+use Rattle.rs_code.specs.Rows.{code_row, joined}
+use Rattle.cw_base.specs.Rows.{row_of}
 use Rattle.cw_coding.specs.Layout.{layout, row_at, row_digests}
 use Rattle.cw_tree.specs.Tree.{root_of}
 use Rattle.rs_code.proofs.IndexLaws.{AreSound-in_range}

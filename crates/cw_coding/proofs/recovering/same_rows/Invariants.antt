@@ -1,5 +1,5 @@
 use Rattle.std.proofs.Common.{◌≡◌, ℕ, ◌<◌, get_or}
-use Rattle.rs_code.specs.Rows.{row_of}
+use Rattle.cw_base.specs.Rows.{row_of}
 use Rattle.cw_coding.proofs.recovering.same_rows.Given as goal
 
 abbrev pub invariant-loop-s : goal.invariant-loop-s
