@@ -12,7 +12,7 @@ use Rattle.cw_base.specs.Counts.{Counts}
 use Rattle.cw_base.specs.declared.hash.Digest32.{Digest32}
 use Rattle.rs_code.specs.Indices.{AreSound}
 use Rattle.cw_coding.specs.Checked.{Checked}
-use Rattle.cw_coding.specs.Decoding.{IsDecoding, IsRefusal, compared, in_order, indices_of}
+use Rattle.cw_coding.specs.Decoding.{IsDecoding, IsDecodeRefusal, compared, in_order, indices_of}
 use Rattle.cw_coding.specs.Encoding.{IsCodable, IsEncoding, piece_of}
 use Rattle.cw_coding.specs.Layout.{row_at}
 use Rattle.cw_coding.specs.Laws.{AnyEnoughDecode, IsChunkOf}
@@ -161,7 +161,7 @@ module _ (hash : List ℕ → Digest32) (c : Commitment) where
 
   -- chunks that are refused, and not for want of memory, are of no text
   pub of_no_text : (chunks : List Chunk) (e : ReedSolomonError) → IsCoder (rules_of hash no_committees) → AnyEnoughDecode hash digest_bytes → AreSufficient hash c chunks
-      → IsRefusal hash digest_bytes c.config c.root (map (checked_of hash c) chunks) e → e ≢ NoMemory → (text : List ℕ) → length text ≤ 1048745 → AreOfText hash c chunks text → ⊥
+      → IsDecodeRefusal hash digest_bytes c.config c.root (map (checked_of hash c) chunks) e → e ≢ NoMemory → (text : List ℕ) → length text ≤ 1048745 → AreOfText hash c chunks text → ⊥
   of_no_text chunks e coder any are refusal other text short of =
       let some = are.some in
       let few = few_of hash c chunks are in

@@ -14,7 +14,7 @@ use Rattle.cw_coding.specs.declared.error.RsError.TheVariants.{InvalidShardSize}
 use Rattle.cw_coding.specs.declared.error.ReedSolomonError.{ReedSolomonError}
 use Rattle.cw_coding.specs.declared.error.ReedSolomonError.TheVariants.{ReedSolomon, Inconsistent, InvalidProof, NotEnoughChunks, DuplicateIndex, InvalidDataLength, InvalidIndex, TooManyTotalShards, CommitmentMismatch, NoMemory}
 use Rattle.cw_coding.specs.Checked.{Checked}
-use Rattle.cw_coding.specs.Decoding.{IsDecoding, IsRefusal, IsMisfit, IsFirstMisfit, AreDecodable, indices_of, in_order, compared, width_of}
+use Rattle.cw_coding.specs.Decoding.{IsDecoding, IsDecodeRefusal, IsMisfit, IsFirstMisfit, AreDecodable, indices_of, in_order, compared, width_of}
 use Rattle.cw_coding.specs.Encoding.{IsEncoding}
 use Rattle.cw_coding.specs.Layout.{layout, row_at}
 use Rattle.cw_coding.specs.Laws.{IsChunkOf, AreDecodedTo}
@@ -151,7 +151,7 @@ module _ {D : Type 0} (hash : List ℕ → D) (content : D → List ℕ) (c : Co
             same_by_rows law fix k other text P some (omega arith) d.short e.codable.short d.bytes bytes points
             (λ s l. sym (row other d s l) ∙ row text decodes s l)
 
-    taken : (x : ReedSolomonError) → IsRefusal hash content c root chunks x → x ≡ NoMemory
+    taken : (x : ReedSolomonError) → IsDecodeRefusal hash content c root chunks x → x ≡ NoMemory
     taken (TooManyTotalShards n) h = absurd (let total = e.total in omega (arith, h.1))
     taken NotEnoughChunks h = absurd (⊎_elim {C = ⊥} (λ none. omega (arith, none, some, enough)) (λ few. omega (arith, few.few, enough)) h.1)
     taken (ReedSolomon (InvalidShardSize n)) h = absurd (h.3 decodable.width)

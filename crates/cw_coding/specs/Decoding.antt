@@ -89,9 +89,9 @@ pub record Fits {D : Type 0} (hash : List ℕ → D) (content : D → List ℕ) 
   pub rooted : root_of hash content (row_digests hash k m text) ≡ Some root
 
 -- why chunks are refused: the first cause
-abbrev pub IsRefusal : {D : Type 0} → (hash : List ℕ → D) (content : D → List ℕ) (c : Counts) (root : D) (chunks : List (Checked D)) → ReedSolomonError → Type 0
-IsRefusal hash content c root chunks NoMemory = Unit {0}
-IsRefusal hash content c root chunks Inconsistent =
+abbrev pub IsDecodeRefusal : {D : Type 0} → (hash : List ℕ → D) (content : D → List ℕ) (c : Counts) (root : D) (chunks : List (Checked D)) → ReedSolomonError → Type 0
+IsDecodeRefusal hash content c root chunks NoMemory = Unit {0}
+IsDecodeRefusal hash content c root chunks Inconsistent =
     IsChunkRefusal c root chunks Inconsistent
     ⊎ (AreDecodable c root chunks × ((text : List ℕ) → IsDecoding hash content c root chunks text → ⊥))
-IsRefusal hash content c root chunks e = IsChunkRefusal c root chunks e
+IsDecodeRefusal hash content c root chunks e = IsChunkRefusal c root chunks e

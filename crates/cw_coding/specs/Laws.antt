@@ -11,7 +11,7 @@ use Rattle.cw_coding.specs.declared.error.ReedSolomonError.{ReedSolomonError}
 use Rattle.cw_coding.specs.declared.error.ReedSolomonError.TheVariants.{NoMemory}
 use Rattle.cw_coding.specs.Checked.{Checked}
 use Rattle.cw_coding.specs.Checking.{IsUnder}
-use Rattle.cw_coding.specs.Decoding.{IsDecoding, IsRefusal, indices_of}
+use Rattle.cw_coding.specs.Decoding.{IsDecoding, IsDecodeRefusal, indices_of}
 use Rattle.cw_coding.specs.Encoding.{IsEncoding}
 use Rattle.cw_coding.specs.Layout.{row_at}
 use Rattle.cw_coding.specs.Totals.{total_of}
@@ -50,7 +50,7 @@ pub record IsChunkOf {D : Type 0} (c : Counts) (text : List ℕ) (root : D) (x :
 pub record AreDecodedTo {D : Type 0} (hash : List ℕ → D) (content : D → List ℕ) (c : Counts) (root : D) (chunks : List (Checked D)) (text : List ℕ) : Type 0 where
   pub decodes : IsDecoding hash content c root chunks text
   pub alone : (other : List ℕ) → IsDecoding hash content c root chunks other → other ≡ text
-  pub taken : (e : ReedSolomonError) → IsRefusal hash content c root chunks e → e ≡ NoMemory
+  pub taken : (e : ReedSolomonError) → IsDecodeRefusal hash content c root chunks e → e ≡ NoMemory
 
 -- any chunks of different indices of one encoding, at least the minimum, are decoded to its text
 abbrev pub AnyEnoughDecode : {D : Type 0} → (hash : List ℕ → D) (content : D → List ℕ) → Type 0

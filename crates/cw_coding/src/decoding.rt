@@ -2,7 +2,7 @@
 
 ghost use Rattle.std.specs.Prelude.{◌≡◌, ◌⊎◌, map, IfOk, IfErr};
 ghost use Rattle.std.specs.Iterator.{IsFinite, Drains};
-ghost use Rattle.cw_coding.specs.Decoding.{AreDecodable, IsDecoding, IsRefusal};
+ghost use Rattle.cw_coding.specs.Decoding.{AreDecodable, IsDecoding, IsDecodeRefusal};
 
 use crate::checking::CheckedChunk;
 use crate::encoding::{extra, minimum};
@@ -25,7 +25,7 @@ fn decode_chunks<H: Hasher, R: Threads + Sync, S: Strategy>(
     ensures decoded { IfOk result (λ text. AreDecodable config.now commitment.now shards.now
         × IsDecoding H.digest_of H.Digest.content config.now commitment.now shards.now text.items) }
     ensures refused { IfErr result
-        (λ e. IsRefusal H.digest_of H.Digest.content config.now commitment.now shards.now e) }
+        (λ e. IsDecodeRefusal H.digest_of H.Digest.content config.now commitment.now shards.now e) }
 {
     let width = match decodable::<H>(alloc, config, commitment, shards) {
         Ok(width) => width,
@@ -63,7 +63,7 @@ pub(crate) fn decode_text<
         (map (λ chunk. chunk.now) given) text.items) }
     ensures refused { IfErr result (λ e. (e ≡ ReedSolomonError.NoMemory)
         ⊎ ((given : _) × Drains I.next_gives shards given
-        × IsRefusal H.digest_of H.Digest.content config.now commitment.now
+        × IsDecodeRefusal H.digest_of H.Digest.content config.now commitment.now
         (map (λ chunk. chunk.now) given) e)) }
 {
     let chunks = gathered::<H, I>(alloc, shards)?;

@@ -8,7 +8,7 @@ ghost use Rattle.cw_tree.specs.Widths.{shard_len};
 ghost use Rattle.cw_coding.specs.Totals.{total_of};
 ghost use Rattle.cw_coding.specs.Encoding.{IsEncodable, IsEncodeRefusal, IsEncoding};
 ghost use Rattle.cw_coding.specs.Checking.{Checks, AllCheck};
-ghost use Rattle.cw_coding.specs.Decoding.{AreDecodable, IsDecoding, IsRefusal};
+ghost use Rattle.cw_coding.specs.Decoding.{AreDecodable, IsDecoding, IsDecodeRefusal};
 
 use crate::checking::{CheckedChunk, check_all, check_chunk};
 use crate::decoding::decode_text;
@@ -148,8 +148,8 @@ pub trait Scheme {
             (map (λ chunk. chunk.now) given) text.items) }
         ensures refused { IfErr result (λ e. (e ≡ ReedSolomonError.NoMemory)
             ⊎ ((given : _) × Drains I.next_gives shards given
-            × IsRefusal Self.Hasher.digest_of Self.Hasher.Digest.content config.now commitment.now
-            (map (λ chunk. chunk.now) given) e)) }
+            × IsDecodeRefusal Self.Hasher.digest_of Self.Hasher.Digest.content config.now
+            commitment.now (map (λ chunk. chunk.now) given) e)) }
     {
         decode_text::<Self::Hasher, I, R, S>(rt, alloc, config, commitment, shards, strategy)
     }

@@ -19,7 +19,7 @@ use Rattle.cw_types.specs.Encoding.{commitment_bytes, context_bytes, block_bytes
 use Rattle.cw_types.specs.Reading.{valid_if, as_read, digest_at, commitment_at, context_at}
 use Rattle.cw_types.specs.Reading.{height_at, payload_at, block_at, block_in, to_the_end}
 use Rattle.cw_types.specs.Reading.{proposal_at, later_epoch_at}
-use Rattle.cw_types.specs.Values.{IsBlock, IsCommitment, IsContext, IsDigest, IsHeight}
+use Rattle.cw_types.specs.Values.{IsBlock, IsCommitment, IsContext, IsDigest, IsBlockHeight}
 use Rattle.cw_types.specs.Values.{IsLaterEpoch, IsPayload, IsPrefixFree, IsProposal}
 use Rattle.cw_types.specs.declared.commitment.Commitment.{Commitment}
 use Rattle.cw_types.specs.declared.block.Context.{Context}
@@ -192,7 +192,7 @@ tested {A = A} f P r test h = record { found = found; again = again }
         → r (f x ++ rest) >>= (λ x. valid_if (test x.0) x) ≡ Ok (x, rest)
     again x rest fits = rw (h.again x rest fits.0, fits.1) refl
 
-pub height_reads_back : ReadsBack be64 IsHeight height_at
+pub height_reads_back : ReadsBack be64 IsBlockHeight height_at
 unfolding height_at
 height_reads_back = alike _ _ _ _ height_at (λ n h. refl) (λ n h. ltb-true n (2 ^ 64 - 1) h.1) (λ n h. (omega arith, lt-ltb n (2 ^ 64 - 1) h)) (tested be64 (λ n. n < 2 ^ 64) be64_at (λ n. nat_lt n (2 ^ 64 - 1)) be64_reads_back)
 
@@ -245,7 +245,7 @@ block_reads_back = alike _ _ _ _ block_at regrouped to from (
     at_height context parent height b = IsPayload b.payload × (b ≡ the_block context parent height b.payload)
 
     at_parent : Context → Digest32 → Block → Type 0
-    at_parent context parent b = IsHeight b.height × at_height context parent b.height b
+    at_parent context parent b = IsBlockHeight b.height × at_height context parent b.height b
 
     at_context : Context → Block → Type 0
     at_context context b = IsDigest b.parent × at_parent context b.parent b

@@ -12,7 +12,7 @@ use Rattle.cw_types.specs.Encoding.{note_bytes, proposal_bytes, vote_bytes}
 use Rattle.cw_types.specs.Reading.{as_read, block_at, commitment_at, formed_vote_at, height_at}
 use Rattle.cw_types.specs.Reading.{later_epoch_at, note_at, note_behind, ordered_at, proposal_at}
 use Rattle.cw_types.specs.Reading.{signed_at, verified_at, vote_at}
-use Rattle.cw_types.specs.Values.{IsBlock, IsCert, IsCommitment, IsHeight, IsLaterEpoch, IsNote}
+use Rattle.cw_types.specs.Values.{IsBlock, IsCert, IsCommitment, IsBlockHeight, IsLaterEpoch, IsNote}
 use Rattle.cw_types.specs.Values.{IsProposal, IsVote}
 use Rattle.cw_types.proofs.FormatLaws.{alike, behind, block_reads_back, commitment_reads_back}
 use Rattle.cw_types.proofs.FormatLaws.{height_reads_back, later_epoch_reads_back}
@@ -83,15 +83,15 @@ certs : IsForm cert_bytes IsFormedCert formed_cert_at note.Cert note_bytes IsNot
 unfolding note_bytes
 certs = record { part = formed_cert_reads_back; form = λ p h. refl; fits = λ p h. h }
 
-acks : IsForm be64 IsHeight height_at note.Ack note_bytes IsNote 5
+acks : IsForm be64 IsBlockHeight height_at note.Ack note_bytes IsNote 5
 unfolding note_bytes
 acks = record { part = height_reads_back; form = λ p h. refl; fits = λ p h. h }
 
-floors : IsForm be64 IsHeight height_at note.Floor note_bytes IsNote 6
+floors : IsForm be64 IsBlockHeight height_at note.Floor note_bytes IsNote 6
 unfolding note_bytes
 floors = record { part = height_reads_back; form = λ p h. refl; fits = λ p h. h }
 
-prunes : IsForm be64 IsHeight height_at note.Prune note_bytes IsNote 7
+prunes : IsForm be64 IsBlockHeight height_at note.Prune note_bytes IsNote 7
 unfolding note_bytes
 prunes = record { part = height_reads_back; form = λ p h. refl; fits = λ p h. h }
 

@@ -42,8 +42,8 @@ pub record IsContext (c : Context) : Type 0 where
   pub parent : IsCommitment c.parent
 
 -- a height is below 2^64 - 1
-abbrev pub IsHeight : ℕ → Type 0
-IsHeight height = height < 2 ^ 64 - 1
+abbrev pub IsBlockHeight : ℕ → Type 0
+IsBlockHeight height = height < 2 ^ 64 - 1
 
 -- a payload has at most 1,048,576 bytes
 abbrev pub IsPayload : List ℕ → Type 0
@@ -53,7 +53,7 @@ IsPayload payload = length payload ≤ 1048576
 pub record IsBlock (b : Block) : Type 0 where
   pub context : IsContext b.context
   pub parent : IsDigest b.parent
-  pub height : IsHeight b.height
+  pub height : IsBlockHeight b.height
   pub payload : IsPayload b.payload
 
 -- a proposal of an epoch has two views in eight bytes each, and a commitment
@@ -110,9 +110,9 @@ IsNote (note.Verified epoch view c) = (epoch < 2 ^ 64) × ((view < 2 ^ 64) × Is
 IsNote (note.Certified p) = (p.epoch < 2 ^ 64) × (IsProposal p.epoch p × (is_ordered p ≡ true))
 IsNote (note.Vote v) = IsVote v × (well_formed v ≡ true)
 IsNote (note.Cert c) = IsCert c × (well_formed c.vote ≡ true)
-IsNote (note.Ack height) = IsHeight height
-IsNote (note.Floor height) = IsHeight height
-IsNote (note.Prune height) = IsHeight height
+IsNote (note.Ack height) = IsBlockHeight height
+IsNote (note.Floor height) = IsBlockHeight height
+IsNote (note.Prune height) = IsBlockHeight height
 IsNote (note.Epoch epoch c) = IsLaterEpoch epoch × IsCommitment c
 
 -- a chunk of a config: its shard is no wider than those of the longest block, and its siblings are

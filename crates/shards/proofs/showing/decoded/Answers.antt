@@ -1,6 +1,6 @@
 use Rattle.std.proofs.Common.{◌≡◌, ◌≢◌, ◌∙◌, IfNone, IfOk, List, None, Ok, Err, Option, Result, Some, ℕ, inl, inr, map, subst}
 use Rattle.std.proofs.lemmas.Iterator.{YieldsList-from_slice, items_from_drains}
-use Rattle.cw_coding.specs.Decoding.{IsDecoding, IsRefusal}
+use Rattle.cw_coding.specs.Decoding.{IsDecoding, IsDecodeRefusal}
 use Rattle.cw_coding.specs.declared.error.ReedSolomonError.TheVariants.{NoMemory}
 use Rattle.cw_rules_coded.specs.Coded.{digest_bytes}
 use Rattle.shards.specs.Enough.{AreOfText, checked_of, no_committees}
@@ -35,5 +35,5 @@ returns-clause-none g c =
           items_from_drains d.0 (d.1.1.0, d.1.1.1, λ _. (d.1.0, d.1.1.2)) (YieldsList-from_slice _ (c.iter.ensures.rest ∙ (c.deref.ensures.value ∙ c.in_ok-checked.ensures.checked))) in
           of_no_text hash no_committees c.args.commitment.now chunks c.in-Err.error
           (c.coder_laws.ensures hash no_committees) c.encodings_decode.ensures.any_enough c.requires
-          (subst (λ xs. IsRefusal hash digest_bytes c.args.commitment.now.config c.args.commitment.now.root xs c.in-Err.error) given d.2) ne)
+          (subst (λ xs. IsDecodeRefusal hash digest_bytes c.args.commitment.now.config c.args.commitment.now.root xs c.in-Err.error) given d.2) ne)
     ])
