@@ -1,18 +1,15 @@
 -- The text that chunks are decoded to, and the texts that they aren't.
-use Rattle.std.proofs.Common.{◌≡◌, ◌≢◌, ℕ, zero, suc, ◌+◌, ◌-◌, ◌*◌, ◌/◌, ◌%◌, ◌^◌, ◌<◌, ◌≤◌, Bool, true, false, cond, not, ◌==◌, nat_lt, List, [], ◌∷◌, ◌++◌, length, map, take, get_or, slice_get, slice_index, All, Some, refl, sym, ◌∙◌, ap, subst, arith, ◌⊎◌, inl, inr, length-append, if◌then◌else◌}
+use Rattle.std.proofs.Common.{◌≡◌, ◌≢◌, ℕ, zero, suc, ◌+◌, ◌-◌, ◌*◌, ◌/◌, ◌%◌, ◌^◌, ◌<◌, ◌≤◌, Bool, true, false, cond, not, ◌==◌, List, [], ◌∷◌, ◌++◌, length, map, get_or, slice_get, Some, refl, sym, ◌∙◌, ap, arith, ◌⊎◌, if◌then◌else◌}
 use Rattle.std.specs.List.{AllByRecursion, filter}
-use Rattle.std.proofs.lemmas.Bool.{cases_lt}
-use Rattle.std.proofs.lemmas.List.{length-map, take_all}
-use Rattle.std.proofs.lemmas.List.Elements.{All-from_recursion, recursion_from_All}
-use Rattle.std.proofs.lemmas.Option.{same_Some, slice_get_past}
+use Rattle.std.proofs.lemmas.List.{length-map}
+use Rattle.std.proofs.lemmas.List.Elements.{All-from_recursion}
 use Rattle.std.proofs.Math.Nat.{mul-le-mul_left}
 use Rattle.cw_base.specs.Rows.{listed}
-use Rattle.cw_base.proofs.Listed.{length-listed}
 use Rattle.cw_base.specs.Counts.{Counts}
 use Rattle.cw_base.specs.declared.hash.Digest32.{Digest32}
 use Rattle.rs_code.specs.Indices.{AreSound}
 use Rattle.cw_coding.specs.Checked.{Checked}
-use Rattle.cw_coding.specs.Decoding.{IsDecoding, IsDecodeRefusal, compared, in_order, indices_of}
+use Rattle.cw_coding.specs.Decoding.{IsDecoding, IsDecodeRefusal, indices_of}
 use Rattle.cw_coding.specs.Encoding.{IsCodable, IsEncoding, piece_of}
 use Rattle.cw_coding.specs.Layout.{row_at}
 use Rattle.cw_coding.specs.Laws.{AnyEnoughDecode, IsChunkOf}
@@ -22,35 +19,16 @@ use Rattle.cw_coding.specs.declared.error.ReedSolomonError.TheVariants.{NoMemory
 use Rattle.cw_tree.proofs.WidthLaws.{product_fits}
 use Rattle.cw_tree.specs.Widths.{shard_len}
 use Rattle.cw_types.specs.declared.commitment.Commitment.{Commitment}
-use Rattle.cw_rules.specs.Coding.{AreApart, AreByteChunks, AreBytes, IsCoder}
+use Rattle.cw_rules.specs.Coding.{AreApart, AreByteChunks, IsCoder}
 use Rattle.cw_rules.specs.Rules.{Chunk}
 use Rattle.cw_rules_coded.specs.Coded.{code_rows, digest_bytes}
 use Rattle.shards.specs.Enough.{AreOfText, AreUnder, checked_of, no_committees}
 use Rattle.shards.specs.Kept.{rules_of}
-use Rattle.shards.proofs.Decoded.{all_bytes, listed_at}
+use Rattle.shards.proofs.Decoded.{all_bytes, all_in_order, listed_from}
+use Rattle.cw_rules_coded.proofs.RealCoder.{listed_at, byte_at}
 use Rattle.shards.proofs.Standing.{stands_under}
 use Rattle.cw_archive.specs.Showing.{AreSufficient}
 use Rattle.cw_archive.proofs.CheckLemmas.{all_under, few_of}
-
-listed_from : {X : Type 0} (n : ℕ) (f : ℕ → X) (i : ℕ) (x : X) → slice_get (listed n f) i ≡ Some x → f i ≡ x
-listed_from n f i x h = go (cases_lt i n)
-  where
-    go : (i < n) ⊎ (n ≤ i) → f i ≡ x
-    go (inl less) = same_Some (f i) x (sym (listed_at n f i less) ∙ h)
-    go (inr more) = cc (slice_get_past (listed n f) i (omega (arith, length-listed n f)))
-
-pub byte_at : (xs : List ℕ) → AreBytes xs → (i : ℕ) → slice_index xs i < 256
-byte_at [] a i = omega arith
-byte_at (x ∷ xs) a zero = a.0
-byte_at (x ∷ xs) a (suc i) = byte_at xs a.1 i
-
--- what holds of those that pass a test, and of those that don't, holds of all
-all_parts : {X : Type 0} (P : X → Type 0) (p : X → Bool) (xs : List X) → AllByRecursion P (filter p xs ++ filter (λ x. not (p x)) xs) → AllByRecursion P xs
-all_parts {X = X} P p xs h = let both = split (filter p xs) (filter (λ x. not (p x)) xs) h in join xs both.0 both.1
-  where
-    split : (ys zs : List X) → AllByRecursion P (ys ++ zs) → AllByRecursion P ys × AllByRecursion P zs
-    split [] zs a = (tt, a)
-    split (y ∷ ys) zs a = let more = split ys zs a.1 in ((a.0, more.0), more.1)
 
     join : (ys : List X) → AllByRecursion P (filter p ys) → AllByRecursion P (filter (λ x. not (p x)) ys) → AllByRecursion P ys
     join [] a b = tt
@@ -60,33 +38,6 @@ all_parts {X = X} P p xs h = let both = split (filter p xs) (filter (λ x. not (
             → AllByRecursion P (cond t (y ∷ filter p ys) (filter p ys)) → AllByRecursion P (cond (not t) (y ∷ filter (λ x. not (p x)) ys) (filter (λ x. not (p x)) ys)) → AllByRecursion P (y ∷ ys)
         go true more a b = (a.0, more a.1 b)
         go false more a b = (b.0, more a b.1)
-
-length-parts : {X : Type 0} (p : X → Bool) (xs : List X) → length (filter p xs ++ filter (λ x. not (p x)) xs) ≡ length xs
-length-parts {X = X} p xs = length-append (filter p xs) (filter (λ x. not (p x)) xs) ∙ sum xs
-  where
-    sum : (ys : List X) → length (filter p ys) + length (filter (λ x. not (p x)) ys) ≡ length ys
-    sum [] = refl
-    sum (y ∷ ys) = go (p y) (sum ys)
-      where
-        go : (b : Bool) → length (filter p ys) + length (filter (λ x. not (p x)) ys) ≡ length ys →
-            length (cond b (y ∷ filter p ys) (filter p ys)) + length (cond (not b) (y ∷ filter (λ x. not (p x)) ys) (filter (λ x. not (p x)) ys)) ≡ suc (length ys)
-        go true e = omega arith
-        go false e = omega arith
-
--- all of k chunks are compared
-all_compared : (k : ℕ) (cs : List (Checked Digest32)) → length cs ≡ k → compared k cs ≡ k
-all_compared k cs e = go (length (filter (λ (c : Checked Digest32). nat_lt c.index k) cs) == k)
-  where
-    go : (b : Bool) → (if b then length cs else k) ≡ k
-    go true = e
-    go false = refl
-
--- what holds of those that are compared holds of all
-all_in_order : (P : Checked Digest32 → Type 0) (k : ℕ) (cs : List (Checked Digest32)) → length cs ≡ k → All P (take (compared k cs) (in_order k cs)) → AllByRecursion P cs
-all_in_order P k cs e h =
-    let long = length-parts (λ (c : Checked Digest32). nat_lt c.index k) cs in
-    let whole : take (compared k cs) (in_order k cs) ≡ in_order k cs = take_all (compared k cs) (in_order k cs) (omega (arith, all_compared k cs e)) in
-    all_parts P (λ (c : Checked Digest32). nat_lt c.index k) cs (recursion_from_All P (in_order k cs) (subst (All P) whole h))
 
 -- ---- which texts are cut
 

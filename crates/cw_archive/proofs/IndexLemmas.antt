@@ -1,8 +1,8 @@
 -- The chunks of a commitment, by index.
-use Rattle.std.proofs.Common.{◌≡◌, ◌≢◌, ℕ, zero, suc, ◌+◌, ◌-◌, ◌<◌, ◌≤◌, ◌&&◌, ◌==◌, ◌⊎◌, inl, inr, Bool, true, false, cond, IsTrue, if◌then◌else◌, is_some, List, [], ◌∷◌, ◌++◌, length, map, take, Option, Some, None, refl, sym, ◌∙◌, ap, subst, arith, eqb-true, eq-eqb, add-zero, add-one, length-append}
-use Rattle.std.specs.List.{AllByRecursion, IsDistinct, cons_option, filter, filter_map, find, list_any, range_with_len}
-use Rattle.std.specs.Option.{option_map, option_to_list}
-use Rattle.std.proofs.lemmas.Bool.{cases_Bool, cases_eq, false≢true}
+use Rattle.std.proofs.Common.{◌≡◌, ◌≢◌, ℕ, zero, suc, ◌+◌, ◌-◌, ◌<◌, ◌≤◌, ◌&&◌, ◌==◌, ◌⊎◌, inl, inr, Bool, true, false, cond, if◌then◌else◌, is_some, List, [], ◌∷◌, ◌++◌, length, map, take, Option, Some, None, refl, sym, ◌∙◌, ap, subst, arith, eqb-true, eq-eqb, add-zero, add-one, length-append}
+use Rattle.std.specs.List.{AllByRecursion, IsDistinct, cons_option, filter, filter_map, find, range_with_len}
+use Rattle.std.specs.Option.{option_to_list}
+use Rattle.std.proofs.lemmas.Bool.{cases_eq, false≢true}
 use Rattle.std.proofs.lemmas.List.Elements.{filter_map-append}
 use Rattle.std.proofs.lemmas.Map.Keys.{IsDistinct-head, IsDistinct-tail}
 use Rattle.std.proofs.lemmas.Option.{same_Some}
@@ -19,6 +19,7 @@ use Rattle.cw_archive.specs.Keys.{IsInOrder, at_key, commitment_of, kept_at, key
 use Rattle.cw_archive.specs.declared.key.ChunkKey.{ChunkKey}
 use Rattle.cw_archive.proofs.KeyLemmas.{same_key_self}
 use Rattle.cw_archive.proofs.OrderLemmas.{Entries, Full, chunk_at_found, filled}
+use Rattle.cw_rules_coded.proofs.RealCoder.{take_front}
 
 -- ---- lists
 
@@ -53,10 +54,6 @@ answers_begin f a (suc i) (suc n) h = let more = answers_begin f (a + 1) i n (om
     go : {X : Type 0} (o : Option X) (xs ys rest : List X) → xs ≡ ys ++ rest → cons_option o xs ≡ cons_option o ys ++ rest
     go None xs ys rest e = e
     go (Some x) xs ys rest e = ap (λ zs. x ∷ zs) e
-
-take_front : {X : Type 0} (xs ys : List X) → take (length xs) (xs ++ ys) ≡ xs
-take_front [] ys = refl
-take_front (x ∷ xs) ys = ap (λ zs. x ∷ zs) (take_front xs ys)
 
 -- as many answers as are asked for are the first of all
 pub enough_answers : {X : Type 0} (f : ℕ → Option X) (k i n : ℕ) → i ≤ n → length (answers f 0 i) ≡ k → answers f 0 i ≡ take k (answers f 0 n)

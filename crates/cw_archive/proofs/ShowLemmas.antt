@@ -25,7 +25,7 @@ use Rattle.shards.specs.Kept.{rules_of}
 use Rattle.shards.proofs.Shown.{root_there}
 use Rattle.cw_archive.specs.Archived.{if_named, name_of, shown_by}
 use Rattle.cw_archive.specs.Showing.{IsOfNoBlock, Shows}
-use Rattle.cw_archive.proofs.DecodeLemmas.{byte_at}
+use Rattle.cw_rules_coded.proofs.RealCoder.{byte_at}
 
 module _ (hash : List ℕ → Digest32) (c : Commitment) where
   -- chunks of a text show what the text is read as

@@ -12,10 +12,10 @@ use Rattle.cw_ledger.specs.Transfers.{applies, balances, first_balance, moved, m
 
 -- ---- one transfer, by what each account has
 
-same_is : (n m : ℕ) → n ≡ m → (n == m) ≡ true
+pub same_is : (n m : ℕ) → n ≡ m → (n == m) ≡ true
 same_is n m e = rw e (grind arith)
 
-other_is : (n m : ℕ) → (n ≡ m → ⊥) → (n == m) ≡ false
+pub other_is : (n m : ℕ) → (n ≡ m → ⊥) → (n == m) ≡ false
 other_is n m other = go (n == m) refl
   where
     go : (b : Bool) → (n == m) ≡ b → b ≡ false

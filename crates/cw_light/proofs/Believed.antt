@@ -1,8 +1,8 @@
 -- What a yes shows: the last block of the path is a link of the one chain, or two different blocks have one digest.
-use Rattle.std.proofs.Common.{◌≡◌, ◌≢◌, ℕ, zero, suc, ◌+◌, ◌<◌, Bool, true, false, ◌&&◌, ◌==◌, nat_le, nat_lt, cond, List, [], ◌∷◌, ◌++◌, Option, Some, None, IsTrue, slice_get, refl, sym, ◌∙◌, ap, subst, inl, inr, ◌⊎◌, arith, eqb-true, ne_eqb, leb-true, option_and_then, option_map, length, map, is_none, append-nil}
-use Rattle.std.specs.List.{AllByRecursion, last_or, list_all, list_any}
-use Rattle.std.specs.Option.{option_map_or, option_or}
-use Rattle.std.proofs.lemmas.Bool.{and_parts, cases_Bool, cond-false, cond-true, eqb-false, false≢true, or_cases}
+use Rattle.std.proofs.Common.{◌≡◌, ◌≢◌, ℕ, zero, suc, ◌+◌, ◌<◌, Bool, true, false, ◌&&◌, ◌==◌, nat_le, nat_lt, cond, List, [], ◌∷◌, ◌++◌, Option, Some, None, IsTrue, slice_get, refl, sym, ◌∙◌, ap, subst, inl, inr, ◌⊎◌, arith, eqb-true, ne_eqb, leb-true, option_and_then, option_map, length, append-nil}
+use Rattle.std.specs.List.{AllByRecursion, last_or, list_all}
+use Rattle.std.specs.Option.{option_map_or}
+use Rattle.std.proofs.lemmas.Bool.{and_parts, cases_Bool, cond-false, cond-true, eqb-false, false≢true}
 use Rattle.std.proofs.lemmas.Option.{same_Some}
 use Rattle.cw_base.specs.declared.hash.Digest32.{Digest32}
 use Rattle.cw_types.specs.declared.commitment.Commitment.{Commitment}
@@ -13,7 +13,7 @@ use Rattle.cw_types.specs.declared.vote.Proposal.{Proposal}
 use Rattle.cw_types.specs.declared.vote.Vote.{Vote}
 use Rattle.cw_types.specs.declared.vote.Vote.TheVariants.{Finalize, Notarize, Nullify}
 use Rattle.cw_types.specs.Block.{Block}
-use Rattle.cw_types.specs.Epochs.{is_member, members_in, rises_from, size}
+use Rattle.cw_types.specs.Epochs.{is_member, rises_from, size}
 use Rattle.cw_types.specs.Numbers.{quorum}
 use Rattle.cw_types.specs.Same.{same_block, same_commitment}
 use Rattle.cw_types.specs.Votes.{finalized, vote_epoch, well_formed}
@@ -22,59 +22,26 @@ use Rattle.cw_rules.specs.Chains.{Ends, Follow, IsChain, all_notes, block_under,
 use Rattle.cw_rules.specs.Fits.{block_fits}
 use Rattle.cw_rules.specs.Held.{noted_block_of}
 use Rattle.cw_rules.specs.Keeps.{AllKeep}
-use Rattle.cw_rules.specs.Notes.{has_vote}
 use Rattle.cw_rules.specs.Reached.{In, IsCluster, IsKnown, IsOneChain, members_of}
 use Rattle.cw_rules.specs.Report.{chain_of, handed_in, highest, report_of}
 use Rattle.cw_rules.specs.Rules.{Rules, commit, digest, genesis, genesis_commitment}
 use Rattle.cw_rules.specs.Stands.{AreLawful, Stands, backs_at}
-use Rattle.cw_rules.specs.Step.{Member, member_notes}
-use Rattle.cw_rules.specs.World.{Line, World, is_faulty, is_sent_vote, opening, signed}
-use Rattle.cw_rules.proofs.Blocks.{DownTo, IsOver, IsRooted, down_join, links_rooted, noted_commit, rooted_height, under_commit}
+use Rattle.cw_rules.specs.Step.{member_notes}
+use Rattle.cw_rules.specs.World.{Line, World, opening, signed}
+use Rattle.cw_rules.proofs.Blocks.{DownTo, IsOver, IsRooted, down_join, links_rooted, noted_commit, rooted_height, under_commit, first_in}
 use Rattle.cw_rules.proofs.Certified.{finalized_in}
 use Rattle.cw_rules.proofs.Descents.{Branch, High, Linked, branch_of, linked, one_chain}
 use Rattle.cw_rules.proofs.Grows.{holds_stands, meaning_closed}
 use Rattle.cw_rules.proofs.Runs.{Gave, IsClearRun, clear_reached, handed_parts, now_fronts}
 use Rattle.cw_types.proofs.Same.{same_block-true, same_block_self, same_commitment-true}
-use Rattle.cw_rules.proofs.Worlds.{IsWorldKept, get-map, kept_keep, kept_lawful}
+use Rattle.cw_rules.proofs.Worlds.{IsWorldKept, get-map, kept_keep, kept_lawful, signed_backs}
 use Rattle.cw_light.specs.Believing.{IsLinkAt}
 use Rattle.cw_light.specs.Checking.{answer, broken_at, broken_below, is_named_by, is_parent_of, path_answer}
 use Rattle.cw_light.specs.declared.check.Answer.{Answer}
 use Rattle.cw_light.specs.declared.check.Answer.TheVariants.{BadSigners, Broken, EmptyPath, NotFinal, Yes}
+use Rattle.cw_rules.proofs.Reports.{links_end}
 
 -- ---- who signed a vote backs it
-
-get-within : {X : Type 0} (xs : List X) (i : ℕ) → i < length xs → (x : X) × (slice_get xs i ≡ Some x)
-get-within [] i h = absurd (omega arith)
-get-within (x ∷ xs) zero h = (x, refl)
-get-within (x ∷ xs) (suc i) h = get-within xs i (omega arith)
-
-length-mapped : {X Y : Type 0} (f : X → Y) (xs : List X) → length (map f xs) ≡ length xs
-length-mapped f [] = refl
-length-mapped f (x ∷ xs) = ap suc (length-mapped f xs)
-
--- a member of an epoch is there
-member_below : (r : Rules) (script : List Line) → IsCluster r script → (epoch i : ℕ) → is_member r.epochs epoch i ≡ true → i < r.epochs.total
-member_below r script c epoch i h = among (members_in r.epochs epoch) (c.there epoch) h
-  where
-    among : (xs : List ℕ) → AllByRecursion (λ j. j < r.epochs.total) xs → list_any (λ j. j == i) xs ≡ true → i < r.epochs.total
-    among [] a h = absurd (false≢true h)
-    among (x ∷ xs) a h = go (or_cases (x == i) (list_any (λ j. j == i) xs) h) (among xs a.1)
-      where
-        go : ((x == i) ≡ true) ⊎ (list_any (λ j. j == i) xs ≡ true) → (list_any (λ j. j == i) xs ≡ true → i < r.epochs.total) → i < r.epochs.total
-        go (inl e) later = omega (arith, eqb-true x i e, a.0)
-        go (inr e) later = later e
-
--- in a kept world, who signed a vote backs it
-signed_backs : (r : Rules) (script : List Line) (w : World) → IsCluster r script → IsWorldKept r script w → (i : ℕ) (v : Vote) → is_member r.epochs (vote_epoch v) i ≡ true → signed w i v ≡ true → backs_at (members_of w) v i ≡ true
-signed_backs r script w c k i v is h = at (get-within w.members i (subst (λ n. i < n) (sym k.total ∙ length-mapped (option_map member_notes) w.members) (member_below r script c (vote_epoch v) i is)))
-  where
-    at : ((o : Option Member) × (slice_get w.members i ≡ Some o)) → backs_at (members_of w) v i ≡ true
-    at (None, e) = rw (get-map (option_map member_notes) w.members i None e) refl
-    at (Some m, e) = rw (get-map (option_map member_notes) w.members i (Some m) e) (by_signed (or_cases (is_faulty w i) (list_any (is_sent_vote i v) w.pool) h))
-      where
-        by_signed : (is_faulty w i ≡ true) ⊎ (list_any (is_sent_vote i v) w.pool ≡ true) → has_vote (member_notes m) v ≡ true
-        by_signed (inl f) = absurd (false≢true (sym (ap (λ o. option_map_or is_none o false) e) ∙ f))
-        by_signed (inr s) = (k.each i m e).sent v s
 
 -- the vote of a certificate that is valid by the world's table stands
 valid_stands : (r : Rules) (script : List Line) (w : World) → IsCluster r script → IsWorldKept r script w → (s : Cert) → is_valid r (signed w) s ≡ true → Stands r.epochs (members_of w) s.vote
@@ -154,10 +121,6 @@ follow_pop r w c a (y ∷ ys) x b f =
     let p = follow_pop r w (commit r y) y ys x b f.4 in
     record { follow = (f.0, f.1, f.2, f.3, p.follow); high = p.high; height = p.height; named = p.named; digests = p.digests; certified = p.certified }
 
-links_end : (r : Rules) (w : World) (steps : ℕ) (b : Block) → (xs : List Block) × (links_to r w steps b ≡ xs ++ b ∷ [])
-links_end r w zero b = ([], refl)
-links_end r w (suc steps) b = (option_map_or (links_to r w steps) (block_under r w b.context.parent) [], refl)
-
 -- the block of a chain that ends in it, as high as it is long, is rooted
 chain_root : (r : Rules) (w : World) (n : ℕ) (b : Block) → b.height ≡ n → IsChain r w (links_to r w n b) → IsRooted r w n b
 chain_root r w zero b e k = k.0
@@ -182,19 +145,6 @@ chain_root r w (suc n) b e k = go (block_under r w b.context.parent) refl k (cha
         (x, over, later x (omega (arith, over.height)) (subst (IsChain r w) (sym s) front))
 
 -- ---- known blocks
-
-pub first_in : (c : Commitment) (notes : List Note) (b : Block) → first_some (noted_block_of c) notes ≡ Some b → In (Note.Block c b) notes
-first_in c [] b h = cc
-first_in c (Note.Block d x ∷ notes) b h = go (cases_Bool (same_commitment c d)) (first_in c notes b)
-  where
-    go : (same_commitment c d ≡ true) ⊎ (same_commitment c d ≡ false) → (first_some (noted_block_of c) notes ≡ Some b → In (Note.Block c b) notes) → In (Note.Block c b) (Note.Block d x ∷ notes)
-    go (inl t) later =
-        let e = same_commitment-true c d t in
-        let f : Some x ≡ Some b = sym (ap (λ t. option_or (cond t (Some x) None) (first_some (noted_block_of c) notes)) t) ∙ h in
-        let g : x ≡ b = cc in
-        inl (λ i. Note.Block (e i) (sym g i))
-    go (inr f) later = inr (later (sym (ap (λ t. option_or (cond t (Some x) None) (first_some (noted_block_of c) notes)) f) ∙ h))
-first_in c (_ ∷ notes) b h = inr (first_in c notes b h)
 
 -- the block under a commitment is known
 pub known_under : (r : Rules) (w : World) (c : Commitment) (b : Block) → block_under r w c ≡ Some b → IsKnown r w b

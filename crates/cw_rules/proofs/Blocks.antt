@@ -50,7 +50,7 @@ each_in R before (x ∷ xs) n e (inr h) = each_in R (before ++ x ∷ []) xs n e.
 
 -- ---- blocks under commitments
 
-first_in : (c : Commitment) (notes : List Note) (b : Block) → first_some (noted_block_of c) notes ≡ Some b → In (Note.Block c b) notes
+pub first_in : (c : Commitment) (notes : List Note) (b : Block) → first_some (noted_block_of c) notes ≡ Some b → In (Note.Block c b) notes
 first_in c [] b h = cc
 first_in c (Note.Block d x ∷ notes) b h = go (cases_Bool (same_commitment c d)) (first_in c notes b)
   where

@@ -62,7 +62,7 @@ only_grows r w line i m at =
 
 -- ---- who is faulty
 
-set_flags : (os : List (Option Member)) (i : ℕ) (x y : Member) → slice_get os i ≡ Some (Some x) → map is_none (slice_set os i (Some y)) ≡ map is_none os
+pub set_flags : (os : List (Option Member)) (i : ℕ) (x y : Member) → slice_get os i ≡ Some (Some x) → map is_none (slice_set os i (Some y)) ≡ map is_none os
 set_flags [] i x y e = refl
 set_flags (o ∷ os) zero x y e = let same : o ≡ Some x = same_Some o (Some x) e in ap (λ (z : Option Member). is_none z ∷ map is_none os) (sym same)
 set_flags (o ∷ os) (suc i) x y e = ap (λ (l : List Bool). is_none o ∷ l) (set_flags os i x y e)

@@ -34,7 +34,7 @@ apart_more (x ∷ xs) y a b = (all_more xs a.0, apart_more xs y a.1 b.1)
     all_more [] c = (b.0, tt)
     all_more (z ∷ zs) c = (c.0, all_more zs c.1)
 
-all_taken : {X : Type 0} (P : X → Type 0) (n : ℕ) (xs : List X) → AllByRecursion P xs → AllByRecursion P (take n xs)
+pub all_taken : {X : Type 0} (P : X → Type 0) (n : ℕ) (xs : List X) → AllByRecursion P xs → AllByRecursion P (take n xs)
 all_taken P zero xs a = tt
 all_taken P (suc n) [] a = tt
 all_taken P (suc n) (x ∷ xs) a = (a.0, all_taken P n xs a.1)

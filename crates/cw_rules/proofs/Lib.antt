@@ -26,3 +26,4 @@ pub mod Heights
 pub mod Stores
 pub mod Changes
 pub mod Written
+pub mod Acks

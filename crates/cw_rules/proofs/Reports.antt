@@ -92,12 +92,12 @@ in_flat_at f x i low (suc len) le lt h = go (cases_Bool (nat_lt low i)) (in_flat
 -- ---- how long a chain is
 
 -- each link's height is its place
-follow_height : (r : Rules) (w : World) (c : Commitment) (a : Block) (bs : List Block) → Follow r w c a bs → (i : ℕ) (x : Block) → slice_get (a ∷ bs) i ≡ Some x → x.height ≡ a.height + i
+pub follow_height : (r : Rules) (w : World) (c : Commitment) (a : Block) (bs : List Block) → Follow r w c a bs → (i : ℕ) (x : Block) → slice_get (a ∷ bs) i ≡ Some x → x.height ≡ a.height + i
 follow_height r w c a bs f zero x h = let e : a ≡ x = same_Some a x h in omega (arith, ap (λ (b : Block). b.height) e)
 follow_height r w c a [] f (suc i) x h = cc
 follow_height r w c a (b ∷ bs) f (suc i) x h = omega (arith, f.0, follow_height r w (commit r b) b bs f.4 i x h)
 
-chain_height : (r : Rules) (w : World) (links : List Block) → IsChain r w links → (i : ℕ) (x : Block) → slice_get links i ≡ Some x → x.height ≡ i
+pub chain_height : (r : Rules) (w : World) (links : List Block) → IsChain r w links → (i : ℕ) (x : Block) → slice_get links i ≡ Some x → x.height ≡ i
 chain_height r w [] k i x h = absurd k
 chain_height r w (b ∷ bs) k i x h = omega (arith, ap (λ (y : Block). y.height) k.0, follow_height r w (genesis_commitment r) b bs k.1 i x h)
 
@@ -109,7 +109,7 @@ last_at (x ∷ xs) b = last_at xs b
 ends_high : (r : Rules) (w : World) (xs : List Block) (b : Block) → IsChain r w (xs ++ b ∷ []) → length (xs ++ b ∷ []) ≡ b.height + 1
 ends_high r w xs b k = omega (arith, chain_height r w (xs ++ b ∷ []) k (length xs) b (last_at xs b), length-append xs (b ∷ []))
 
-links_end : (r : Rules) (w : World) (steps : ℕ) (b : Block) → (xs : List Block) × (links_to r w steps b ≡ xs ++ b ∷ [])
+pub links_end : (r : Rules) (w : World) (steps : ℕ) (b : Block) → (xs : List Block) × (links_to r w steps b ≡ xs ++ b ∷ [])
 links_end r w zero b = ([], refl)
 links_end r w (suc steps) b = (option_map_or (links_to r w steps) (block_under r w b.context.parent) [], refl)
 

@@ -74,12 +74,12 @@ length-range : (low len : ℕ) → length (range_with_len low len) ≡ len
 length-range low zero = refl
 length-range low (suc len) = ap suc (length-range (low + 1) len)
 
-length-mapped : {X Y : Type 0} (f : X → Y) (xs : List X) → length (map f xs) ≡ length xs
+pub length-mapped : {X Y : Type 0} (f : X → Y) (xs : List X) → length (map f xs) ≡ length xs
 length-mapped f [] = refl
 length-mapped f (x ∷ xs) = ap suc (length-mapped f xs)
 
 -- a place below the length has an element
-get-within : {X : Type 0} (xs : List X) (i : ℕ) → i < length xs → (x : X) × (slice_get xs i ≡ Some x)
+pub get-within : {X : Type 0} (xs : List X) (i : ℕ) → i < length xs → (x : X) × (slice_get xs i ≡ Some x)
 get-within [] i h = absurd (omega arith)
 get-within (x ∷ xs) zero h = (x, refl)
 get-within (x ∷ xs) (suc i) h = get-within xs i (omega arith)
@@ -352,7 +352,7 @@ module _ (m : Meaning) (r : Rules) (sign : ℕ → Vote → Bool) (closed : IsCl
 -- ---- a member's turn
 
 -- a member of an epoch is there
-member_below : (r : Rules) (script : List Line) → IsCluster r script → (epoch i : ℕ) → is_member r.epochs epoch i ≡ true → i < r.epochs.total
+pub member_below : (r : Rules) (script : List Line) → IsCluster r script → (epoch i : ℕ) → is_member r.epochs epoch i ≡ true → i < r.epochs.total
 member_below r script c epoch i h = among (members_in r.epochs epoch) (c.there epoch) h
   where
     among : (xs : List ℕ) → AllByRecursion (λ j. j < r.epochs.total) xs → is_in xs i ≡ true → i < r.epochs.total
@@ -364,7 +364,7 @@ member_below r script c epoch i h = among (members_in r.epochs epoch) (c.there e
         go (inr e) later = later e
 
 -- in a kept world, who signed a vote backs it
-signed_backs : (r : Rules) (script : List Line) (w : World) → IsCluster r script → IsWorldKept r script w → (i : ℕ) (v : Vote) → is_member r.epochs (vote_epoch v) i ≡ true → signed w i v ≡ true → backs_at (members_of w) v i ≡ true
+pub signed_backs : (r : Rules) (script : List Line) (w : World) → IsCluster r script → IsWorldKept r script w → (i : ℕ) (v : Vote) → is_member r.epochs (vote_epoch v) i ≡ true → signed w i v ≡ true → backs_at (members_of w) v i ≡ true
 signed_backs r script w c k i v is h = at (get-within w.members i (subst (λ n. i < n) (sym k.total ∙ length-mapped (option_map member_notes) w.members) (member_below r script c (vote_epoch v) i is)))
   where
     at : ((o : Option Member) × (slice_get w.members i ≡ Some o)) → backs_at (members_of w) v i ≡ true

@@ -1,12 +1,12 @@
 -- Each block that is noted in a run can be written, where what the script brings in can. So its bytes tell it.
-use Rattle.std.proofs.Common.{◌≡◌, ℕ, zero, suc, ◌+◌, ◌-◌, ◌*◌, ◌/◌, ◌%◌, ◌^◌, ◌<◌, ◌≤◌, Bool, true, false, ◌&&◌, ◌||◌, ◌==◌, not, cond, max, nat_lt, nat_le, List, [], ◌∷◌, ◌++◌, Option, Some, None, IsTrue, is_some, length, map, filter, filter_map, flat_map, slice_get, get_or, take, unwrap_or, option_map, option_and_then, refl, sym, ◌∙◌, ap, subst, inl, inr, ◌⊎◌, arith, ltb-true, leb-true}
+use Rattle.std.proofs.Common.{◌≡◌, ℕ, zero, suc, ◌+◌, ◌-◌, ◌*◌, ◌/◌, ◌%◌, ◌^◌, ◌<◌, ◌≤◌, Bool, true, false, ◌&&◌, ◌||◌, ◌==◌, not, cond, nat_lt, nat_le, List, [], ◌∷◌, ◌++◌, Option, Some, None, is_some, length, map, filter, filter_map, flat_map, slice_get, take, unwrap_or, option_map, option_and_then, refl, sym, ◌∙◌, subst, inl, inr, ◌⊎◌, arith, ltb-true, leb-true}
 use Rattle.std.specs.List.{AllByRecursion, list_any, last_or, cons_option, range_with_len}
 use Rattle.std.specs.Option.{option_map_or, option_or}
-use Rattle.std.proofs.lemmas.Bool.{and_parts, cases_Bool, cond-true, cond-false, leb-false}
+use Rattle.std.proofs.lemmas.Bool.{and_parts, cases_Bool, cond-true, cond-false}
 use Rattle.std.proofs.lemmas.Option.{same_Some}
 use Rattle.cw_base.specs.Config.{same_counts}
 use Rattle.cw_base.specs.ReadsBack.{IsBytes, IsConfig}
-use Rattle.cw_types.specs.Values.{IsBlock, IsCommitment, IsDigest, IsMessage, IsPayload}
+use Rattle.cw_types.specs.Values.{IsBlock, IsCommitment, IsMessage, IsPayload}
 use Rattle.cw_types.proofs.MessageLaws.{message_found}
 use Rattle.cw_types.specs.Reading.{message_of}
 use Rattle.cw_types.specs.declared.commitment.Commitment.{Commitment}
@@ -21,23 +21,22 @@ use Rattle.cw_types.specs.declared.vote.Vote.{Vote}
 use Rattle.cw_types.specs.declared.vote.Vote.TheVariants.{Finalize, Notarize, Nullify}
 use Rattle.cw_types.specs.Block.{Block}
 use Rattle.cw_types.specs.Epochs.{is_last, is_member, is_within, leader, members_in, place, rises_from, size}
-use Rattle.cw_types.specs.Numbers.{extra_chunks, least_chunks}
 use Rattle.cw_types.specs.Same.{same_commitment}
 use Rattle.cw_types.specs.Votes.{finalized, proposal_of, vote_epoch, well_formed}
 use Rattle.cw_rules.specs.Accepted.{Ballot, Came, Many, Part, Row, Single, State, Whole, accepted, add_wish, first_some, is_chunk_of, is_valid, same_ballot, same_part, take_ballot, take_part, wish_for, wished}
 use Rattle.cw_rules.specs.Chains.{Clashes, all_notes, outcome}
 use Rattle.cw_rules.specs.Coding.{AreBytes}
-use Rattle.cw_rules.specs.Direct.{best_parent, direct, least, proposal_notes, propose_new, propose_over, proposed, proposed_block, timed_out}
+use Rattle.cw_rules.specs.Direct.{best_parent, direct, least, proposal_notes, propose_new, propose_over, proposed, proposed_block}
 use Rattle.cw_rules.specs.Fits.{context_for}
 use Rattle.cw_rules.specs.Held.{at_height, greatest_prune, held, if_committed, last_ack, noted_block_of, pending, row_of, shown, whole_of}
-use Rattle.cw_rules.specs.Notes.{entered, epoch_of, greatest, has_block, has_cert, has_certified, settled, view_of}
-use Rattle.cw_rules.specs.Owed.{all_nullified, block_owed, cert_owed, certified_owed, epoch_owed, finalize_owed, floor_owed, has_closed, has_voted, named_commitments, named_proposals, named_votes, notarize_owed, owed, reached_epoch, signers_of, top_epoch, when}
-use Rattle.cw_rules.specs.Reached.{In, IsClash, IsCluster, IsKnown, Reaches}
+use Rattle.cw_rules.specs.Notes.{entered, epoch_of, greatest, has_block, has_cert, view_of}
+use Rattle.cw_rules.specs.Owed.{block_owed, cert_owed, certified_owed, epoch_owed, finalize_owed, floor_owed, has_closed, has_voted, named_commitments, named_proposals, named_votes, notarize_owed, owed, reached_epoch, signers_of, top_epoch}
+use Rattle.cw_rules.specs.Reached.{In, IsCluster, IsKnown}
 use Rattle.cw_rules.specs.Rules.{Chunk, Rules, block_of, chunks, commit, config, digest, genesis, genesis_commitment, rows_of}
 use Rattle.cw_rules.specs.Sends.{answer, chunk_out, finalization_at, finalization_outs, missing, note_sends, own_chunk, sends, to_all}
-use Rattle.cw_rules.specs.Step.{Member, Stepped, add_frame, cut_step, marks, member_notes, nothing_came, settle, start, state_of, step, step_notes, stopped, taken, taken_came, with_notes}
+use Rattle.cw_rules.specs.Step.{Member, Stepped, cut_step, marks, member_notes, nothing_came, settle, start, state_of, step, step_notes, stopped, taken, taken_came, with_notes}
 use Rattle.cw_rules.specs.Telling.{FitsAsk, FitsFault, FitsLine, TellsBlocks}
-use Rattle.cw_rules.specs.World.{Ask, Cut, Deliver, Do, Fault, Faulty, Finalize_of, Floor, Hint, Line, Notarize_of, Nullify_of, Offer, Propose, Prune, Raw, Restart, Sent, Silent, Timeout, World, as_finalization, done_by, event_of, fault_sends, faults, happens, is_to, line_member, member_at, message_for, opening, run, sent_from, sent_now, signed, turned, voted_on, with_done, with_sends}
+use Rattle.cw_rules.specs.World.{Ask, Cut, Deliver, Do, Fault, Faulty, Finalize_of, Floor, Hint, Line, Notarize_of, Nullify_of, Offer, Propose, Prune, Raw, Restart, Sent, Silent, Timeout, World, as_finalization, done_by, event_of, fault_sends, faults, happens, is_to, line_member, member_at, message_for, opening, run, sent_from, sent_now, signed, turned, voted_on, with_done}
 use Rattle.cw_rules.specs.World as line
 use Rattle.cw_rules.proofs.ClashFound.{script_clash}
 use Rattle.cw_rules.proofs.Deliveries.{at_held}
@@ -48,6 +47,7 @@ use Rattle.cw_rules.proofs.OwedKeeps.{shown_under}
 use Rattle.cw_types.proofs.Same.{same_commitment-true}
 use Rattle.cw_rules.proofs.StepKeeps.{IsParent, parent_found}
 use Rattle.cw_rules.proofs.Worlds.{frames_join, get-map_from, get-set, member_there}
+use Rattle.cw_rules.proofs.Settles.{all_both}
 
 -- ---- what can be written
 
@@ -69,10 +69,6 @@ abbrev CanEvent : Event → Type 0
 CanEvent (Event.Propose payload) = IsPayload payload
 CanEvent (Event.Deliver m) = CanSend m
 CanEvent _ = Unit {0}
-
-all_both : {X : Type 0} (P : X → Type 0) (xs ys : List X) → AllByRecursion P xs → AllByRecursion P ys → AllByRecursion P (xs ++ ys)
-all_both P [] ys a b = b
-all_both P (x ∷ xs) ys a b = (a.0, all_both P xs ys a.1 b)
 
 all_get : {X : Type 0} (P : X → Type 0) (xs : List X) (i : ℕ) (x : X) → AllByRecursion P xs → slice_get xs i ≡ Some x → P x
 all_get P [] i x a h = cc

@@ -41,20 +41,21 @@ use Rattle.cw_coding.proofs.Joined.{joined_same}
 use Rattle.cw_coding.proofs.LayoutLaws.{length-layout, length-row_at}
 use Rattle.cw_tree.proofs.WidthLaws.{shard_len-even, shard_len-some}
 use Rattle.cw_base.proofs.Lengths.{length-be32}
+use Rattle.cw_rules.proofs.Worlds.{length-mapped}
 
 -- ---- lists by place
 
-get-append_left : {X : Type 0} (xs ys : List X) (i : ℕ) → i < length xs
+pub get-append_left : {X : Type 0} (xs ys : List X) (i : ℕ) → i < length xs
     → slice_get (xs ++ ys) i ≡ slice_get xs i
 get-append_left [] ys i h = absurd (omega arith)
 get-append_left (x ∷ xs) ys zero h = refl
 get-append_left (x ∷ xs) ys (suc i) h = get-append_left xs ys i (omega arith)
 
-get-append_at : {X : Type 0} (xs : List X) (y : X) → slice_get (xs ++ y ∷ []) (length xs) ≡ Some y
+pub get-append_at : {X : Type 0} (xs : List X) (y : X) → slice_get (xs ++ y ∷ []) (length xs) ≡ Some y
 get-append_at [] y = refl
 get-append_at (x ∷ xs) y = get-append_at xs y
 
-listed_at : {X : Type 0} (n : ℕ) (f : ℕ → X) (i : ℕ) → i < n → slice_get (listed n f) i ≡ Some (f i)
+pub listed_at : {X : Type 0} (n : ℕ) (f : ℕ → X) (i : ℕ) → i < n → slice_get (listed n f) i ≡ Some (f i)
 unfolding listed
 listed_at zero f i h = absurd (omega arith)
 listed_at (suc n) f i h = go (cases_lt i n) (listed_at n f i)
@@ -86,7 +87,7 @@ unfolding listed
 all_listed P zero f h = tt
 all_listed P (suc n) f h = all_joined P (listed n f) (f n ∷ []) (all_listed P n f h) (h n, tt)
 
-byte_at : (xs : List ℕ) → AreBytes xs → (i : ℕ) → slice_index xs i < 256
+pub byte_at : (xs : List ℕ) → AreBytes xs → (i : ℕ) → slice_index xs i < 256
 byte_at [] a i = omega arith
 byte_at (x ∷ xs) a zero = a.0
 byte_at (x ∷ xs) a (suc i) = byte_at xs a.1 i
@@ -95,7 +96,7 @@ drop_past : {X : Type 0} (n : ℕ) (xs ys : List X) → drop (length xs + n) (xs
 drop_past n [] ys = let e : 0 + n ≡ n = omega arith in ap (λ k. drop k ys) e
 drop_past n (x ∷ xs) ys = let e : length (x ∷ xs) + n ≡ suc (length xs + n) = omega arith in ap (λ k. drop k (x ∷ xs ++ ys)) e ∙ drop_past n xs ys
 
-take_front : {X : Type 0} (xs ys : List X) → take (length xs) (xs ++ ys) ≡ xs
+pub take_front : {X : Type 0} (xs ys : List X) → take (length xs) (xs ++ ys) ≡ xs
 take_front [] ys = refl
 take_front (x ∷ xs) ys = ap (λ zs. x ∷ zs) (take_front xs ys)
 
@@ -282,16 +283,12 @@ root_some hash ds some =
     let (top, at) = top_some hash (length ds) (leaves_from hash digest_bytes 0 ds) (omega arith) (omega arith) in
     (_, ap (rooted_some hash digest_bytes (length ds)) at)
 
-length-mapped : {X Y : Type 0} (f : X → Y) (xs : List X) → length (map f xs) ≡ length xs
-length-mapped f [] = refl
-length-mapped f (x ∷ xs) = ap suc (length-mapped f xs)
-
-get-there : {X : Type 0} (xs : List X) (i : ℕ) (x : X) → slice_get xs i ≡ Some x → i < length xs
+pub get-there : {X : Type 0} (xs : List X) (i : ℕ) (x : X) → slice_get xs i ≡ Some x → i < length xs
 get-there [] i x h = cc
 get-there (y ∷ ys) zero x h = omega arith
 get-there (y ∷ ys) (suc i) x h = omega (arith, get-there ys i x h)
 
-get-mapped : {X Y : Type 0} (f : X → Y) (xs : List X) (i : ℕ) (x : X) (d : Y)
+pub get-mapped : {X Y : Type 0} (f : X → Y) (xs : List X) (i : ℕ) (x : X) (d : Y)
     → slice_get xs i ≡ Some x → get_or (map f xs) i d ≡ f x
 get-mapped f [] i x d h = cc
 get-mapped f (y ∷ ys) zero x d h = ap f (same_Some y x h)

@@ -4,25 +4,12 @@ use Rattle.std.specs.Option.{option_map_or}
 use Rattle.std.proofs.lemmas.Bool.{cases_eq, eqb-true}
 use Rattle.std.proofs.lemmas.Option.{same_Some}
 use Rattle.cw_types.specs.Block.{Block}
-use Rattle.cw_types.specs.declared.commitment.Commitment.{Commitment}
-use Rattle.cw_rules.specs.Chains.{Follow, IsChain}
 use Rattle.cw_rules.specs.Reached.{In}
-use Rattle.cw_rules.specs.Rules.{Rules, commit, genesis_commitment}
-use Rattle.cw_rules.specs.World.{World}
 use Rattle.cw_ledger.specs.Ledger.{applied}
 use Rattle.hail_ledger.specs.Giving.{given_all, given_one}
 use Rattle.hail_ledger.proofs.Orders.{after_one, reached_by}
 
 -- ---- each link of a chain is of its height
-
-follow_height : (r : Rules) (w : World) (c : Commitment) (a : Block) (bs : List Block) → Follow r w c a bs → (i : ℕ) (x : Block) → slice_get (a ∷ bs) i ≡ Some x → x.height ≡ a.height + i
-follow_height r w c a bs f zero x h = let e : a ≡ x = same_Some a x h in omega (arith, ap (λ (b : Block). b.height) e)
-follow_height r w c a [] f (suc i) x h = cc
-follow_height r w c a (b ∷ bs) f (suc i) x h = omega (arith, f.0, follow_height r w (commit r b) b bs f.4 i x h)
-
-pub chain_height : (r : Rules) (w : World) (links : List Block) → IsChain r w links → (i : ℕ) (x : Block) → slice_get links i ≡ Some x → x.height ≡ i
-chain_height r w [] k i x h = absurd k
-chain_height r w (b ∷ bs) k i x h = omega (arith, ap (λ (y : Block). y.height) k.0, follow_height r w (genesis_commitment r) b bs k.1 i x h)
 
 -- ---- lists
 

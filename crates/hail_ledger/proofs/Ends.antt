@@ -14,7 +14,8 @@ use Rattle.node_disk.specs.Memory.{MemoryState}
 use Rattle.cw_ledger.specs.Ledger.{Ledger}
 use Rattle.hail_ledger.specs.Giving.{given_all, payloads_of}
 use Rattle.hail_ledger.specs.Ledgers.{AreLedgers, IsLedgerOf, handed_by, handed_in_entries, handed_to, is_of}
-use Rattle.hail_ledger.proofs.Chains.{HasHeights, HasLinks, chain_height, given_are}
+use Rattle.hail_ledger.proofs.Chains.{HasHeights, HasLinks, given_are}
+use Rattle.cw_rules.proofs.Reports.{chain_height}
 use Rattle.hail_ledger.proofs.Orders.{reached_by}
 use Rattle.hail_ledger.proofs.Worlds.{run_in_order}
 

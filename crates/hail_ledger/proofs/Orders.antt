@@ -1,19 +1,21 @@
 -- The heights that are handed out to a member: each is the next one, or at most the next one, or a floor lies above all that are missing.
-use Rattle.std.proofs.Common.{◌≡◌, ◌⊎◌, inl, inr, ℕ, zero, suc, ◌+◌, ◌<◌, ◌≤◌, ◌==◌, Bool, true, false, cond, max, nat_lt, List, [], ◌∷◌, ◌++◌, length, map, fold, Option, Some, None, option_map, option_and_then, refl, sym, ◌∙◌, ap, subst, arith, append_assoc, append-nil}
+use Rattle.std.proofs.Common.{◌≡◌, ◌⊎◌, inl, inr, ℕ, zero, suc, ◌+◌, ◌<◌, ◌≤◌, ◌==◌, Bool, true, false, cond, max, List, [], ◌∷◌, ◌++◌, map, fold, Option, Some, None, option_map, option_and_then, refl, sym, ◌∙◌, ap, subst, arith, append_assoc, append-nil}
 use Rattle.std.specs.List.{last_or}
 use Rattle.std.specs.Option.{option_map_or}
-use Rattle.std.proofs.lemmas.Bool.{cases_eq, cases_lt, eqb-true}
-use Rattle.cw_types.specs.Block.{Block}
+use Rattle.std.proofs.lemmas.Bool.{cases_eq, cases_lt}
 use Rattle.cw_types.specs.declared.commitment.Commitment.{Commitment}
 use Rattle.cw_types.specs.declared.event.Handed.{Handed}
 use Rattle.cw_types.specs.declared.note.Note.{Note}
 use Rattle.cw_rules.specs.Accepted.{State}
-use Rattle.cw_rules.specs.Held.{at_height, greatest_floor, held, last_ack, next, pending, resume}
+use Rattle.cw_rules.specs.Held.{at_height, greatest_floor, held, last_ack, next, resume}
 use Rattle.cw_rules.specs.Reached.{In}
 use Rattle.cw_rules.specs.Rules.{Rules}
 use Rattle.cw_rules.specs.Step.{deliveries_within, delivery, handing, with_given}
 use Rattle.cw_rules.proofs.Lists.{in_cases, in_left, in_right}
-use Rattle.hail_ledger.proofs.Acks.{acks, acks_behind, floor_grows, last_there}
+use Rattle.hail_ledger.proofs.Acks.{last_there}
+use Rattle.cw_rules.proofs.Acks.{acks, acks_behind, floor_grows}
+use Rattle.cw_ledger.proofs.Moving.{other_is, same_is}
+use Rattle.node.proofs.Rising.{height_is}
 
 -- the next height after one was handed out
 abbrev pub after_one : ℕ → ℕ → ℕ
@@ -49,16 +51,6 @@ nothing_yet = record {
 -- a height that may be handed out: no floor is above it, and it is the first, a floor, or behind one that was handed out
 abbrev pub MayCome : List ℕ → List Note → ℕ → Type 0
 MayCome heights notes height = (greatest_floor notes ≤ height) × ((height ≡ greatest_floor notes) ⊎ (height ≡ 0) ⊎ ((before : ℕ) × (height ≡ before + 1) × In before heights))
-
-same_is : (n m : ℕ) → n ≡ m → (n == m) ≡ true
-same_is n m e = rw e (grind arith)
-
-other_is : (n m : ℕ) → (n ≡ m → ⊥) → (n == m) ≡ false
-other_is n m other = go (n == m) refl
-  where
-    go : (b : Bool) → (n == m) ≡ b → b ≡ false
-    go true is = absurd (other (eqb-true n m is))
-    go false is = refl
 
 one_of : (x y : ℕ) → In x (y ∷ []) → x ≡ y
 one_of x y (inl e) = e
@@ -186,13 +178,6 @@ next_may heights s is = (omega arith, go (last_or None s.given) refl)
         by None acked =
             let now : next s ≡ max (max 0 floor) floor = fresh ∙ ap (λ o. max (max (option_map_or (λ h. h + 1) o 0) floor) floor) acked in
             inl (omega arith)
-
-height_is : (r : Rules) (s : State) (h : Handed) → delivery r s ≡ Some h → h.height ≡ next s
-height_is r s h e = by (nat_lt (length (pending s)) r.backlog) e
-  where
-    of_block : (c : Commitment) (o : Option Block) → option_map (handing r (next s) c) o ≡ Some h → h.height ≡ next s
-    of_block c None f = cc
-    of_block c (Some b) f = let same : handing r (next s) c b ≡ h = cc in ap (λ (x : Handed). x.height) (sym same)
 
     of_place : (o : Option Commitment) → option_and_then (λ c. option_map (handing r (next s) c) (held r s.notes c)) o ≡ Some h → h.height ≡ next s
     of_place None f = cc

@@ -32,7 +32,8 @@ use Rattle.cw_light.specs.Believing.{IsLinkAt}
 use Rattle.cw_light.specs.Checking.{answer, broken_at, broken_below, is_named_by, is_parent_of, path_answer}
 use Rattle.cw_light.specs.declared.check.Answer.{Answer}
 use Rattle.cw_light.specs.declared.check.Answer.TheVariants.{BadSigners, Broken, EmptyPath, NotFinal, Yes}
-use Rattle.cw_light.proofs.Believed.{AreTwo, believed, first_in, known_under}
+use Rattle.cw_light.proofs.Believed.{AreTwo, believed, known_under}
+use Rattle.cw_rules.proofs.Blocks.{first_in}
 use Rattle.hailstorm.specs.Reports.{honest}
 use Rattle.hail_light.specs.Finding.{found_at, found_in, path_to, path_within, shown_by, shown_of}
 use Rattle.hail_light.specs.declared.search.Shown.{Shown}

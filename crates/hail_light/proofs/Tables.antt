@@ -1,5 +1,5 @@
 -- The table of a run is that of its world.
-use Rattle.std.proofs.Common.{◌≡◌, ℕ, zero, suc, ◌+◌, Bool, true, false, cond, List, [], ◌∷◌, ◌++◌, ◌||◌, Option, Some, None, slice_get, refl, sym, ◌∙◌, ap, append_assoc, append-nil, is_none, map}
+use Rattle.std.proofs.Common.{◌≡◌, ℕ, ◌+◌, Bool, true, false, cond, List, [], ◌∷◌, ◌++◌, ◌||◌, Option, Some, None, refl, sym, ◌∙◌, ap, append_assoc, append-nil, is_none, map}
 use Rattle.std.specs.List.{list_any, range_with_len}
 use Rattle.std.proofs.lemmas.List.Folds.{list_any-append}
 use Rattle.std.specs.Option.{option_map_or}
@@ -7,7 +7,7 @@ use Rattle.cw_base.specs.declared.hash.Digest32.{Digest32}
 use Rattle.cw_rules.specs.Report.{Entry, Report as Reported, entries_from, entry_of, first_line}
 use Rattle.cw_rules.specs.Rules.{Rules}
 use Rattle.cw_rules.specs.Step.{Member, Stepped, start}
-use Rattle.cw_rules.specs.World.{Cut, Do, Faulty, Line, Restart, Sent, World, done_by, faults, happens, is_faulty, is_sent_vote, opening, run, sent_now, signed, with_done}
+use Rattle.cw_rules.specs.World.{Cut, Do, Faulty, Line, Restart, Sent, World, done_by, faults, happens, is_faulty, opening, run, sent_now, signed, with_done}
 use Rattle.hail_script.specs.Grammar.{is_faulty_in, marks}
 use Rattle.hail_script.specs.Scenario.{Scenario}
 use Rattle.hailstorm.specs.declared.report.Report.{Report}
@@ -16,6 +16,7 @@ use Rattle.hailstorm.specs.Pool.{sent_in}
 use Rattle.hailstorm.specs.Reports.{IsRun}
 use Rattle.cw_rules.proofs.Changes.{flags_kept}
 use Rattle.cw_light.proofs.Moments.{ends_run}
+use Rattle.hailstorm.proofs.Playing.{flags_signed}
 
 -- some message of the entries passes, where one of some entry does
 pub any_sent : (f : Sent → Bool) (entries : List Entry) → list_any f (sent_in entries) ≡ list_any (λ (e : Entry). list_any f e.sent) entries
@@ -63,15 +64,6 @@ flags_open r lines total e = all (range_with_len 0 total) ∙ ap (λ n. map is_n
     all : (is : List ℕ) → map (is_faulty_in lines) is ≡ map is_none (map seat is)
     all [] = refl
     all (i ∷ is) = ap (λ (b : Bool). b ∷ map (is_faulty_in lines) is) (one i) ∙ ap (λ (l : List Bool). is_none (seat i) ∷ l) (all is)
-
--- by marks of the faulty members the table is the world's
-flags_signed : (faulty : List Bool) (w : World) → faulty ≡ map is_none w.members → table faulty w.pool ≡ signed w
-flags_signed faulty w e = λ k i v. at i k || list_any (is_sent_vote i v) w.pool
-  where
-    flag : (ms : List (Option Member)) (i : ℕ) → marked (map is_none ms) i ≡ option_map_or is_none (slice_get ms i) false
-    flag [] i = refl
-    flag (o ∷ ms) zero = refl
-    flag (o ∷ ms) (suc i) = flag ms i
 
     at : (i : ℕ) → marked faulty i ≡ is_faulty w i
     at i = ap (λ (l : List Bool). marked l i) e ∙ flag w.members i

@@ -1,27 +1,23 @@
 -- A run, line by line.
-use Rattle.std.proofs.Common.{◌≡◌, ℕ, zero, suc, ◌+◌, ◌<◌, Bool, true, false, List, [], ◌∷◌, ◌++◌, length, map, take, drop, Option, Some, None, refl, sym, ap, subst, ◌∙◌, arith, append_assoc, append-nil}
-use Rattle.std.specs.Prelude.{is_none, option_and_then, slice_get, slice_set}
+use Rattle.std.proofs.Common.{◌≡◌, ℕ, zero, suc, ◌+◌, ◌<◌, Bool, List, [], ◌∷◌, ◌++◌, map, take, drop, Option, Some, None, refl, sym, ap, ◌∙◌, arith, append_assoc, append-nil}
+use Rattle.std.specs.Prelude.{is_none, option_and_then, slice_get}
 use Rattle.std.specs.Option.{option_map_or}
 use Rattle.cw_types.specs.Block.{Block}
-use Rattle.cw_rules.specs.Chains.{Clashes, Ends, Outcome, clash_at, outcome}
-use Rattle.cw_rules.specs.Report.{Entry, entries_from, entry_of, first_line}
+use Rattle.cw_rules.specs.Chains.{Clashes, clash_at, outcome}
+use Rattle.cw_rules.specs.Report.{Entry, entries_from, first_line}
 use Rattle.cw_rules.specs.Rules.{Rules}
 use Rattle.cw_rules.specs.Step.{Member, Stepped}
 use Rattle.cw_rules.specs.World as rule
-use Rattle.cw_rules.specs.World.{Line, Sent, World, done_by, happens, line_member, member_at, run, turned, with_done}
+use Rattle.cw_rules.specs.World.{Line, World, happens, line_member, member_at, run, turned, with_done}
 use Rattle.hailstorm.specs.declared.place.Place.{Place}
 use Rattle.hailstorm.specs.Places.{SitAs, IsTurn}
 use Rattle.hailstorm.specs.Pool.{sent_in}
 use Rattle.hailstorm.specs.Runs.{AreMidway, ArePlayed}
 use Rattle.hailstorm.specs.Seats.{Seat}
 use Rattle.hailstorm.proofs.Numbered.{sent_more}
+use Rattle.cw_rules.proofs.Changes.{flags_kept, set_flags}
 
 -- ---- who is faulty stays so
-
-set_flags : (os : List (Option Member)) (i : ℕ) (x y : Member) → slice_get os i ≡ Some (Some x) → map is_none (slice_set os i (Some y)) ≡ map is_none os
-set_flags [] i x y e = refl
-set_flags (o ∷ os) zero x y e = let same : o ≡ Some x = (let s : Some o ≡ Some (Some x) = e in cc) in rw same refl
-set_flags (o ∷ os) (suc i) x y e = ap (λ (l : List Bool). is_none o ∷ l) (set_flags os i x y e)
 
 pub member_got : (w : World) (i : ℕ) (x : Member) → member_at w i ≡ Some x → slice_get w.members i ≡ Some (Some x)
 member_got w i x e = go (slice_get w.members i) refl e
@@ -40,12 +36,6 @@ done_flags r w i line = go (member_at w i) refl
     go : (o : Option Member) → member_at w i ≡ o → map is_none (option_map_or (with_done w i) (option_and_then (turned r w i line) o) w).members ≡ map is_none w.members
     go None e = refl
     go (Some x) e = of x e (turned r w i line x)
-
-pub flags_kept : (r : Rules) (w : World) (line : Line) → map is_none (happens r w line).members ≡ map is_none w.members
-flags_kept r w (rule.Do i ask) = done_flags r w i (rule.Do i ask)
-flags_kept r w (rule.Cut a c x i ask) = done_flags r w i (rule.Cut a c x i ask)
-flags_kept r w (rule.Restart i) = done_flags r w i (rule.Restart i)
-flags_kept r w (rule.Faulty i fault) = refl
 
 -- ---- one line more
 

@@ -18,7 +18,8 @@ use Rattle.hailstorm.specs.Runs.{IsStopped}
 use Rattle.hailstorm.specs.Seats.{Seat}
 use Rattle.hailstorm.specs.Turns.{Begin, HavePlayed, entries_of}
 use Rattle.hailstorm.proofs.Numbered.{sent_more}
-use Rattle.hailstorm.proofs.Outcomes.{flags_kept, run_more}
+use Rattle.hailstorm.proofs.Outcomes.{run_more}
+use Rattle.cw_rules.proofs.Changes.{flags_kept}
 
 -- ---- more lines behind some
 

@@ -26,41 +26,16 @@ use Rattle.shards.specs.Enough.{AreEnough, AreOfText, AreUnder, checked_of}
 use Rattle.shards.specs.Kept.{rules_of}
 use Rattle.cw_types.proofs.Cutting.{codable}
 use Rattle.shards.proofs.Standing.{stands_under}
+use Rattle.cw_rules_coded.proofs.RealCoder.{listed_at, byte_at}
 
 -- ---- lists by place
 
-get-append_left : {X : Type 0} (xs ys : List X) (i : ℕ) → i < length xs → slice_get (xs ++ ys) i ≡ slice_get xs i
-get-append_left [] ys i h = absurd (omega arith)
-get-append_left (x ∷ xs) ys zero h = refl
-get-append_left (x ∷ xs) ys (suc i) h = get-append_left xs ys i (omega arith)
-
-get-append_at : {X : Type 0} (xs : List X) (y : X) → slice_get (xs ++ y ∷ []) (length xs) ≡ Some y
-get-append_at [] y = refl
-get-append_at (x ∷ xs) y = get-append_at xs y
-
-pub listed_at : {X : Type 0} (n : ℕ) (f : ℕ → X) (i : ℕ) → i < n → slice_get (listed n f) i ≡ Some (f i)
-unfolding listed
-listed_at zero f i h = absurd (omega arith)
-listed_at (suc n) f i h = go (cases_lt i n) (listed_at n f i)
-  where
-    go : (i < n) ⊎ (n ≤ i) → (i < n → slice_get (listed n f) i ≡ Some (f i)) → slice_get (listed n f ++ f n ∷ []) i ≡ Some (f i)
-    go (inl less) later = get-append_left (listed n f) (f n ∷ []) i (omega (arith, length-listed n f)) ∙ later less
-    go (inr more) later =
-        let e : n ≡ i = omega arith in
-        let here : length (listed n f) ≡ i = length-listed n f ∙ e in
-        subst (λ j. slice_get (listed n f ++ f n ∷ []) j ≡ Some (f n)) here (get-append_at (listed n f) (f n)) ∙ ap (λ j. Some (f j)) e
-
-listed_from : {X : Type 0} (n : ℕ) (f : ℕ → X) (i : ℕ) (x : X) → slice_get (listed n f) i ≡ Some x → f i ≡ x
+pub listed_from : {X : Type 0} (n : ℕ) (f : ℕ → X) (i : ℕ) (x : X) → slice_get (listed n f) i ≡ Some x → f i ≡ x
 listed_from n f i x h = go (cases_lt i n)
   where
     go : (i < n) ⊎ (n ≤ i) → f i ≡ x
     go (inl less) = same_Some (f i) x (sym (listed_at n f i less) ∙ h)
     go (inr more) = cc (slice_get_past (listed n f) i (omega (arith, length-listed n f)))
-
-byte_at : (xs : List ℕ) → AreBytes xs → (i : ℕ) → slice_index xs i < 256
-byte_at [] a i = omega arith
-byte_at (x ∷ xs) a zero = a.0
-byte_at (x ∷ xs) a (suc i) = byte_at xs a.1 i
 
 -- a list whose items are bytes, place by place
 pub all_bytes : (xs : List ℕ) → ((i : ℕ) → slice_index xs i < 256) → AreBytes xs
@@ -68,7 +43,7 @@ all_bytes [] h = tt
 all_bytes (x ∷ xs) h = (h 0, all_bytes xs (λ i. h (suc i)))
 
 -- what holds of those that pass a test, and of those that don't, holds of all
-all_parts : {X : Type 0} (P : X → Type 0) (p : X → Bool) (xs : List X) → AllByRecursion P (filter p xs ++ filter (λ x. not (p x)) xs) → AllByRecursion P xs
+pub all_parts : {X : Type 0} (P : X → Type 0) (p : X → Bool) (xs : List X) → AllByRecursion P (filter p xs ++ filter (λ x. not (p x)) xs) → AllByRecursion P xs
 all_parts {X = X} P p xs h = let both = split (filter p xs) (filter (λ x. not (p x)) xs) h in join xs both.0 both.1
   where
     split : (ys zs : List X) → AllByRecursion P (ys ++ zs) → AllByRecursion P ys × AllByRecursion P zs
@@ -84,7 +59,7 @@ all_parts {X = X} P p xs h = let both = split (filter p xs) (filter (λ x. not (
         go true more a b = (a.0, more a.1 b)
         go false more a b = (b.0, more a b.1)
 
-length-parts : {X : Type 0} (p : X → Bool) (xs : List X) → length (filter p xs ++ filter (λ x. not (p x)) xs) ≡ length xs
+pub length-parts : {X : Type 0} (p : X → Bool) (xs : List X) → length (filter p xs ++ filter (λ x. not (p x)) xs) ≡ length xs
 length-parts {X = X} p xs = length-append (filter p xs) (filter (λ x. not (p x)) xs) ∙ sum xs
   where
     sum : (ys : List X) → length (filter p ys) + length (filter (λ x. not (p x)) ys) ≡ length ys
@@ -97,7 +72,7 @@ length-parts {X = X} p xs = length-append (filter p xs) (filter (λ x. not (p x)
         go false e = omega arith
 
 -- all of k chunks are compared
-all_compared : (k : ℕ) (cs : List (Checked Digest32)) → length cs ≡ k → compared k cs ≡ k
+pub all_compared : (k : ℕ) (cs : List (Checked Digest32)) → length cs ≡ k → compared k cs ≡ k
 all_compared k cs e = go (length (filter (λ (c : Checked Digest32). nat_lt c.index k) cs) == k)
   where
     go : (b : Bool) → (if b then length cs else k) ≡ k
@@ -105,7 +80,7 @@ all_compared k cs e = go (length (filter (λ (c : Checked Digest32). nat_lt c.in
     go false = refl
 
 -- what holds of those that are compared holds of all
-all_in_order : (P : Checked Digest32 → Type 0) (k : ℕ) (cs : List (Checked Digest32)) → length cs ≡ k → All P (take (compared k cs) (in_order k cs)) → AllByRecursion P cs
+pub all_in_order : (P : Checked Digest32 → Type 0) (k : ℕ) (cs : List (Checked Digest32)) → length cs ≡ k → All P (take (compared k cs) (in_order k cs)) → AllByRecursion P cs
 all_in_order P k cs e h =
     let long = length-parts (λ (c : Checked Digest32). nat_lt c.index k) cs in
     let whole : take (compared k cs) (in_order k cs) ≡ in_order k cs = take_all (compared k cs) (in_order k cs) (omega (arith, all_compared k cs e)) in

@@ -3,6 +3,7 @@ use Rattle.std.proofs.Common.{◌≡◌, ℕ, zero, suc, ◌-◌, ◌<◌, ◌�
 use Rattle.std.specs.List.{list_any}
 use Rattle.std.specs.Option.{option_or}
 use Rattle.cw_types.specs.Epochs.{list_of}
+use Rattle.cw_rules_coded.proofs.RealCoder.{get-there}
 
 any_at : {X : Type 0} (p : X → Bool) (xs : List X) (i : ℕ) (x : X) → slice_get xs i ≡ Some x → p x ≡ true → list_any p xs ≡ true
 any_at p [] i x h t = cc
@@ -32,11 +33,6 @@ any_epoch p lists e some t = go (slice_get lists e) refl t
 none_in : (p : List ℕ → Bool) (xs : List (List ℕ)) → ((i : ℕ) (x : List ℕ) → slice_get xs i ≡ Some x → p x ≡ false) → list_any p xs ≡ false
 none_in p [] h = refl
 none_in p (x ∷ xs) h = ap (λ b. b || list_any p xs) (h 0 x refl) ∙ none_in p xs (λ i y e. h (suc i) y e)
-
-get-there : {X : Type 0} (xs : List X) (i : ℕ) (x : X) → slice_get xs i ≡ Some x → i < length xs
-get-there [] i x h = cc
-get-there (y ∷ ys) zero x h = omega arith
-get-there (y ∷ ys) (suc i) x h = omega (arith, get-there ys i x h)
 
 -- a test that no list of so many epochs passes is passed by none of so many lists
 pub none_epoch : (p : List ℕ → Bool) (lists : List (List ℕ)) (n : ℕ) → length lists ≤ n → ((e : ℕ) → e < n → p (list_of lists e) ≡ false) → list_any p lists ≡ false

@@ -1,5 +1,5 @@
 -- What is shown by the text of chunks.
-use Rattle.std.proofs.Common.{◌≡◌, ℕ, zero, suc, ◌+◌, ◌<◌, Bool, true, false, ◌&&◌, List, [], ◌∷◌, length, map, get_or, slice_get, Option, Some, None, refl, sym, ◌∙◌, ap, subst, arith, ◌⊎◌, inl, inr}
+use Rattle.std.proofs.Common.{◌≡◌, ℕ, ◌+◌, ◌<◌, Bool, true, false, ◌&&◌, List, [], ◌∷◌, length, map, slice_get, Option, Some, None, refl, sym, ◌∙◌, ap, subst, arith, ◌⊎◌, inl, inr}
 use Rattle.std.specs.Option.{option_and_then, option_map_or}
 use Rattle.std.proofs.lemmas.Bool.{cases_Bool}
 use Rattle.std.proofs.lemmas.List.{length-map}
@@ -23,13 +23,8 @@ use Rattle.cw_rules_coded.specs.Coded.{code_rows, decoded, digest_bytes, root_ov
 use Rattle.shards.specs.Enough.{AreOfText}
 use Rattle.shards.specs.Kept.{rules_of}
 use Rattle.cw_types.specs.Reading.{block_in}
-use Rattle.shards.proofs.Decoded.{listed_at}
+use Rattle.cw_rules_coded.proofs.RealCoder.{listed_at, get-mapped}
 use Rattle.cw_types.proofs.Same.{same_commitment-true, same_digest-true, same_digest_self, same_counts-true}
-
-get-mapped : {X Y : Type 0} (f : X → Y) (xs : List X) (i : ℕ) (x : X) (d : Y) → slice_get xs i ≡ Some x → get_or (map f xs) i d ≡ f x
-get-mapped f [] i x d h = cc
-get-mapped f (y ∷ ys) zero x d h = ap f (same_Some y x h)
-get-mapped f (y ∷ ys) (suc i) x d h = get-mapped f ys i x d h
 
 module _ (hash : List ℕ → Digest32) (epochs : Epochs) where
   -- the root over the rows of a text

@@ -11,6 +11,7 @@ use Rattle.cw_types.proofs.Same.{same_vote-true}
 use Rattle.voter.specs.Known.{ballot_signers, is_cert_for}
 use Rattle.voter.specs.Standing.{are_signers, is_signed}
 use Rattle.cw_types.proofs.EpochLemmas.{committee_size}
+use Rattle.cw_rules.proofs.Lists.{filter_rises}
 
 rises_later : (low high : ℕ) (xs : List ℕ) → low ≤ high → rises_from high xs ≡ true → rises_from low xs ≡ true
 rises_later low high [] le h = refl
@@ -18,15 +19,6 @@ rises_later low high (x ∷ xs) le h =
     let p = and_parts (nat_le high x) (rises_from (x + 1) xs) h in
     let over : high ≤ x = leb-true high x p.0 in
     and_from (nat_le low x) (rises_from (x + 1) xs) (le-leb low x (omega (arith, le, over))) p.1
-
--- numbers that rise still do where some are left out
-filter_rises : (p : ℕ → Bool) (low : ℕ) (xs : List ℕ) → rises_from low xs ≡ true → rises_from low (filter p xs) ≡ true
-filter_rises p low [] h = refl
-filter_rises p low (x ∷ xs) h = let q = and_parts (nat_le low x) (rises_from (x + 1) xs) h in go (p x) refl q.0 (filter_rises p (x + 1) xs q.1)
-  where
-    go : (b : Bool) → p x ≡ b → nat_le low x ≡ true → rises_from (x + 1) (filter p xs) ≡ true → rises_from low (filter p (x ∷ xs)) ≡ true
-    go true e le more = rw e (and_from (nat_le low x) (rises_from (x + 1) (filter p xs)) le more)
-    go false e le more = let over : low ≤ x = leb-true low x le in rw e (rises_later low (x + 1) (filter p xs) (omega (arith, over)) more)
 
 filter_passes : (q p : ℕ → Bool) (xs : List ℕ) → list_all q xs ≡ true → list_all q (filter p xs) ≡ true
 filter_passes q p [] h = refl
