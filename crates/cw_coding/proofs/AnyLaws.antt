@@ -20,7 +20,7 @@ use Rattle.cw_coding.specs.Layout.{layout, row_at}
 use Rattle.cw_coding.specs.Laws.{IsChunkOf, AreDecodedTo}
 use Rattle.cw_coding.specs.Totals.{total_of, IsWidth}
 use Rattle.rs_code.proofs.IndexLaws.{AreSound-in_range, AreSound-distinct}
-use Rattle.cw_coding.proofs.Joined.{joined_same}
+use Rattle.rs_code.proofs.RowBytes.{joined_same}
 use Rattle.cw_coding.proofs.LayoutLaws.{length-row_at, length-layout, bytes_layout}
 use Rattle.cw_coding.proofs.DecodingLaws.{same_text}
 use Rattle.cw_coding.proofs.OrderLaws.{all_in_order, sound_in_order, length-in_order, length-indices, compared-ge, compared-le, index_at}

@@ -9,7 +9,8 @@ use Rattle.cw_base.specs.Bytes.{be32}
 use Rattle.rs_code.specs.Rows.{joined, code_row, row_through, AreRows, OriginalsComeFirst}
 use Rattle.cw_base.specs.Rows.{row_of, row_hashes}
 use Rattle.rs_code.specs.Plans.{Shape}
-use Rattle.cw_coding.proofs.Joined.{joined_same, joined_rows, length-joined, length-symbol_bytes}
+use Rattle.rs_code.proofs.RowBytes.{joined_same, length-joined, length-symbol_bytes}
+use Rattle.rs_code.proofs.RowLaws.{joined_rows}
 use Rattle.cw_coding.specs.Checked.{Checked}
 use Rattle.cw_tree.specs.Widths.{shard_len}
 use Rattle.cw_coding.specs.Layout.{layout, row_at, row_digests}

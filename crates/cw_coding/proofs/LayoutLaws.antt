@@ -4,17 +4,14 @@ use Rattle.std.proofs.Math.Nat.{mul-le-mul_right, mul-le-mul, mul-div_cancel}
 use Rattle.std.proofs.lemmas.List.{length-append, length-replicate, drop_at, take_all, drop-append-le, take-append-le, length-drop, append-nil}
 use Rattle.std.proofs.lemmas.Bool.{cases_lt}
 use Rattle.cw_base.specs.Bytes.{be32}
+use Rattle.cw_base.proofs.Lengths.{length-be32}
 use Rattle.rs_code.specs.Rows.{joined, code_row, AreRows, OriginalsComeFirst}
 use Rattle.cw_base.specs.Rows.{row_of, listed, row_hashes}
-use Rattle.cw_coding.proofs.Joined.{joined_none, joined_more, length-joined, length-symbol_bytes}
+use Rattle.rs_code.proofs.RowBytes.{joined_none, joined_more, length-joined, length-symbol_bytes}
 use Rattle.cw_base.proofs.Listed.{listed_same, length-listed}
 use Rattle.cw_tree.specs.Widths.{shard_len}
 use Rattle.cw_tree.proofs.WidthLaws.{shard_len-even, shard_len-covers, shard_len-some}
 use Rattle.cw_coding.specs.Layout.{layout, row_at, row_digests}
-
-pub length-be32 : (n : ℕ) → length (be32 n) ≡ 4
-unfolding be32
-length-be32 n = refl
 
 pub length-layout : (k : ℕ) (text : List ℕ) → 1 ≤ k → length (layout k text) ≡ k * shard_len (length text) k
 unfolding layout
@@ -107,13 +104,6 @@ rows_long k m text out rows recovery width some even w laid r o =
 pub row_is : (rows part : List ℕ) (i w : ℕ) → part ≡ take (i * w + w - i * w) (drop (i * w) rows) → part ≡ row_of rows w i
 unfolding row_of
 row_is rows part i w h = let e : i * w + w - i * w ≡ w = omega arith in rw e at h
-
-pub product_fits : (k w : ℕ) → k ≤ 65535 → w ≤ 2 ^ 32 + 4 → k * w < 2 ^ 63
-product_fits k w a b = omega (arith, mul-le-mul a b)
-
-row_of_is : (rows : List ℕ) (width i : ℕ) → row_of rows width i ≡ take width (drop (i * width) rows)
-unfolding row_of
-row_of_is rows width i = refl
 
 -- as many rows as there are
 pub whole_rows : (n w : ℕ) → 0 < w → n * w / w ≡ n

@@ -1,4 +1,3 @@
-pub mod Joined
 pub mod LayoutLaws
 pub mod EncodingLaws
 pub mod OrderLaws

@@ -37,7 +37,7 @@ use Rattle.cw_rules_coded.specs.Coded.{code_rows, coded, decoded, digest_bytes, 
 use Rattle.cw_rules_coded.specs.Coded.{is_row_of, is_text, originals, place_at, root_over}
 use Rattle.cw_rules_coded.specs.Coded.{shards_of, text_in, width_of}
 use Rattle.cw_coding.specs.Layout.{layout, row_at}
-use Rattle.cw_coding.proofs.Joined.{joined_same}
+use Rattle.rs_code.proofs.RowBytes.{joined_same}
 use Rattle.cw_coding.proofs.LayoutLaws.{length-layout, length-row_at}
 use Rattle.cw_tree.proofs.WidthLaws.{shard_len-even, shard_len-some}
 use Rattle.cw_base.proofs.Lengths.{length-be32}

@@ -2,19 +2,12 @@
 use Rattle.std.proofs.Common.{◌≡◌, ℕ, zero, suc, ◌+◌, ◌-◌, ◌*◌, ◌/◌, ◌%◌, ◌^◌, ◌≤◌, Bool, true, false, cond, nat_lt, List, [], ◌∷◌, ◌++◌, length, take, drop, eqb, refl, ◌∙◌, arith, length-append}
 use Rattle.std.specs.List.{flat_map}
 use Rattle.cw_base.specs.Bytes.{be16, be32, varint, varint_within}
+use Rattle.cw_base.proofs.Lengths.{length-be16, length-be32}
 use Rattle.cw_tree.specs.Chunks.{Piece}
 use Rattle.std.proofs.Math.Nat.{mul-le-mul_left}
 use Rattle.cw_tree.specs.Formats.{proof_bytes, chunk_bytes}
 use Rattle.cw_tree.specs.Sizes.{AreSized}
 use Rattle.cw_tree.specs.Tree.{leaf, above, leaves_from, paired, beside, path_within, path_of}
-
-length-be16 : (n : ℕ) → length (be16 n) ≡ 2
-unfolding be16
-length-be16 n = refl
-
-length-be32 : (n : ℕ) → length (be32 n) ≡ 4
-unfolding be32
-length-be32 n = refl
 
 within_short : (more n : ℕ) → length (varint_within more n) ≤ more
 within_short zero n = omega arith

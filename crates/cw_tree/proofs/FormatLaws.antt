@@ -8,7 +8,7 @@ use Rattle.cw_base.specs.declared.reader.CodecError.TheVariants.{TooLong}
 use Rattle.cw_base.specs.Bytes.{be16, be32, varint}
 use Rattle.cw_base.specs.Reading.{Reading, ◌>>=◌, byte_at, bytes_at, be16_at, be32_at, varint_at}
 use Rattle.cw_base.specs.ReadsBack.{ReadsBack, IsBytes}
-use Rattle.cw_base.proofs.ReadingLaws.{IsBytes-rest, bind_ok, read_is, byte_reads_back, bytes_read_back, be16_reads_back, be32_reads_back, varint_reads_back}
+use Rattle.cw_base.proofs.ReadingLaws.{IsBytes-rest, bind_ok, guard_then, read_is, byte_reads_back, bytes_read_back, be16_reads_back, be32_reads_back, varint_reads_back}
 use Rattle.cw_tree.specs.Chunks.{Piece}
 use Rattle.cw_tree.specs.Sizes.{AreSized}
 use Rattle.cw_tree.specs.Fits.{FitsProof, FitsChunk}
@@ -16,11 +16,6 @@ use Rattle.cw_tree.specs.Formats.{proof_bytes, chunk_bytes, digests_at, siblings
 
 abbrev same : List ℕ → List ℕ
 same bytes = bytes
-
--- a test behind which more is read
-guard_then : {A : Type 0} (b : Bool) (d : CodecError × List ℕ) (r : Reading A) (y : A × List ℕ) → cond b (Err d) r ≡ Ok y → (b ≡ false) × (r ≡ Ok y)
-guard_then true d r y e = absurd cc
-guard_then false d r y e = (refl, e)
 
 abbrev first_of : List ℕ → List (List ℕ) × List ℕ → Reading (List (List ℕ))
 first_of d others = Ok (d ∷ others.0, others.1)

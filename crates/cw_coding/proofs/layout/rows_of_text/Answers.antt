@@ -2,7 +2,8 @@ use Rattle.std.proofs.Common.{◌≡◌, ℕ, ◌+◌, ◌*◌, ◌<◌, get_or,
 use Rattle.rs_code.specs.Rows.{joined, code_row}
 use Rattle.cw_tree.specs.Widths.{shard_len}
 use Rattle.cw_coding.specs.Layout.{layout}
-use Rattle.cw_coding.proofs.LayoutLaws.{rows_are, rows_long, length-layout, bytes_layout, product_fits}
+use Rattle.cw_tree.proofs.WidthLaws.{product_fits}
+use Rattle.cw_coding.proofs.LayoutLaws.{rows_are, rows_long, length-layout, bytes_layout}
 use Rattle.cw_coding.proofs.layout.rows_of_text.Goals as goal
 
 pub extend-requires-clause-rows : goal.extend-requires-clause-rows
