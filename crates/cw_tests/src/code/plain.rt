@@ -87,14 +87,18 @@ fn numbers(alloc: Global, from: u16, count: u16) -> Result<Vec<u16>, AllocError>
 }
 
 // Originals, recoveries, and the width of a row: less than a block of columns, a block, one column
-// more, and three blocks and one column more.
-const SHAPES: [(u16, u16, usize); 6] = [
+// more, and three blocks and one column more; then the widest narrow row, one column more, and a
+// few columns.
+const SHAPES: [(u16, u16, usize); 9] = [
     (1, 1, 2),
     (2, 2, 8190),
     (3, 5, 8192),
     (2, 3, 8194),
     (3, 17, 66),
     (2, 9, 24578),
+    (4, 13, 126),
+    (4, 13, 128),
+    (5, 4, 10),
 ];
 
 #[test]
