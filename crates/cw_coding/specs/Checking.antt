@@ -55,7 +55,7 @@ AllCheck hash content c root [] [] [] = Unit {0}
 AllCheck hash content c root (i ∷ is) (p ∷ ps) (r ∷ rs) = Checks hash content c root i p r × (r ≢ Err NoMemory) × AllCheck hash content c root is ps rs
 AllCheck hash content c root _ _ _ = ⊥
 
--- the same of digests
+-- of chunks at these indices, in order, each shard's digest, or the first cause of its refusal
 abbrev pub AllStand : {D : Type 0} → (hash : List ℕ → D) (content : D → List ℕ) (c : Counts) (root : D) → List ℕ → List (Piece D) → List (Result D ReedSolomonError) → Type 0
 AllStand hash content c root [] [] [] = Unit {0}
 AllStand hash content c root (i ∷ is) (p ∷ ps) (r ∷ rs) = Stands hash content c root i p r × AllStand hash content c root is ps rs

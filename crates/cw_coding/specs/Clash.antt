@@ -23,7 +23,8 @@ pub record IsFirstDifference (c : Counts) (first second : List ℕ) (index : ℕ
   pub before : (i : ℕ) → i < index → row_at c.minimum first i ≡ row_at c.minimum second i
 
 module _ {D : Type 0} (hash : List ℕ → D) (content : D → List ℕ) where
-  -- all that is hashed from a chunk up to the root: its shard, and the texts on the way up from the shard's digest
+  -- all that is hashed from a chunk up to the root: its shard, and the texts on the way up from the shard's
+  -- digest; none where no such way leads up
   unfoldable pub way_of : Piece D → Option (List (List ℕ))
   way_of p = option_map (λ texts. p.shard ∷ texts) (way_by hash content p.leaf_count p.siblings p.index (hash p.shard))
 
