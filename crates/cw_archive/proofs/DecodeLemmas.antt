@@ -1,6 +1,6 @@
 -- The text that chunks are decoded to, and the texts that they aren't.
-use Rattle.std.proofs.Common.{◌≡◌, ◌≢◌, ℕ, zero, suc, ◌+◌, ◌-◌, ◌*◌, ◌/◌, ◌%◌, ◌^◌, ◌<◌, ◌≤◌, Bool, true, false, cond, not, ◌==◌, List, [], ◌∷◌, ◌++◌, length, map, get_or, slice_get, Some, refl, sym, ◌∙◌, ap, arith, ◌⊎◌, if◌then◌else◌}
-use Rattle.std.specs.List.{AllByRecursion, filter}
+use Rattle.std.proofs.Common.{◌≡◌, ◌≢◌, ℕ, zero, suc, ◌+◌, ◌-◌, ◌*◌, ◌/◌, ◌%◌, ◌^◌, ◌<◌, ◌≤◌, not, ◌==◌, List, [], ◌∷◌, ◌++◌, length, map, get_or, slice_get, Some, refl, sym, ◌∙◌, ap, arith, ◌⊎◌, if◌then◌else◌}
+use Rattle.std.specs.List.{AllByRecursion}
 use Rattle.std.proofs.lemmas.List.{length-map}
 use Rattle.std.proofs.lemmas.List.Elements.{All-from_recursion}
 use Rattle.std.proofs.Math.Nat.{mul-le-mul_left}
@@ -29,15 +29,6 @@ use Rattle.cw_rules_coded.proofs.RealCoder.{listed_at, byte_at}
 use Rattle.shards.proofs.Standing.{stands_under}
 use Rattle.cw_archive.specs.Showing.{AreSufficient}
 use Rattle.cw_archive.proofs.CheckLemmas.{all_under, few_of}
-
-    join : (ys : List X) → AllByRecursion P (filter p ys) → AllByRecursion P (filter (λ x. not (p x)) ys) → AllByRecursion P ys
-    join [] a b = tt
-    join (y ∷ ys) a b = go (p y) (join ys) a b
-      where
-        go : (t : Bool) → (AllByRecursion P (filter p ys) → AllByRecursion P (filter (λ x. not (p x)) ys) → AllByRecursion P ys)
-            → AllByRecursion P (cond t (y ∷ filter p ys) (filter p ys)) → AllByRecursion P (cond (not t) (y ∷ filter (λ x. not (p x)) ys) (filter (λ x. not (p x)) ys)) → AllByRecursion P (y ∷ ys)
-        go true more a b = (a.0, more a.1 b)
-        go false more a b = (b.0, more a b.1)
 
 -- ---- which texts are cut
 

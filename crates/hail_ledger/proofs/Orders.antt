@@ -1,16 +1,15 @@
 -- The heights that are handed out to a member: each is the next one, or at most the next one, or a floor lies above all that are missing.
-use Rattle.std.proofs.Common.{◌≡◌, ◌⊎◌, inl, inr, ℕ, zero, suc, ◌+◌, ◌<◌, ◌≤◌, ◌==◌, Bool, true, false, cond, max, List, [], ◌∷◌, ◌++◌, map, fold, Option, Some, None, option_map, option_and_then, refl, sym, ◌∙◌, ap, subst, arith, append_assoc, append-nil}
+use Rattle.std.proofs.Common.{◌≡◌, ◌⊎◌, inl, inr, ℕ, zero, suc, ◌+◌, ◌<◌, ◌≤◌, ◌==◌, cond, max, List, [], ◌∷◌, ◌++◌, map, fold, Option, Some, None, refl, sym, ◌∙◌, ap, subst, arith, append_assoc, append-nil}
 use Rattle.std.specs.List.{last_or}
 use Rattle.std.specs.Option.{option_map_or}
 use Rattle.std.proofs.lemmas.Bool.{cases_eq, cases_lt}
-use Rattle.cw_types.specs.declared.commitment.Commitment.{Commitment}
 use Rattle.cw_types.specs.declared.event.Handed.{Handed}
 use Rattle.cw_types.specs.declared.note.Note.{Note}
 use Rattle.cw_rules.specs.Accepted.{State}
-use Rattle.cw_rules.specs.Held.{at_height, greatest_floor, held, last_ack, next, resume}
+use Rattle.cw_rules.specs.Held.{greatest_floor, last_ack, next, resume}
 use Rattle.cw_rules.specs.Reached.{In}
 use Rattle.cw_rules.specs.Rules.{Rules}
-use Rattle.cw_rules.specs.Step.{deliveries_within, delivery, handing, with_given}
+use Rattle.cw_rules.specs.Step.{deliveries_within, delivery, with_given}
 use Rattle.cw_rules.proofs.Lists.{in_cases, in_left, in_right}
 use Rattle.hail_ledger.proofs.Acks.{last_there}
 use Rattle.cw_rules.proofs.Acks.{acks, acks_behind, floor_grows}
@@ -178,14 +177,6 @@ next_may heights s is = (omega arith, go (last_or None s.given) refl)
         by None acked =
             let now : next s ≡ max (max 0 floor) floor = fresh ∙ ap (λ o. max (max (option_map_or (λ h. h + 1) o 0) floor) floor) acked in
             inl (omega arith)
-
-    of_place : (o : Option Commitment) → option_and_then (λ c. option_map (handing r (next s) c) (held r s.notes c)) o ≡ Some h → h.height ≡ next s
-    of_place None f = cc
-    of_place (Some c) f = of_block c (held r s.notes c) f
-
-    by : (b : Bool) → cond b (option_and_then (λ c. option_map (handing r (next s) c) (held r s.notes c)) (at_height r s.notes (next s))) None ≡ Some h → h.height ≡ next s
-    by true f = of_place (at_height r s.notes (next s)) f
-    by false f = cc
 
 -- what is handed out stays in order
 pub handed_in_order : (r : Rules) (steps : ℕ) (s : State) (heights : List ℕ) → IsInOrder heights s.notes s.given

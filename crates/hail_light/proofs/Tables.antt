@@ -7,7 +7,7 @@ use Rattle.cw_base.specs.declared.hash.Digest32.{Digest32}
 use Rattle.cw_rules.specs.Report.{Entry, Report as Reported, entries_from, entry_of, first_line}
 use Rattle.cw_rules.specs.Rules.{Rules}
 use Rattle.cw_rules.specs.Step.{Member, Stepped, start}
-use Rattle.cw_rules.specs.World.{Cut, Do, Faulty, Line, Restart, Sent, World, done_by, faults, happens, is_faulty, opening, run, sent_now, signed, with_done}
+use Rattle.cw_rules.specs.World.{Cut, Do, Faulty, Line, Restart, Sent, World, done_by, faults, happens, opening, run, sent_now, signed, with_done}
 use Rattle.hail_script.specs.Grammar.{is_faulty_in, marks}
 use Rattle.hail_script.specs.Scenario.{Scenario}
 use Rattle.hailstorm.specs.declared.report.Report.{Report}
@@ -64,9 +64,6 @@ flags_open r lines total e = all (range_with_len 0 total) ∙ ap (λ n. map is_n
     all : (is : List ℕ) → map (is_faulty_in lines) is ≡ map is_none (map seat is)
     all [] = refl
     all (i ∷ is) = ap (λ (b : Bool). b ∷ map (is_faulty_in lines) is) (one i) ∙ ap (λ (l : List Bool). is_none (seat i) ∷ l) (all is)
-
-    at : (i : ℕ) → marked faulty i ≡ is_faulty w i
-    at i = ap (λ (l : List Bool). marked l i) e ∙ flag w.members i
 
 pub table_is : {H : Type 0} (hash : List ℕ → Digest32) (s : Scenario) (report : Report H) (x : IsRun hash s report) (faulty : List Bool) → faulty ≡ marks s.lines s.committees.total → table faulty (sent_in report.steps) ≡ signed x.world
 table_is hash s report x faulty e =
