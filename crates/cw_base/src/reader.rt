@@ -58,6 +58,12 @@ impl<T: Drop> From<AllocFailed<T>> for CodecError {
 ///
 /// Each of its own calls takes a value at the front, or refuses and leaves the reader where it
 /// stood.
+///
+/// ```text
+/// let mut reader = Reader::new(&[7, 0, 9, 1]);
+/// let (tag, number) = (reader.u8()?, reader.be16()?); // 7 and 9
+/// assert_eq!(rt; reader.be32(), Err(CodecError::EndOfBuffer)); // one byte is left, and stays
+/// ```
 #[derive(Debug, Drop)]
 pub struct Reader<'a> {
     left: &'a [u8],

@@ -23,9 +23,16 @@ fn put_zeros(out: &mut Vec<u8>, count: usize) -> Result<(), NoMemory>
     Ok(())
 }
 
-// The text's length, the text, and zeros up to `k` shards of this width.
+// The text's length, the text, and zeros up to `k` shards of this width, with room for `total` of
+// them.
 #[tactic(auto, unfolding(crate::specs::Layout::layout))]
-pub(crate) fn lay_out(alloc: Global, k: u16, width: usize, text: &[u8]) -> Result<Vec<u8>, NoMemory>
+pub(crate) fn lay_out(
+    alloc: Global,
+    k: u16,
+    total: u16,
+    width: usize,
+    text: &[u8],
+) -> Result<Vec<u8>, NoMemory>
     requires short { length text.now ≤ 2 ^ 32 - 1 }
     requires some { 1 ≤ k }
     requires width { width ≡ shard_len (length text.now) k }
@@ -33,7 +40,7 @@ pub(crate) fn lay_out(alloc: Global, k: u16, width: usize, text: &[u8]) -> Resul
     requires fits { k * width < 2 ^ 63 }
     ensures { IfOk result (λ v. v.items ≡ layout k text.now) }
 {
-    let mut out = Vec::new(alloc);
+    let mut out = Vec::with_capacity(alloc, usize::from(total).saturating_mul(width))?;
     put_be32(&mut out, text.len() as u32)?;
     put_bytes(&mut out, text)?;
     put_zeros(&mut out, usize::from(k) * width - (text.len() + 4))?;
@@ -57,7 +64,7 @@ pub(crate) fn rows_of_text<R: Threads + Sync, S: Strategy>(
     ensures long { IfOk result (λ v. length v.items ≡ (k + m) * shard_len (length text.now) k) }
 {
     let width = canonical_shard_len(text.len(), k);
-    let mut rows = lay_out(alloc, k, width, text)?;
+    let mut rows = lay_out(alloc, k, k + m, width, text)?;
     let recovery = extend(rt, alloc, k, m, &rows, width, strategy)?;
     prove_rows();
     put_bytes(&mut rows, &recovery)?;

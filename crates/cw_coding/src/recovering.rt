@@ -48,7 +48,7 @@ fn text_of(
         return Ok(None);
     }
     let text = &rest[..count];
-    let laid = lay_out(alloc, k, width, text)?;
+    let laid = lay_out(alloc, k, k, width, text)?;
     if !same_bytes(&laid, originals) {
         return Ok(None);
     }

@@ -35,6 +35,14 @@ pub enum Answer {
 /// At place 0 the block is wanted that the vote's payload names, and at each later place the parent
 /// that the block before names, one height lower. Genesis has a commitment of its own; every other
 /// block is named by `commit` among the members of its epoch.
+///
+/// ```text
+/// // a finalization of block 2, and the blocks 2, 1 and genesis, by whoever hands them over
+/// match light_check::<Sha256, _, _, _>(&rt, alloc, &committees, &cert, &path, &v, &Sequential)? {
+///     Answer::Yes { height, digest } => trust(height, digest), // 0, and genesis's digest
+///     told => refuse(told),
+/// }
+/// ```
 pub fn light_check<H: Hasher<Digest = Digest32>, R: Threads + Sync, V: Verifier, S: Strategy>(
     rt: &R,
     alloc: Global,

@@ -15,6 +15,12 @@ use std::sync::Arc;
 /// The committees of a cluster, which are known to all: how many members there are, how many
 /// heights an epoch covers, and the members of each epoch. There are 1 to 64 lists, the last of
 /// which serves for all later epochs. Each has at least four members, which rise.
+///
+/// ```text
+/// let committees = Committees::single(alloc, 4)?;
+/// let config = committees.config(0); // two shards give a block back, two more are sent
+/// assert_eq!(rt; leader(&committees, 0, 6), 2); // the third member leads view 6
+/// ```
 #[derive(Debug, Drop)]
 pub struct Committees {
     total: u16,

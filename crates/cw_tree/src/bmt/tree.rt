@@ -12,6 +12,14 @@ use std::alloc::Global;
 use std::marker::{Model, PhantomData};
 
 /// The digests that a tree is built over, as they come.
+///
+/// ```text
+/// let mut builder = Builder::<Sha256>::new(alloc, 2)?;
+/// builder.add(&Sha256::hash(b"first"))?;
+/// builder.add(&Sha256::hash(b"second"))?;
+/// let tree = builder.build(alloc)?;
+/// let proof = tree.proof(alloc, 1)?; // that "second" stands at 1 under `tree.root()`
+/// ```
 #[derive(Drop)]
 pub struct Builder<H: Hasher> {
     digests: Items<H::Digest>,
