@@ -5,7 +5,6 @@ ghost use Rattle.std.specs.Iterator.{IsFinite, Drains};
 ghost use Rattle.cw_coding.specs.Decoding.{AreDecodable, IsDecoding, IsDecodeRefusal};
 
 use crate::checking::CheckedChunk;
-use crate::encoding::{extra, minimum};
 use crate::error::ReedSolomonError;
 use crate::gathering::{decodable, gathered, ordered};
 use crate::recovering::recovered;
@@ -31,8 +30,8 @@ fn decode_chunks<H: Hasher, R: Threads + Sync, S: Strategy>(
         Ok(width) => width,
         Err(error) => return Err(error),
     };
-    let k = minimum(config);
-    let m = extra(config);
+    let k = config.minimum();
+    let m = config.extra();
     let given = ordered::<H>(alloc, k, shards)?;
     match recovered::<H, R, S>(rt, alloc, k, m, commitment, width, &given, strategy)? {
         Some(text) => Ok(text),

@@ -17,20 +17,6 @@ use cw_tree::{Chunk, canonical_shard_len};
 use std::alloc::Global;
 use std::thread::Threads;
 
-pub(crate) fn minimum(config: &Config) -> u16
-    ensures value { result ≡ config.now.minimum }
-    ensures some { 1 ≤ result }
-{
-    config.minimum_shards.get()
-}
-
-pub(crate) fn extra(config: &Config) -> u16
-    ensures value { result ≡ config.now.extra }
-    ensures some { 1 ≤ result }
-{
-    config.extra_shards.get()
-}
-
 // Whether data of so many bytes is encoded.
 pub(crate) fn is_codable(config: &Config, length: usize) -> bool
     requires total { total_of config.now ≤ 65535 }
@@ -39,7 +25,7 @@ pub(crate) fn is_codable(config: &Config, length: usize) -> bool
     if length > 0xffff_ffff {
         return false;
     }
-    let width = canonical_shard_len(length, minimum(config));
+    let width = canonical_shard_len(length, config.minimum());
     width <= 0xffff_ffff && config.total_shards() as usize * width <= isize::MAX as usize
 }
 
@@ -133,8 +119,8 @@ pub(crate) fn encode_text<H: Hasher, R: Threads + Sync, S: Strategy>(
     if !is_codable(config, input.len()) {
         return Err(ReedSolomonError::InvalidDataLength(input.len()));
     }
-    let k = minimum(config);
-    let m = extra(config);
+    let k = config.minimum();
+    let m = config.extra();
     let rows = rows_of_text(rt, alloc, k, m, input, strategy)?;
     let width = canonical_shard_len(input.len(), k);
     let tree = tree_of_rows::<H, R, S>(rt, alloc, &rows, width, total as u16, strategy)?;

@@ -12,7 +12,7 @@ ghost use Rattle.cw_coding.specs.Decoding.{AreDecodable, IsDecoding, IsDecodeRef
 
 use crate::checking::{CheckedChunk, check_all, check_chunk};
 use crate::decoding::decode_text;
-use crate::encoding::{encode_text, minimum};
+use crate::encoding::encode_text;
 use crate::error::ReedSolomonError;
 use crate::sizes::height_of;
 use cw_base::{Config, Digest, Hasher, Strategy};
@@ -49,7 +49,7 @@ pub trait Scheme {
             × (result
             ≡ 12 + shard_len length config.now.minimum + Self.Hasher.Digest.SIZE * levels) }
     {
-        let width = canonical_shard_len(length, minimum(config));
+        let width = canonical_shard_len(length, config.minimum());
         let levels = height_of(config.total_shards());
         Chunk::<<Self::Hasher as Hasher>::Digest>::max_encode_size(width, levels)
     }

@@ -6,7 +6,7 @@ ghost use Rattle.cw_tree.specs.Widths.{shard_len};
 ghost use Rattle.cw_coding.specs.Totals.{total_of};
 ghost use Rattle.cw_coding.specs.Encoding.{IsEncodable};
 
-use crate::encoding::{is_codable, minimum};
+use crate::encoding::is_codable;
 use cw_base::Config;
 use cw_tree::canonical_shard_len;
 

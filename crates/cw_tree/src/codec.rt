@@ -14,22 +14,24 @@ use crate::width::canonical_shard_len;
 use bytes::Bytes;
 use cw_base::{
     CodecError, Config, Digest, Items, NoMemory, Reader, put_be16, put_be32, put_bytes, put_u8,
-    put_varint,
+    put_varint, undo_refused,
 };
 use std::alloc::Global;
 
-// Adds the bytes of digests.
-fn put_digests<D: Digest>(out: &mut Vec<u8>, digests: &[D]) -> Result<(), NoMemory>
-    ensures ok { OnOk result (out.new.items ≡ out.old.items ++ flat_map D.content digests.now) }
-    ensures err { OnErr result (take (length out.old.items) out.new.items ≡ out.old.items) }
-{
-    for digest in digests {
-        put_bytes(out, digest.as_bytes())?;
-    }
-    Ok(())
-}
-
 impl<D: Digest> Proof<D> {
+    /// Adds the bytes of the proof: four of the leaf count, one for the number of siblings, and the
+    /// siblings. Where memory is short nothing changes.
+    pub fn write(&self, out: &mut Vec<u8>) -> Result<(), NoMemory>
+        ensures ok { OnOk result
+            (out.new.items ≡ out.old.items
+            ++ proof_bytes D.content self.now.leaf_count self.now.siblings) }
+        ensures err { OnErr result (out.new.items ≡ out.old.items) }
+    {
+        let start = out.len();
+        let written = self.write_parts(out);
+        undo_refused(out, start, written)
+    }
+
     // The parts of a proof, of which some may stay where memory is short.
     #[tactic(auto, unfolding(crate::specs::Formats::proof_bytes))]
     fn write_parts(&self, out: &mut Vec<u8>) -> Result<(), NoMemory>
@@ -45,25 +47,20 @@ impl<D: Digest> Proof<D> {
             Err(NoMemory) => Err(NoMemory),
         }
     }
+}
 
-    /// Adds the bytes of the proof: four of the leaf count, one for the number of siblings, and the
-    /// siblings. Where memory is short nothing changes.
+impl<D: Digest> Chunk<D> {
+    /// Adds the bytes of the chunk: the shard's length, the shard, the index and the proof. Where
+    /// memory is short nothing changes.
     pub fn write(&self, out: &mut Vec<u8>) -> Result<(), NoMemory>
-        ensures ok { OnOk result
-            (out.new.items ≡ out.old.items
-            ++ proof_bytes D.content self.now.leaf_count self.now.siblings) }
+        ensures ok { OnOk result (out.new.items ≡ out.old.items ++ chunk_bytes D.content self.now) }
         ensures err { OnErr result (out.new.items ≡ out.old.items) }
     {
         let start = out.len();
         let written = self.write_parts(out);
-        if written.is_err() {
-            out.truncate(start);
-        }
-        written
+        undo_refused(out, start, written)
     }
-}
 
-impl<D: Digest> Chunk<D> {
     // The parts of a chunk, of which some may stay where memory is short.
     #[tactic(auto, unfolding(crate::specs::Formats::chunk_bytes))]
     fn write_parts(&self, out: &mut Vec<u8>) -> Result<(), NoMemory>
@@ -76,20 +73,17 @@ impl<D: Digest> Chunk<D> {
         self.proof().write(out)?;
         Ok(())
     }
+}
 
-    /// Adds the bytes of the chunk: the shard's length, the shard, the index and the proof. Where
-    /// memory is short nothing changes.
-    pub fn write(&self, out: &mut Vec<u8>) -> Result<(), NoMemory>
-        ensures ok { OnOk result (out.new.items ≡ out.old.items ++ chunk_bytes D.content self.now) }
-        ensures err { OnErr result (out.new.items ≡ out.old.items) }
-    {
-        let start = out.len();
-        let written = self.write_parts(out);
-        if written.is_err() {
-            out.truncate(start);
-        }
-        written
+// Adds the bytes of digests.
+fn put_digests<D: Digest>(out: &mut Vec<u8>, digests: &[D]) -> Result<(), NoMemory>
+    ensures ok { OnOk result (out.new.items ≡ out.old.items ++ flat_map D.content digests.now) }
+    ensures err { OnErr result (take (length out.old.items) out.new.items ≡ out.old.items) }
+{
+    for digest in digests {
+        put_bytes(out, digest.as_bytes())?;
     }
+    Ok(())
 }
 
 // The digest at the front.

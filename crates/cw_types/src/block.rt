@@ -9,7 +9,9 @@ ghost use Rattle.cw_base.specs.Ends.{IsEnd};
 ghost use Rattle.cw_base.specs.Reading.{IsRead, Gives};
 
 use crate::commitment::{Commitment, put_at, read_digest};
-use cw_base::{CodecError, Digest32, NoMemory, Reader, put_be16, put_be64, put_bytes, put_varint};
+use cw_base::{
+    CodecError, Digest32, NoMemory, Reader, put_be16, put_be64, put_bytes, put_varint, undo_refused,
+};
 use std::alloc::Global;
 use std::marker::Model;
 
@@ -60,10 +62,7 @@ impl Context {
     {
         let start = out.len();
         let written = self.write_parts(out);
-        if written.is_err() {
-            out.truncate(start);
-        }
-        written
+        undo_refused(out, start, written)
     }
 
     // What was written before memory ran short stays.
@@ -291,10 +290,7 @@ impl ChainBlock {
     {
         let start = out.len();
         let written = self.write_parts(out);
-        if written.is_err() {
-            out.truncate(start);
-        }
-        written
+        undo_refused(out, start, written)
     }
 
     // What was written before memory ran short stays.

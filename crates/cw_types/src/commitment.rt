@@ -7,7 +7,7 @@ ghost use Rattle.cw_types.specs.Reading.{commitment_at, digest_at};
 ghost use Rattle.cw_base.specs.Ends.{IsEnd};
 ghost use Rattle.cw_base.specs.Reading.{IsRead};
 
-use cw_base::{CodecError, Config, Digest, Digest32, NoMemory, Reader, put_bytes};
+use cw_base::{CodecError, Config, Digest, Digest32, NoMemory, Reader, put_bytes, undo_refused};
 
 /// What names a block: the digest of its bytes, the root of the shards that it is cut into, the
 /// digest of its context, and how it is cut. In bytes: 32, 32, 32 and 4.
@@ -53,10 +53,7 @@ impl Commitment {
     {
         let start = out.len();
         let written = self.write_parts(out);
-        if written.is_err() {
-            out.truncate(start);
-        }
-        written
+        undo_refused(out, start, written)
     }
 
     // What was written before memory ran short stays.

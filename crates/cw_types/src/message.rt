@@ -13,6 +13,7 @@ use crate::commitment::Commitment;
 use crate::vote::{Cert, Vote};
 use cw_base::{
     CodecError, Config, Digest32, Items, NoMemory, Reader, put_be16, put_be64, put_bytes, put_u8,
+    undo_refused,
 };
 use cw_tree::Chunk;
 use std::alloc::Global;
@@ -64,10 +65,7 @@ impl Message {
     {
         let start = out.len();
         let written = self.write_parts(out);
-        if written.is_err() {
-            out.truncate(start);
-        }
-        written
+        undo_refused(out, start, written)
     }
 
     // What was written before memory ran short stays.

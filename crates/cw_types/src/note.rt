@@ -12,7 +12,7 @@ ghost use Rattle.cw_base.specs.Reading.{IsRead, Gives};
 use crate::block::{ChainBlock, read_height};
 use crate::commitment::Commitment;
 use crate::vote::{Cert, Proposal, Vote, is_ordered, read_later_epoch, read_signed, well_formed};
-use cw_base::{CodecError, NoMemory, Reader, put_be64, put_u8};
+use cw_base::{CodecError, NoMemory, Reader, put_be64, put_u8, undo_refused};
 use std::alloc::Global;
 
 /// A note of a member.
@@ -65,10 +65,7 @@ impl Note {
     {
         let start = out.len();
         let written = self.write_parts(out);
-        if written.is_err() {
-            out.truncate(start);
-        }
-        written
+        undo_refused(out, start, written)
     }
 
     // What was written before memory ran short stays.

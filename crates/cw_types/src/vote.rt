@@ -12,7 +12,7 @@ ghost use Rattle.cw_base.specs.Ends.{IsEnd};
 ghost use Rattle.cw_base.specs.Reading.{IsRead, IsRefused, Gives};
 
 use crate::commitment::Commitment;
-use cw_base::{CodecError, Items, NoMemory, Reader, put_be16, put_be64, put_u8};
+use cw_base::{CodecError, Items, NoMemory, Reader, put_be16, put_be64, put_u8, undo_refused};
 use std::alloc::Global;
 
 /// A block that is proposed in a view of an epoch, over the block of an earlier view.
@@ -63,10 +63,7 @@ impl Proposal {
     {
         let start = out.len();
         let written = self.write_parts(out);
-        if written.is_err() {
-            out.truncate(start);
-        }
-        written
+        undo_refused(out, start, written)
     }
 
     // What was written before memory ran short stays.
@@ -153,10 +150,7 @@ impl Vote {
     {
         let start = out.len();
         let written = self.write_parts(out);
-        if written.is_err() {
-            out.truncate(start);
-        }
-        written
+        undo_refused(out, start, written)
     }
 
     // What was written before memory ran short stays.
@@ -284,10 +278,7 @@ impl Cert {
     {
         let start = out.len();
         let written = self.write_parts(out);
-        if written.is_err() {
-            out.truncate(start);
-        }
-        written
+        undo_refused(out, start, written)
     }
 
     // What was written before memory ran short stays.

@@ -39,7 +39,7 @@ use std::thread::Threads;
 /// A cluster of members.
 ///
 /// ```text
-/// let script = b"cluster 4 8\ntimeout 1 0\n";
+/// let script = b"cluster 4 8\ntimeout 1 1\n";
 /// let report = World::run::<Sha256, _, _>(&rt, alloc, script, &Sequential)?;
 /// assert_eq!(rt; report.chain.len(), 1); // genesis, which is handed out at each start
 /// ```

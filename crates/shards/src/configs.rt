@@ -9,14 +9,6 @@ ghost use Rattle.cw_types.specs.Numbers.{config_for};
 use cw_base::Config;
 use cw_types::Committees;
 
-/// How many chunks show a block.
-pub(crate) fn minimum(config: &Config) -> u16
-    ensures value { result ≡ config.now.minimum }
-    ensures some { 1 ≤ result }
-{
-    config.minimum_shards.get()
-}
-
 /// Whether a config is that of some epoch.
 pub(crate) fn has_config(committees: &Committees, config: &Config) -> bool
     ensures value { result

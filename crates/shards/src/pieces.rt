@@ -4,7 +4,6 @@ ghost use Rattle.std.specs.Prelude.{◌≡◌, ◌==◌, ◌-◌, [], ◌∷◌,
 ghost use Rattle.cw_types.specs.Same.{same_commitment};
 ghost use Rattle.shards.specs.Kept.{chunks_of, is_known};
 
-use crate::configs::minimum;
 use cw_base::{Digest32, NoMemory};
 use cw_coding::Chunk;
 use cw_types::Commitment;
@@ -29,7 +28,7 @@ pub(crate) fn lack_one(kept: &[KeptChunk], commitment: &Commitment) -> bool
     ensures { result ≡ (length (filter (λ k. same_commitment commitment.now k.commitment) kept.now)
         == commitment.now.config.minimum - 1) }
 {
-    count(kept, commitment) == usize::from(minimum(&commitment.config) - 1)
+    count(kept, commitment) == usize::from(commitment.config.minimum() - 1)
 }
 
 // How many chunks of a commitment were kept.
