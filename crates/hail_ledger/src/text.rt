@@ -24,14 +24,14 @@ pub(crate) fn ledger_text(
     for index in 0..members.len() {
         let acked = &members[index];
         let replica = &replicas[index];
-        put_replica(&mut out, alloc, acked.member, replica)?;
+        put_replica(alloc, &mut out, acked.member, replica)?;
     }
     Ok(out.into_bytes())
 }
 
 fn put_replica(
-    out: &mut String,
     alloc: Global,
+    out: &mut String,
     member: u16,
     replica: &Replica<MemoryDisk>,
 ) -> Result<(), NoMemory>

@@ -150,7 +150,7 @@ fn share_by<
     ensures { IfSome result (λ t. t.laned ≡ turning.laned) }
 {
     let lines = turning.lines_left(alloc).ok()?;
-    let mut mailbox = Mailbox::new(PARTS, alloc, blank, turning).ok()?;
+    let mut mailbox = Mailbox::new(alloc, PARTS, blank, turning).ok()?;
     let jobs = jobs_of(alloc, &mut mailbox, &lines)?;
     let done = thread::map_vec(
         rt,

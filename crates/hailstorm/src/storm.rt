@@ -259,7 +259,7 @@ pub(crate) fn summary_text<H: Hasher<Digest = Digest32>>(
     put_events(&mut out, steps.len())?;
     put_messages(&mut out, sent_in(opening, steps))?;
     put_handed(&mut out, handed_in(opening, steps))?;
-    put_chain::<H>(&mut out, report.chain.as_slice(), alloc)?;
+    put_chain::<H>(alloc, &mut out, report.chain.as_slice())?;
     Ok(out.into_bytes())
 }
 
@@ -293,23 +293,23 @@ fn put_handed(out: &mut String, handed: u128) -> Result<(), NoMemory>
 }
 
 fn put_chain<H: Hasher<Digest = Digest32>>(
+    alloc: Global,
     out: &mut String,
     links: &[ChainBlock],
-    alloc: Global,
 ) -> Result<(), NoMemory>
     ensures { OnOk result
         (string_bytes out.new ≡ string_bytes out.old ++ text.top_text H.digest_of links.now) }
 {
     match links.last() {
-        Some(top) => put_top::<H>(out, top, alloc),
+        Some(top) => put_top::<H>(alloc, out, top),
         None => Ok(()),
     }
 }
 
 fn put_top<H: Hasher<Digest = Digest32>>(
+    alloc: Global,
     out: &mut String,
     top: &ChainBlock,
-    alloc: Global,
 ) -> Result<(), NoMemory>
     ensures { OnOk result
         (string_bytes out.new ≡ string_bytes out.old ++ text.top_lines H.digest_of top.now) }

@@ -24,19 +24,19 @@ pub fn report_text<H: Hasher<Digest = Digest32>>(
         (λ text. text.items ≡ spec.report_text H.digest_of (shown_report report.now)) }
 {
     let mut out = String::new(alloc);
-    put_opening::<H>(&mut out, report.opening.as_slice(), alloc)?;
-    put_steps::<H>(&mut out, report.steps.as_slice(), alloc)?;
+    put_opening::<H>(alloc, &mut out, report.opening.as_slice())?;
+    put_steps::<H>(alloc, &mut out, report.steps.as_slice())?;
     put_members(&mut out, report.acked.as_slice())?;
-    put_chain::<H>(&mut out, report.chain.as_slice(), alloc)?;
+    put_chain::<H>(alloc, &mut out, report.chain.as_slice())?;
     let events = report.steps.len();
     write!(out, "done {events}\n")?;
     Ok(out.into_bytes())
 }
 
 fn put_opening<H: Hasher<Digest = Digest32>>(
+    alloc: Global,
     out: &mut String,
     entries: &[Entry],
-    alloc: Global,
 ) -> Result<(), NoMemory>
     ensures { OnOk result
         (string_bytes out.new ≡ string_bytes out.old ++ flat_map
@@ -44,15 +44,15 @@ fn put_opening<H: Hasher<Digest = Digest32>>(
 {
     for entry in entries {
         put_open(out, entry.member)?;
-        put_gave::<H>(out, entry, alloc)?;
+        put_gave::<H>(alloc, out, entry)?;
     }
     Ok(())
 }
 
 fn put_steps<H: Hasher<Digest = Digest32>>(
+    alloc: Global,
     out: &mut String,
     entries: &[Entry],
-    alloc: Global,
 ) -> Result<(), NoMemory>
     ensures { OnOk result
         (string_bytes out.new ≡ string_bytes out.old ++ flat_map
@@ -61,7 +61,7 @@ fn put_steps<H: Hasher<Digest = Digest32>>(
     for entry in entries {
         put_step(out, entry.line)?;
         put_found(out, entry.found)?;
-        put_gave::<H>(out, entry, alloc)?;
+        put_gave::<H>(alloc, out, entry)?;
     }
     Ok(())
 }
@@ -98,38 +98,38 @@ fn put_found(out: &mut String, found: Option<u64>) -> Result<(), NoMemory>
 
 // The messages of an entry, and then its blocks.
 fn put_gave<H: Hasher<Digest = Digest32>>(
+    alloc: Global,
     out: &mut String,
     entry: &Entry,
-    alloc: Global,
 ) -> Result<(), NoMemory>
     ensures { OnOk result
         (string_bytes out.new ≡ string_bytes out.old ++ spec.gave_text H.digest_of entry.now) }
 {
-    put_sends::<H>(out, entry.sent.as_slice(), alloc)?;
-    put_handed(out, entry.member, entry.handed.as_slice(), alloc)?;
+    put_sends::<H>(alloc, out, entry.sent.as_slice())?;
+    put_handed(alloc, out, entry.member, entry.handed.as_slice())?;
     Ok(())
 }
 
 fn put_sends<H: Hasher<Digest = Digest32>>(
+    alloc: Global,
     out: &mut String,
     messages: &[Sent],
-    alloc: Global,
 ) -> Result<(), NoMemory>
     ensures { OnOk result
         (string_bytes out.new ≡ string_bytes out.old ++ flat_map
         (spec.sent_line H.digest_of) messages.now) }
 {
     for sent in messages {
-        put_sent::<H>(out, sent, alloc)?;
+        put_sent::<H>(alloc, out, sent)?;
     }
     Ok(())
 }
 
 #[tactic(auto, unfolding(crate::specs::Text::sent_line))]
 fn put_sent<H: Hasher<Digest = Digest32>>(
+    alloc: Global,
     out: &mut String,
     sent: &Sent,
-    alloc: Global,
 ) -> Result<(), NoMemory>
     ensures { OnOk result
         (string_bytes out.new ≡ string_bytes out.old ++ spec.sent_line H.digest_of sent.now) }
@@ -241,10 +241,10 @@ fn what_text(alloc: Global, message: &Message) -> Result<String, NoMemory>
 }
 
 fn put_handed(
+    alloc: Global,
     out: &mut String,
     member: Option<u16>,
     handed: &[Handed],
-    alloc: Global,
 ) -> Result<(), NoMemory>
     ensures { OnOk result
         (string_bytes out.new ≡ string_bytes out.old ++ spec.hands_text member handed.now) }
@@ -252,28 +252,28 @@ fn put_handed(
     let Some(member) = member else {
         return Ok(());
     };
-    put_hands(out, member, handed, alloc)?;
+    put_hands(alloc, out, member, handed)?;
     Ok(())
 }
 
 fn put_hands(
+    alloc: Global,
     out: &mut String,
     member: u16,
     handed: &[Handed],
-    alloc: Global,
 ) -> Result<(), NoMemory>
     ensures { OnOk result
         (string_bytes out.new ≡ string_bytes out.old ++ flat_map
         (spec.hand_line member) handed.now) }
 {
     for block in handed {
-        put_hand(out, member, block, alloc)?;
+        put_hand(alloc, out, member, block)?;
     }
     Ok(())
 }
 
 #[tactic(auto, unfolding(crate::specs::Text::hand_line))]
-fn put_hand(out: &mut String, member: u16, handed: &Handed, alloc: Global) -> Result<(), NoMemory>
+fn put_hand(alloc: Global, out: &mut String, member: u16, handed: &Handed) -> Result<(), NoMemory>
     ensures { OnOk result
         (string_bytes out.new ≡ string_bytes out.old ++ spec.hand_line member handed.now) }
 {
@@ -312,25 +312,25 @@ fn put_member(out: &mut String, acked: &Acked) -> Result<(), NoMemory>
 }
 
 fn put_chain<H: Hasher<Digest = Digest32>>(
+    alloc: Global,
     out: &mut String,
     chain: &[ChainBlock],
-    alloc: Global,
 ) -> Result<(), NoMemory>
     ensures { OnOk result
         (string_bytes out.new ≡ string_bytes out.old ++ spec.chain_text H.digest_of 0 chain.now) }
 {
     for (height, block) in chain.iter().enumerate() {
-        put_link::<H>(out, height, block, alloc)?;
+        put_link::<H>(alloc, out, height, block)?;
     }
     Ok(())
 }
 
 #[tactic(auto, unfolding(crate::specs::Text::chain_line))]
 fn put_link<H: Hasher<Digest = Digest32>>(
+    alloc: Global,
     out: &mut String,
     height: usize,
     block: &ChainBlock,
-    alloc: Global,
 ) -> Result<(), NoMemory>
     ensures { OnOk result
         (string_bytes out.new ≡ string_bytes out.old

@@ -44,7 +44,7 @@ pub enum CloseError<T: Turn, L: Session<T>> {
 /// fn session<L: Session<Counter>, R: Wait>(rt: &R, alloc: Global, blank: Blank) -> ..
 ///     requires { .. } // what `Mailbox::new` requires
 /// {
-///     let mut mailbox: Mailbox<Counter, L> = Mailbox::new(2, alloc, blank, Counter::new())?;
+///     let mut mailbox: Mailbox<Counter, L> = Mailbox::new(alloc, 2, blank, Counter::new())?;
 ///     let mut other = mailbox.split(alloc)?; // for another thread
 ///     let place = mailbox.step(rt, alloc, 5)?;
 ///     other.step(rt, alloc, 7)?;
@@ -90,7 +90,7 @@ impl<T: Turn, L: Session<T>> Model for Mailbox<T, L> {
 
 impl<T: Turn, L: Session<T>> Mailbox<T, L> {
     /// Opens the session that L names, in so many parts. Refused for memory it leaves nothing.
-    pub fn new(parts: u64, alloc: Global, blank: Blank, state: T) -> Result<Mailbox<T, L>, NoMemory>
+    pub fn new(alloc: Global, parts: u64, blank: Blank, state: T) -> Result<Mailbox<T, L>, NoMemory>
         requires name { blank.name ≡ L.name }
         requires blank { blank.parts ≡ L.parts }
         requires agreed { L.all ≡ L.parts }

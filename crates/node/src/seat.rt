@@ -22,7 +22,7 @@ use std::thread::Threads;
 /// ```text
 /// let seat = Seat::new(node, verifier, Sequential);
 /// // in a session over L
-/// let mut mailbox: Mailbox<Seat<..>, L> = Mailbox::new(1, alloc, blank, seat)?;
+/// let mut mailbox: Mailbox<Seat<..>, L> = Mailbox::new(alloc, 1, blank, seat)?;
 /// let place = step_seat(&rt, alloc, &mut mailbox, Event::Ack)?;
 /// ```
 #[derive(Drop)]

@@ -92,7 +92,7 @@ fn two_lanes<G: Gate, L: Session<Counter> + Send + Sync, R: Threads + Wait + Syn
     requires parts { L.all ≡ 2 }
     requires opening { L.opening ≡ Some (record { value = 0 }) }
 {
-    let mut mailbox: Mailbox<Counter, L> = Mailbox::new(2, alloc, blank, Counter { value: 0 })?;
+    let mut mailbox: Mailbox<Counter, L> = Mailbox::new(alloc, 2, blank, Counter { value: 0 })?;
     let other = mailbox.split(alloc)?;
     let (mut mailbox, other) = thread::join(
         rt,
@@ -123,7 +123,7 @@ fn one_left_out<L: Session<Counter>, R: Wait>(
     requires parts { L.all ≡ 2 }
     requires opening { L.opening ≡ Some (record { value = 0 }) }
 {
-    let mut mailbox: Mailbox<Counter, L> = Mailbox::new(2, alloc, blank, Counter { value: 0 })?;
+    let mut mailbox: Mailbox<Counter, L> = Mailbox::new(alloc, 2, blank, Counter { value: 0 })?;
     let other = mailbox.split(alloc)?;
     let _ = mailbox.step(rt, alloc, 3)?;
     let mut mailbox = match mailbox.close(rt) {

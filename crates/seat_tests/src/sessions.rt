@@ -98,7 +98,7 @@ fn two_mailboxes<T: Turn, L: Session<T>>(
     requires parts { L.all ≡ 2 }
     requires opening { L.opening ≡ Some state }
 {
-    let mut mailbox: Mailbox<T, L> = Mailbox::new(2, alloc, blank, state)?;
+    let mut mailbox: Mailbox<T, L> = Mailbox::new(alloc, 2, blank, state)?;
     let other = mailbox.split(alloc)?;
     Ok((mailbox, other))
 }
