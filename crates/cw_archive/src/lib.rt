@@ -11,7 +11,6 @@ mod key;
 mod laws;
 mod put;
 mod queue;
-mod reading;
 mod showing;
 
 pub use archive::Archive;

@@ -11,7 +11,6 @@ ghost use Rattle.shards.specs.Enough.{AreOfText, IsRooted};
 
 use crate::checks::checked_all;
 use crate::queue::ChunkQueue;
-use crate::reading::read_block;
 use cw_base::{Digest32, Hasher, NoMemory, Strategy};
 use cw_coding::{Chunk, ReedSolomon, ReedSolomonError, Scheme, encodings_decode};
 use cw_rules_coded::coded_laws;
@@ -121,7 +120,7 @@ fn block_of<H: Hasher<Digest = Digest32>>(
     ensures { IfOk result (λ block. block
         ≡ option_and_then (if_named H.digest_of commitment.now) (block_in text.now)) }
 {
-    match read_block(alloc, text)? {
+    match ChainBlock::of_bytes(alloc, text)? {
         Some(block) => {
             if is_named::<H>(commitment, &block, text) {
                 Ok(Some(block))

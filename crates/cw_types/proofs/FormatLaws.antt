@@ -1,6 +1,7 @@
 -- Each value reads back as it was written, and what is read is in its format.
 use Rattle.std.proofs.Common.{◌≡◌, ℕ, ◌-◌, ◌^◌, ◌<◌, ◌≤◌, Bool, true, false, cond, nat_lt, List, []}
-use Rattle.std.proofs.Common.{◌∷◌, ◌++◌, length, Some, Ok, Err, refl, sym, ap, subst, ◌∙◌}
+use Rattle.std.proofs.Common.{◌∷◌, ◌++◌, length, Option, None, Some, Result, Ok, Err, IfOk, IfSome}
+use Rattle.std.proofs.Common.{refl, sym, ap, subst, ◌∙◌}
 use Rattle.std.proofs.Common.{append_assoc, arith}
 use Rattle.std.proofs.lemmas.List.{append-nil}
 use Rattle.std.proofs.lemmas.Bool.{ltb-true, ltb-false, lt-ltb, le-ltb}
@@ -273,6 +274,13 @@ unfolding block_in
 block_found text b fits e =
     let h = block_reads_back.found text [] b fits (ends (block_at text) b e) in
     (sym (append-nil (block_bytes b)) ∙ sym h.0, h.1)
+
+-- what is read of a whole text as a block has that text for its bytes
+pub read_bytes : {E : Type 0} (text : List ℕ) (r : Result (Option Block) E) → IsBytes text
+    → IfOk r (λ o. o ≡ block_in text) → IfOk r (λ o. IfSome o (λ b. block_bytes b ≡ text))
+read_bytes text (Ok None) bytes h = tt
+read_bytes text (Ok (Some b)) bytes h = (block_found text b bytes (sym h)).0
+read_bytes text (Err e) bytes h = tt
 
 -- the text of a block is that block's
 pub block_again : (b : Block) → IsBlock b → block_in (block_bytes b) ≡ Some b

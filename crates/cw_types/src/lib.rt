@@ -6,6 +6,7 @@
 mod application;
 mod automaton;
 mod block;
+mod block_text;
 mod chain;
 mod commitment;
 pub mod committees;

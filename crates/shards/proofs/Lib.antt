@@ -1,4 +1,3 @@
-pub mod Read
 pub mod Lists
 pub mod Answered
 pub mod KeptLemmas

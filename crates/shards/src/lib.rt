@@ -10,7 +10,6 @@ mod cut;
 mod kept;
 mod laws;
 mod pieces;
-mod reading;
 mod showing;
 mod verdict;
 

@@ -17,7 +17,6 @@ ghost use Rattle.shards.specs.Verdicts.{kept_verdict};
 use crate::checks::checked_all;
 use crate::laws::coder_laws;
 use crate::pieces::{self, KeptChunk};
-use crate::reading::read_block;
 use crate::verdict::Verdict;
 use cw_base::{Config, Digest32, Hasher, NoMemory, Strategy};
 use cw_coding::{Chunk, ReedSolomon, ReedSolomonError, Scheme, encodings_decode};
@@ -111,7 +110,7 @@ fn block_of<H: Hasher<Digest = Digest32>>(
         ≡ option_and_then (if_committed (rules_of H.digest_of committees.now) commitment.now)
         (block_in text.now)) }
 {
-    match read_block(alloc, text)? {
+    match ChainBlock::of_bytes(alloc, text)? {
         Some(block) => {
             if is_committed::<H>(committees, commitment, &block, text) {
                 Ok(Some(block))

@@ -1,25 +1,26 @@
-//! Reading of blocks.
+//! Blocks of whole texts.
 
 ghost use Rattle.std.specs.Prelude.{◌≡◌, IfOk, IfSome, Ok};
 ghost use Rattle.cw_types.specs.Encoding.{block_bytes};
 ghost use Rattle.cw_types.specs.Reading.{block_in, to_the_end};
 
+use crate::block::ChainBlock;
 use cw_base::{CodecError, NoMemory, Reader};
-use cw_types::ChainBlock;
-use cw_types::laws::blocks_read_back;
 use std::alloc::Global;
 
-/// The block whose bytes these are.
-pub(crate) fn read_block(alloc: Global, bytes: &[u8]) -> Result<Option<ChainBlock>, NoMemory>
-    ensures value { IfOk result (λ block. block ≡ block_in bytes.now) }
-    ensures bytes { IfOk result (λ block. IfSome block (λ block. block_bytes block ≡ bytes.now)) }
-{
-    blocks_read_back();
-    read_whole(alloc, bytes)
+impl ChainBlock {
+    /// The block whose bytes these are, all of them. `None` where they are no block's.
+    pub fn of_bytes(alloc: Global, bytes: &[u8]) -> Result<Option<ChainBlock>, NoMemory>
+        ensures value { IfOk result (λ block. block ≡ block_in bytes.now) }
+        ensures bytes { IfOk result
+            (λ block. IfSome block (λ block. block_bytes block ≡ bytes.now)) }
+    {
+        read_whole(alloc, bytes)
+    }
 }
 
 // The block whose bytes these are, by what is read.
-#[tactic(auto, unfolding(cw_types::specs::Reading::block_in))]
+#[tactic(auto, unfolding(crate::specs::Reading::block_in))]
 fn read_whole(alloc: Global, bytes: &[u8]) -> Result<Option<ChainBlock>, NoMemory>
     ensures { IfOk result (λ block. block ≡ block_in bytes.now) }
 {
