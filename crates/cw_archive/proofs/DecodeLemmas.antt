@@ -1,9 +1,8 @@
 -- The text that chunks are decoded to, and the texts that they aren't.
-use Rattle.std.proofs.Common.{◌≡◌, ◌≢◌, ℕ, zero, suc, ◌+◌, ◌-◌, ◌*◌, ◌/◌, ◌%◌, ◌^◌, ◌<◌, ◌≤◌, not, ◌==◌, List, [], ◌∷◌, ◌++◌, length, map, get_or, slice_get, Some, refl, sym, ◌∙◌, ap, arith, ◌⊎◌, if◌then◌else◌}
+use Rattle.std.proofs.Common.{◌≡◌, ◌≢◌, ℕ, zero, suc, ◌+◌, ◌-◌, ◌^◌, ◌<◌, ◌≤◌, not, ◌==◌, List, [], ◌∷◌, ◌++◌, length, map, get_or, slice_get, Some, refl, sym, ◌∙◌, ap, arith, ◌⊎◌, if◌then◌else◌}
 use Rattle.std.specs.List.{AllByRecursion}
 use Rattle.std.proofs.lemmas.List.{length-map}
 use Rattle.std.proofs.lemmas.List.Elements.{All-from_recursion}
-use Rattle.std.proofs.Math.Nat.{mul-le-mul_left}
 use Rattle.cw_base.specs.Rows.{listed}
 use Rattle.cw_base.specs.Counts.{Counts}
 use Rattle.cw_base.specs.declared.hash.Digest32.{Digest32}
@@ -16,7 +15,7 @@ use Rattle.cw_coding.specs.Laws.{AnyEnoughDecode, IsChunkOf}
 use Rattle.cw_coding.specs.Totals.{total_of}
 use Rattle.cw_coding.specs.declared.error.ReedSolomonError.{ReedSolomonError}
 use Rattle.cw_coding.specs.declared.error.ReedSolomonError.TheVariants.{NoMemory}
-use Rattle.cw_tree.proofs.WidthLaws.{product_fits}
+use Rattle.cw_tree.proofs.WidthLaws.{product_fits, shard_len-narrow}
 use Rattle.cw_tree.specs.Widths.{shard_len}
 use Rattle.cw_types.specs.declared.commitment.Commitment.{Commitment}
 use Rattle.cw_rules.specs.Coding.{AreApart, AreByteChunks, IsCoder}
@@ -32,25 +31,10 @@ use Rattle.cw_archive.proofs.CheckLemmas.{all_under, few_of}
 
 -- ---- which texts are cut
 
--- the shards of a text are hardly longer than it
-hardly_wider : (n k : ℕ) → 1 ≤ k → shard_len n k ≤ n + 5
-unfolding shard_len
-hardly_wider n zero h = absurd (omega arith)
-hardly_wider n (suc k) h =
-    let lower : suc k * ((n + 4 + (suc k - 1)) / suc k) ≤ n + 4 + (suc k - 1) = omega arith in
-    go k ((n + 4 + (suc k - 1)) / suc k) lower
-  where
-    go : (j q : ℕ) → suc j * q ≤ n + 4 + (suc j - 1) → q + q % 2 ≤ n + 5
-    go j zero l = omega arith
-    go j (suc q) l =
-        let some : 1 ≤ suc q = omega arith in
-        let big : j * 1 ≤ j * suc q = mul-le-mul_left j some in
-        omega arith
-
 -- a text that is as short as a block's is cut by any config
 pub short_codable : (x : Counts) (n : ℕ) → 1 ≤ x.minimum → total_of x ≤ 65535 → n ≤ 1048745 → IsCodable x n
 short_codable x n some few short =
-    let wide = hardly_wider n x.minimum some in
+    let wide = shard_len-narrow n x.minimum some in
     let fits = product_fits (total_of x) (shard_len n x.minimum) few (omega arith) in
     record { short = omega arith; narrow = omega arith; room = omega arith }
 

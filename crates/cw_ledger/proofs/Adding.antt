@@ -1,12 +1,14 @@
 -- One frame more on the log of a replica.
-use Rattle.std.proofs.Common.{◌≡◌, inl, inr, ℕ, suc, ◌+◌, ◌<◌, ◌^◌, List, [], ◌∷◌, ◌++◌, length, Option, None, Some, Result, Ok, Err, refl, sym, ap, ◌∙◌, append-nil, arith, length-append}
+use Rattle.std.proofs.Common.{◌≡◌, inl, inr, ℕ, suc, ◌+◌, ◌<◌, ◌^◌, List, [], ◌∷◌, ◌++◌, length, Option, None, Some, Result, Ok, Err, refl, sym, ap, ◌∙◌, arith, length-append}
 use Rattle.node_disk.proofs.Compose.{stays, weakens}
-use Rattle.node_disk.specs.Disk.{DeviceCall, DiskState, IsFront, LeavesOnly, told_more}
+use Rattle.node_disk.specs.Disk.{DiskState, LeavesOnly}
 use Rattle.node_disk.specs.Frames.{Finds, FindsWithOrWithout}
 use Rattle.node_disk.specs.Images.{Moment}
 use Rattle.node_disk.specs.Log.{IsBeforeOrSame, HasSettled, with_frame}
 use Rattle.node_disk.proofs.AtRest.{settled_images}
 use Rattle.cw_base.specs.Bytes.{be64}
+use Rattle.cw_base.proofs.Lengths.{length-be64}
+use Rattle.node_disk.proofs.Lists.{same_Ok}
 use Rattle.cw_ledger.specs.Frames.{FindsEither, FindsPayloads, IsBeforeOrPayloads, first_payload, payload_in, payloads_from, payloads_of, with_payload}
 use Rattle.cw_ledger.specs.Kept.{KeepBalances, amount_in, kept_payloads, payloads_or_none}
 use Rattle.cw_ledger.specs.Ledger.{frame_of, frames_of}
@@ -16,9 +18,6 @@ use Rattle.cw_ledger.proofs.Moving.{balances_more, moved_all_same}
 use Rattle.cw_ledger.proofs.Reading.{found_again}
 
 -- ---- one frame more
-
-same_Ok : {A : Type 0} (x y : A) → ◌≡◌ {A = Result A ℕ} (Ok x) (Ok y) → x ≡ y
-same_Ok x y e = cc
 
 one_more : (place height : ℕ) (frames payloads : List (List ℕ)) (frame payload : List ℕ)
     → payloads_from place height frames ≡ Ok payloads → payload_in (height + length frames) frame ≡ Some payload → payloads_from place height (frames ++ frame ∷ []) ≡ Ok (payloads ++ payload ∷ [])
@@ -58,22 +57,10 @@ stays_found frames payloads others gate disk found settled =
     stays disk disk (FindsEither payloads others) (record { now = refl; past = refl; calls = refl })
     (λ image is. inl (finds_payloads frames payloads image found (settled_images frames gate disk.now settled image is)))
 
--- no device was called
-pub told_none : (told : Option (List DeviceCall)) → told ≡ told_more told []
-told_none None = refl
-told_none (Some told) = ap Some (sym (append-nil told))
-
-pub front_of_none : (calls : List DeviceCall) (disk : DiskState) → IsFront calls disk disk
-front_of_none calls disk = record { did = []; rest = calls; whole = refl; told = told_none disk.calls }
-
 -- ---- a payload more
 
-eight : (n : ℕ) → length (be64 n) ≡ 8
-unfolding be64
-eight n = refl
-
 long_frame : (height : ℕ) (payload : List ℕ) → 0 < length (frame_of (height, payload))
-long_frame height payload = omega (arith, length-append (be64 height) payload, eight height)
+long_frame height payload = omega (arith, length-append (be64 height) payload, length-be64 height)
 
 added : (frames : List (List ℕ)) (frame : List ℕ) → 0 < length frame → with_frame frames frame ≡ frames ++ frame ∷ []
 added frames [] none = absurd (omega arith)

@@ -1,18 +1,11 @@
 -- What a block of each height does.
 use Rattle.std.proofs.Common.{◌≡◌, ℕ, ◌<◌, ◌==◌, Bool, true, false, cond, nat_lt, List, [], ◌∷◌, ◌++◌, length, Result, Err, refl, sym, ap, ◌∙◌, arith}
-use Rattle.std.proofs.lemmas.Bool.{eqb-true, ltb-true, lt-ltb}
+use Rattle.std.proofs.lemmas.Bool.{ltb-true, lt-ltb, ne_eqb}
 use Rattle.cw_types.specs.Block.{Block}
 use Rattle.node_disk.specs.declared.log.StoreError.{StoreError}
 use Rattle.cw_ledger.specs.Ledger.{answer_to, applied, frame_of, written_for}
 use Rattle.cw_ledger.specs.declared.replica.Applied.{Applied}
 use Rattle.cw_ledger.specs.declared.replica.Applied.TheVariants.{Done, Gap, Known}
-
-not_same : (n m : ℕ) → (n ≡ m → ⊥) → (n == m) ≡ false
-not_same n m other = go (n == m) refl
-  where
-    go : (b : Bool) → (n == m) ≡ b → b ≡ false
-    go true is = absurd (other (eqb-true n m is))
-    go false is = refl
 
 not_less : (n m : ℕ) → (n < m → ⊥) → nat_lt n m ≡ false
 not_less n m other = go (nat_lt n m) refl
@@ -30,8 +23,8 @@ pub record Does (payloads : List (List ℕ)) (block : Block) (answer : Applied) 
 module _ (payloads : List (List ℕ)) (block : Block) (next height : ℕ) (counted : next ≡ length payloads) (is : height ≡ block.height) where
   stays : (block.height ≡ length payloads → ⊥) → (payloads ≡ applied payloads block) × ([] ≡ written_for payloads block)
   stays other = (
-    ap (λ b. cond b (payloads ++ block.payload ∷ []) payloads) (sym (not_same block.height (length payloads) other)),
-    ap (λ b. cond b (frame_of (length payloads, block.payload)) []) (sym (not_same block.height (length payloads) other)),
+    ap (λ b. cond b (payloads ++ block.payload ∷ []) payloads) (sym (ne_eqb block.height (length payloads) other)),
+    ap (λ b. cond b (frame_of (length payloads, block.payload)) []) (sym (ne_eqb block.height (length payloads) other)),
   )
 
   pub is_known : height < next → Does payloads block Known payloads []

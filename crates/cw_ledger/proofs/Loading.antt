@@ -1,8 +1,11 @@
 -- The frames of a log are read one behind the other.
-use Rattle.std.proofs.Common.{◌≡◌, ℕ, zero, suc, ◌+◌, List, [], ◌∷◌, ◌++◌, length, take, drop, map, None, Some, Result, Ok, Err, refl, sym, ap, ◌∙◌, append_assoc, append-nil, add-one, arith, length-append}
+use Rattle.std.proofs.Common.{◌≡◌, ℕ, suc, ◌+◌, List, [], ◌∷◌, ◌++◌, length, take, drop, map, None, Some, Result, Ok, Err, refl, sym, ap, ◌∙◌, append_assoc, append-nil, add-one, arith, length-append}
 use Rattle.std.specs.List.{enumerate_from, slice_get}
-use Rattle.std.proofs.lemmas.Option.{same_Some}
+use Rattle.std.proofs.lemmas.List.{drop_all, take_all}
 use Rattle.cw_base.specs.ReadsBack.{IsBytes}
+use Rattle.node_disk.proofs.Lists.{at_place}
+use Rattle.node_disk.specs.Frames.{with_front}
+use Rattle.node_disk.proofs.Walks.{front_nil}
 use Rattle.cw_ledger.specs.Frames.{first_payload, payload_in, payloads_from, with_payload}
 use Rattle.cw_ledger.specs.Kept.{KeepBalances, amount_in, kept_payloads, payloads_or_none}
 use Rattle.cw_ledger.specs.Ledger.{frame_of, frames_of}
@@ -11,16 +14,6 @@ use Rattle.cw_ledger.proofs.Moving.{balances_more, moved_all_same, nothing_moved
 use Rattle.cw_ledger.proofs.Reading.{frame_is}
 
 -- ---- lists
-
--- the element at a place stands in front of what is behind it, and behind what is before it
-pub at_place : {X : Type 0} (xs : List X) (i : ℕ) (x : X) → slice_get xs i ≡ Some x → (drop i xs ≡ x ∷ drop (suc i) xs) × (take (suc i) xs ≡ take i xs ++ x ∷ [])
-at_place [] i x e = absurd cc
-at_place (y ∷ ys) zero x e = let s : y ≡ x = same_Some y x e in (ap (λ z. z ∷ ys) s, ap (λ z. z ∷ []) s)
-at_place (y ∷ ys) (suc i) x e = let more = at_place ys i x e in (more.0, ap (λ l. y ∷ l) more.1)
-
-pub no_more : {X : Type 0} (xs : List X) → (drop (length xs) xs ≡ []) × (take (length xs) xs ≡ xs)
-no_more [] = (refl, refl)
-no_more (x ∷ xs) = let more = no_more xs in (more.0, ap (λ l. x ∷ l) more.1)
 
 numbered_more : (n : ℕ) (xs : List (List ℕ)) (x : List ℕ) → map frame_of (enumerate_from n (xs ++ x ∷ [])) ≡ map frame_of (enumerate_from n xs) ++ frame_of (n + length xs, x) ∷ []
 numbered_more n [] x = ap (λ k. frame_of (k, x) ∷ []) (let e : n ≡ n + 0 = omega arith in e)
@@ -40,33 +33,24 @@ as_many frames entries are = sym (ap length are.written ∙ length_numbered 0 (k
 
 -- ---- frames that are read
 
--- these payloads in front
-abbrev pub with_all : List (List ℕ) → Result (List (List ℕ)) ℕ → Result (List (List ℕ)) ℕ
-with_all front (Ok payloads) = Ok (front ++ payloads)
-with_all front (Err place) = Err place
-
 -- what was read of a log's frames
 pub record IsLoading (frames : List (List ℕ)) (index place : ℕ) (entries : List (ℕ × ℕ)) : Type 0 where
   pub payloads : List (List ℕ)
-  pub found : payloads_from 0 0 frames ≡ with_all payloads (payloads_from place index (drop index frames))
+  pub found : payloads_from 0 0 frames ≡ with_front payloads (payloads_from place index (drop index frames))
   pub written : take index frames ≡ frames_of payloads
   pub count : length payloads ≡ index
   pub balanced : (account : ℕ) → amount_in entries account ≡ balances payloads account
 
-with_none : (r : Result (List (List ℕ)) ℕ) → r ≡ with_all [] r
-with_none (Ok payloads) = refl
-with_none (Err place) = refl
-
 pub begins : (frames : List (List ℕ)) (entries : List (ℕ × ℕ)) → ((account : ℕ) → amount_in entries account ≡ first_balance account) → IsLoading frames 0 0 entries
 begins frames entries first = record {
   payloads = [];
-  found = with_none (payloads_from 0 0 frames);
+  found = sym (front_nil (payloads_from 0 0 frames));
   written = refl;
   count = refl;
   balanced = λ account. first account ∙ sym (nothing_moved account);
 }
 
-regroup : (front : List (List ℕ)) (payload : List ℕ) (r : Result (List (List ℕ)) ℕ) → with_all front (with_payload payload r) ≡ with_all (front ++ payload ∷ []) r
+regroup : (front : List (List ℕ)) (payload : List ℕ) (r : Result (List (List ℕ)) ℕ) → with_front front (with_payload payload r) ≡ with_front (front ++ payload ∷ []) r
 regroup front payload (Ok payloads) = ap Ok (sym (append_assoc front (payload ∷ []) payloads))
 regroup front payload (Err place) = refl
 
@@ -77,10 +61,10 @@ goes_on frames index place next entries more frame payload loading at bytes is p
   payloads = loading.payloads ++ payload ∷ [];
   found = rw (add-one index, is_next) (
       loading.found
-      ∙ ap (λ fs. with_all loading.payloads (payloads_from place index fs)) here.0
-      ∙ ap (λ o. with_all loading.payloads (first_payload place o (payloads_from (place + 9 + length frame) (index + 1) (drop (suc index) frames)))) is
+      ∙ ap (λ fs. with_front loading.payloads (payloads_from place index fs)) here.0
+      ∙ ap (λ o. with_front loading.payloads (first_payload place o (payloads_from (place + 9 + length frame) (index + 1) (drop (suc index) frames)))) is
       ∙ regroup loading.payloads payload (payloads_from (place + 9 + length frame) (index + 1) (drop (suc index) frames))
-      ∙ ap (λ n. with_all (loading.payloads ++ payload ∷ []) (payloads_from (place + 9 + length frame) n (drop (suc index) frames))) (add-one index));
+      ∙ ap (λ n. with_front (loading.payloads ++ payload ∷ []) (payloads_from (place + 9 + length frame) n (drop (suc index) frames))) (add-one index));
   written = rw (add-one index) (
       here.1 ∙ ap (λ fs. fs ++ frame ∷ []) loading.written
       ∙ ap (λ f. frames_of loading.payloads ++ f ∷ []) (frame_is index frame payload bytes is ∙ ap (λ n. frame_of (n, payload)) (sym loading.count))
@@ -96,15 +80,14 @@ pub refuses : (frames : List (List ℕ)) (index place : ℕ) (entries : List (�
 refuses frames index place entries frame loading at none =
     let here = at_place frames index frame at in
     loading.found
-    ∙ ap (λ fs. with_all loading.payloads (payloads_from place index fs)) here.0
-    ∙ ap (λ o. with_all loading.payloads (first_payload place o (payloads_from (place + 9 + length frame) (index + 1) (drop (suc index) frames)))) none
+    ∙ ap (λ fs. with_front loading.payloads (payloads_from place index fs)) here.0
+    ∙ ap (λ o. with_front loading.payloads (first_payload place o (payloads_from (place + 9 + length frame) (index + 1) (drop (suc index) frames)))) none
 
 pub ends : (frames : List (List ℕ)) (index place : ℕ) (entries : List (ℕ × ℕ)) → IsLoading frames index place entries → index ≡ length frames → KeepBalances frames entries
 ends frames index place entries loading at_end =
-    let gone = no_more frames in
-    let none : drop index frames ≡ [] = ap (λ n. drop n frames) at_end ∙ gone.0 in
-    let all : take index frames ≡ frames = ap (λ n. take n frames) at_end ∙ gone.1 in
-    let found : payloads_from 0 0 frames ≡ Ok loading.payloads = loading.found ∙ ap (λ fs. with_all loading.payloads (payloads_from place index fs)) none ∙ ap Ok (append-nil loading.payloads) in
+    let none : drop index frames ≡ [] = drop_all index frames (omega arith) in
+    let all : take index frames ≡ frames = take_all index frames (omega arith) in
+    let found : payloads_from 0 0 frames ≡ Ok loading.payloads = loading.found ∙ ap (λ fs. with_front loading.payloads (payloads_from place index fs)) none ∙ ap Ok (append-nil loading.payloads) in
     let are : loading.payloads ≡ kept_payloads frames = sym (ap payloads_or_none found) in
     record {
       found = found ∙ ap Ok are;

@@ -3,7 +3,7 @@ use Rattle.std.proofs.Common.{◌≡◌, ◌⊎◌, inl, inr, ℕ, zero, suc, �
 use Rattle.std.specs.BTreeMap.{is_at}
 use Rattle.std.specs.Map.{values_of}
 use Rattle.std.specs.Ordering.{nat_cmp}
-use Rattle.std.proofs.lemmas.Bool.{cases_eq, eqb-true, le-leb, leb-true}
+use Rattle.std.proofs.lemmas.Bool.{cases_eq, le-leb, leb-true, ne_eqb}
 use Rattle.std.proofs.lemmas.Map.Steps.{lookup-le-sum}
 use Rattle.std.proofs.lemmas.Grind.{flat_map-append}
 use Rattle.cw_ledger.specs.declared.transfer.Transfer.{Transfer}
@@ -14,13 +14,6 @@ use Rattle.cw_ledger.specs.Transfers.{applies, balances, first_balance, moved, m
 
 pub same_is : (n m : ℕ) → n ≡ m → (n == m) ≡ true
 same_is n m e = rw e (grind arith)
-
-pub other_is : (n m : ℕ) → (n ≡ m → ⊥) → (n == m) ≡ false
-other_is n m other = go (n == m) refl
-  where
-    go : (b : Bool) → (n == m) ≡ b → b ≡ false
-    go true is = absurd (other (eqb-true n m is))
-    go false is = refl
 
 -- accounts that have the same have the same after it
 pub moved_same : (f g : ℕ → ℕ) (t : Transfer) → ((a : ℕ) → f a ≡ g a) → (a : ℕ) → moved f t a ≡ moved g t a
@@ -59,10 +52,10 @@ passed_over has t why a = ap (λ b. cond b (cond (a == t.from) (has a - t.amount
 module _ (has mid new : ℕ → ℕ) (t : Transfer) (there : t.amount ≤ has t.from) (apart : t.from ≡ t.to → ⊥)
     (first : (a : ℕ) → mid a ≡ cond (t.from == a) (has t.from - t.amount) (has a)) (second : (a : ℕ) → new a ≡ cond (t.to == a) (mid t.to + t.amount) (mid a)) where
   does : applies has t ≡ true
-  does = ap (λ b. b && not (t.from == t.to)) (le-leb t.amount (has t.from) there) ∙ ap not (other_is t.from t.to apart)
+  does = ap (λ b. b && not (t.from == t.to)) (le-leb t.amount (has t.from) there) ∙ ap not (ne_eqb t.from t.to apart)
 
   mid_to : mid t.to ≡ has t.to
-  mid_to = first t.to ∙ ap (λ b. cond b (has t.from - t.amount) (has t.to)) (other_is t.from t.to apart)
+  mid_to = first t.to ∙ ap (λ b. cond b (has t.from - t.amount) (has t.to)) (ne_eqb t.from t.to apart)
 
   opened : (a : ℕ) → moved has t a ≡ cond (a == t.from) (has a - t.amount) (cond (a == t.to) (has a + t.amount) (has a))
   opened a = ap (λ b. cond b (cond (a == t.from) (has a - t.amount) (cond (a == t.to) (has a + t.amount) (has a))) (has a)) does
@@ -73,18 +66,18 @@ module _ (has mid new : ℕ → ℕ) (t : Transfer) (there : t.amount ≤ has t.
       go : (t.from ≡ a) ⊎ (t.from ≡ a → ⊥) → (t.to ≡ a) ⊎ (t.to ≡ a → ⊥) → new a ≡ moved has t a
       go (inl from) (inl to) = absurd (apart (from ∙ sym to))
       go (inl from) (inr to) =
-          second a ∙ ap (λ b. cond b (mid t.to + t.amount) (mid a)) (other_is t.to a to)
+          second a ∙ ap (λ b. cond b (mid t.to + t.amount) (mid a)) (ne_eqb t.to a to)
           ∙ first a ∙ ap (λ b. cond b (has t.from - t.amount) (has a)) (same_is t.from a from)
           ∙ ap (λ n. has n - t.amount) from
           ∙ sym (opened a ∙ ap (λ b. cond b (has a - t.amount) (cond (a == t.to) (has a + t.amount) (has a))) (same_is a t.from (sym from)))
       go (inr from) (inl to) =
           second a ∙ ap (λ b. cond b (mid t.to + t.amount) (mid a)) (same_is t.to a to)
           ∙ ap (λ n. n + t.amount) (mid_to ∙ ap has to)
-          ∙ sym (opened a ∙ ap (λ b. cond b (has a - t.amount) (cond (a == t.to) (has a + t.amount) (has a))) (other_is a t.from (λ e. from (sym e))) ∙ ap (λ b. cond b (has a + t.amount) (has a)) (same_is a t.to (sym to)))
+          ∙ sym (opened a ∙ ap (λ b. cond b (has a - t.amount) (cond (a == t.to) (has a + t.amount) (has a))) (ne_eqb a t.from (λ e. from (sym e))) ∙ ap (λ b. cond b (has a + t.amount) (has a)) (same_is a t.to (sym to)))
       go (inr from) (inr to) =
-          second a ∙ ap (λ b. cond b (mid t.to + t.amount) (mid a)) (other_is t.to a to)
-          ∙ first a ∙ ap (λ b. cond b (has t.from - t.amount) (has a)) (other_is t.from a from)
-          ∙ sym (opened a ∙ ap (λ b. cond b (has a - t.amount) (cond (a == t.to) (has a + t.amount) (has a))) (other_is a t.from (λ e. from (sym e))) ∙ ap (λ b. cond b (has a + t.amount) (has a)) (other_is a t.to (λ e. to (sym e))))
+          second a ∙ ap (λ b. cond b (mid t.to + t.amount) (mid a)) (ne_eqb t.to a to)
+          ∙ first a ∙ ap (λ b. cond b (has t.from - t.amount) (has a)) (ne_eqb t.from a from)
+          ∙ sym (opened a ∙ ap (λ b. cond b (has a - t.amount) (cond (a == t.to) (has a + t.amount) (has a))) (ne_eqb a t.from (λ e. from (sym e))) ∙ ap (λ b. cond b (has a + t.amount) (has a)) (ne_eqb a t.to (λ e. to (sym e))))
 
 -- ---- one transfer, by entries
 

@@ -18,7 +18,7 @@ use Rattle.cw_rules.specs.Stands.{EachAfter}
 use Rattle.cw_rules.specs.Step.{Member, member_notes}
 use Rattle.cw_rules.specs.World.{World}
 use Rattle.cw_types.proofs.Same.{same_commitment-true, same_commitment_self}
-use Rattle.cw_rules.proofs.Lists.{and_then_some, in_left, in_right, in_cases}
+use Rattle.cw_rules.proofs.Lists.{and_then_some, in_left, in_right, in_cases, get_front}
 
 -- the notes of one member are among all
 pub notes_in : (n : Note) (ms : List (Option Member)) (i : ℕ) (m : Member) → slice_get ms i ≡ Some (Some m) → In n (member_notes m) → In n (flat_map (λ o. option_map_or member_notes o []) ms)
@@ -241,11 +241,6 @@ links_rooted r w (suc k) b (x, o, d) =
 
 pub chain_rooted : (r : Rules) (w : World) (k : ℕ) (b : Block) → IsRooted r w k b → IsChain r w (links_to r w k b)
 chain_rooted r w k b h = let l = links_rooted r w k b h in subst (IsChain r w) (sym l.are) (refl, l.follow)
-
-get_front : {X : Type 0} (xs ys : List X) (i : ℕ) (x : X) → slice_get xs i ≡ Some x → slice_get (xs ++ ys) i ≡ Some x
-get_front [] ys i x h = cc
-get_front (z ∷ zs) ys zero x h = h
-get_front (z ∷ zs) ys (suc i) x h = get_front zs ys i x h
 
 get_last : {X : Type 0} (xs : List X) (x : X) (i : ℕ) → length xs ≡ i → slice_get (xs ++ x ∷ []) i ≡ Some x
 get_last [] x i h = subst (λ n. slice_get (x ∷ []) n ≡ Some x) h refl

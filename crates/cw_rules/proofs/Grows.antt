@@ -1,8 +1,7 @@
 -- Members whose notes grow: what stood stands.
-use Rattle.std.proofs.Common.{◌≡◌, ◌==◌, ℕ, zero, suc, ◌+◌, ◌≤◌, Bool, true, false, cond, nat_le, List, [], ◌∷◌, ◌++◌, Some, None, IsTrue, length, count_by, slice_get, slice_set, refl, sym, ap, subst, inl, inr, ◌⊎◌, arith, append-nil, leb-true, le-leb}
+use Rattle.std.proofs.Common.{◌≡◌, ◌==◌, ℕ, zero, suc, ◌+◌, ◌≤◌, Bool, true, false, nat_le, List, [], ◌∷◌, ◌++◌, Some, None, IsTrue, length, count_by, slice_get, slice_set, refl, sym, ap, subst, inl, inr, ◌⊎◌, arith, append-nil, leb-true, le-leb}
 use Rattle.std.specs.List.{AllByRecursion}
 use Rattle.std.proofs.lemmas.Bool.{and_parts, and_from, or_cases, eqb-true, false≢true, cases_eq}
-use Rattle.std.proofs.lemmas.List.Sums.{sum_by-cons}
 use Rattle.cw_types.specs.declared.note.Note.{Note}
 use Rattle.cw_types.specs.declared.vote.Vote.{Vote}
 use Rattle.cw_types.specs.Epochs.{Epochs, members_in, rises_from, size}
@@ -13,7 +12,7 @@ use Rattle.cw_rules.specs.Keeps.{IsClosed, IsRising, IsSound, Keeps, meaning}
 use Rattle.cw_rules.specs.Notes.{has_vote, is_vote}
 use Rattle.cw_rules.specs.Rules.{Rules}
 use Rattle.cw_rules.specs.Stands.{EachAfter, Members, Stands, backs_at, is_faulty_at}
-use Rattle.cw_rules.proofs.Lists.{is_in, in_rising, rises_lower}
+use Rattle.cw_rules.proofs.Lists.{is_in, in_rising, rises_lower, counts_as, count-cons}
 use Rattle.cw_rules.proofs.NoteLemmas.{any_front, each_weaker}
 
 -- the same members, each honest one with its notes and maybe more
@@ -38,16 +37,9 @@ Grows_length (Some a ∷ xs) [] g = absurd g
 Grows_length (None ∷ xs) (Some b ∷ ys) g = absurd g
 Grows_length (Some a ∷ xs) (None ∷ ys) g = absurd g
 
-one : Bool → ℕ
-one b = cond b 1 0
-
-count-cons : (p : ℕ → Bool) (i : ℕ) (is : List ℕ) → count_by p (i ∷ is) ≡ one (p i) + count_by p is
-unfolding one
-count-cons p i is = sum_by-cons (λ x. cond (p x) 1 0) i is
-
-one_le : (b c : Bool) → (b ≡ true → c ≡ true) → one b ≤ one c
-unfolding one
-one_le true c f = let e : one c ≡ 1 = ap one (f refl) in omega arith
+one_le : (b c : Bool) → (b ≡ true → c ≡ true) → counts_as b ≤ counts_as c
+unfolding counts_as
+one_le true c f = let e : counts_as c ≡ 1 = ap counts_as (f refl) in omega arith
 one_le false c f = omega arith
 
 -- more numbers pass a weaker test
@@ -117,8 +109,8 @@ Grows_faulty i (Some a ∷ xs) (None ∷ ys) g h = absurd g
 -- ---- signers that rise are counted
 
 counted : (p : ℕ → Bool) (i : ℕ) (is : List ℕ) (n : ℕ) → p i ≡ true → n ≤ count_by p is → suc n ≤ count_by p (i ∷ is)
-unfolding one
-counted p i is n t le = let e : one (p i) ≡ 1 = ap one t in omega (arith, count-cons p i is, e)
+unfolding counts_as
+counted p i is n t le = let e : counts_as (p i) ≡ 1 = ap counts_as t in omega (arith, count-cons p i is, e)
 
 -- what rises from above x, and is among x and more, is among these
 past : (x : ℕ) (xs signers : List ℕ) (p : ℕ → Bool) → rises_from (x + 1) signers ≡ true → AllByRecursion (λ i. IsTrue (is_in (x ∷ xs) i) × (p i ≡ true)) signers → AllByRecursion (λ i. IsTrue (is_in xs i) × (p i ≡ true)) signers

@@ -1,8 +1,9 @@
 -- Searches, ranges and tests over lists.
-use Rattle.std.proofs.Common.{◌≡◌, ℕ, zero, suc, ◌+◌, ◌<◌, ◌≤◌, Bool, true, false, cond, List, [], ◌∷◌, ◌++◌, Option, Some, None, refl, sym, subst, inl, inr, ◌⊎◌, arith, filter, nat_le, ◌==◌, IsTrue, eq-eqb}
-use Rattle.std.specs.List.{list_any, list_all, AllByRecursion, range_with_len}
+use Rattle.std.proofs.Common.{◌≡◌, ℕ, zero, suc, ◌+◌, ◌<◌, ◌≤◌, Bool, true, false, cond, List, [], ◌∷◌, ◌++◌, Option, Some, None, refl, sym, subst, inl, inr, ◌⊎◌, arith, filter, nat_le, ◌==◌, IsTrue, eq-eqb, get_or, drop, add-one, drop-cons, ◌∙◌, ap, length, count_by, slice_get}
+use Rattle.std.specs.List.{list_any, list_all, AllByRecursion, range_with_len, filter_map}
 use Rattle.std.specs.Option.{option_or, option_map_or, option_and_then, option_map}
 use Rattle.std.proofs.lemmas.Bool.{and_parts, and_from, or_left, or_right, or_cases, false≢true, leb-true, eqb-true, cases_Bool, cases_eq, cond-true, cond-false, le-leb}
+use Rattle.std.proofs.lemmas.List.Sums.{sum_by-cons}
 use Rattle.cw_types.specs.Epochs.{rises_from}
 use Rattle.cw_rules.specs.Accepted.{first_some}
 use Rattle.cw_rules.specs.Owed.{when}
@@ -120,3 +121,65 @@ in_cases x (y ∷ xs) ys (inr h) = go (in_cases x xs ys h)
     go : In x xs ⊎ In x ys → In x (y ∷ xs) ⊎ In x ys
     go (inl a) = inl (inr a)
     go (inr a) = inr a
+
+-- ---- searches and counts
+
+-- searches that answer the same find the same
+pub same_first : {X Y : Type 0} (f g : X → Option Y) → ((x : X) → f x ≡ g x) → (xs : List X) → first_some f xs ≡ first_some g xs
+same_first f g same [] = refl
+same_first {Y = Y} f g same (x ∷ xs) = ap (λ (o : Option Y). option_or o (first_some f xs)) (same x) ∙ ap (option_or (g x)) (same_first f g same xs)
+
+-- what is found in lists end to end
+pub first_of_both : {X Y : Type 0} (f : X → Option Y) (xs ys : List X) → first_some f (xs ++ ys) ≡ option_or (first_some f xs) (first_some f ys)
+first_of_both f [] ys = refl
+first_of_both {Y = Y} f (x ∷ xs) ys = go (f x) refl (first_of_both f xs ys)
+  where
+    go : (o : Option Y) → f x ≡ o → first_some f (xs ++ ys) ≡ option_or (first_some f xs) (first_some f ys) → option_or (f x) (first_some f (xs ++ ys)) ≡ option_or (option_or (f x) (first_some f xs)) (first_some f ys)
+    go (Some y) e rest = rw e refl
+    go None e rest = rw e rest
+
+-- what is found from a place on, by what is found at it
+pub first_from : {X Y : Type 0} (f : X → Option Y) (xs : List X) (i : ℕ) (x : X) → i < length xs → x ≡ get_or xs i x → first_some f (drop i xs) ≡ option_or (f x) (first_some f (drop (i + 1) xs))
+first_from f xs i x l e = rw (add-one, drop-cons xs i x) (ap (λ z. option_or (f z) (first_some f (drop (suc i) xs))) (sym e))
+
+-- it is found there
+pub first_here : {X Y : Type 0} (f : X → Option Y) (xs : List X) (i : ℕ) (x : X) (y : Y) → i < length xs → x ≡ get_or xs i x → f x ≡ Some y → first_some f (drop i xs) ≡ first_some f xs → Some y ≡ first_some f xs
+first_here f xs i x y l e h inv = sym (sym inv ∙ (first_from f xs i x l e ∙ rw h refl))
+
+-- nothing is found there
+pub first_next : {X Y : Type 0} (f : X → Option Y) (xs : List X) (i : ℕ) (x : X) → i < length xs → x ≡ get_or xs i x → f x ≡ None → first_some f (drop i xs) ≡ first_some f xs → first_some f (drop (i + 1) xs) ≡ first_some f xs
+first_next f xs i x l e h inv = sym (first_from f xs i x l e ∙ rw h refl) ∙ inv
+
+-- what is kept of one more
+pub filter_map_more : {X Y : Type 0} (f : X → Option Y) (xs : List X) (x : X) → filter_map f (xs ++ x ∷ []) ≡ filter_map f xs ++ option_map_or (λ y. y ∷ []) (f x) []
+filter_map_more {Y = Y} f [] x = go (f x) refl
+  where
+    go : (o : Option Y) → f x ≡ o → filter_map f (x ∷ []) ≡ option_map_or (λ y. y ∷ []) (f x) []
+    go (Some y) e = rw e refl
+    go None e = rw e refl
+filter_map_more {Y = Y} f (z ∷ xs) x = go (f z) refl (filter_map_more f xs x)
+  where
+    go : (o : Option Y) → f z ≡ o → filter_map f (xs ++ x ∷ []) ≡ filter_map f xs ++ option_map_or (λ y. y ∷ []) (f x) [] → filter_map f (z ∷ (xs ++ x ∷ [])) ≡ filter_map f (z ∷ xs) ++ option_map_or (λ y. y ∷ []) (f x) []
+    go (Some y) e rest = rw e (ap (λ l. y ∷ l) rest)
+    go None e rest = rw e rest
+
+-- what a test adds to a count
+unfoldable pub counts_as : Bool → ℕ
+counts_as b = cond b 1 0
+
+pub count-cons : (p : ℕ → Bool) (i : ℕ) (is : List ℕ) → count_by p (i ∷ is) ≡ counts_as (p i) + count_by p is
+unfolding counts_as
+count-cons p i is = sum_by-cons (λ x. cond (p x) 1 0) i is
+
+-- ---- elements
+
+-- what holds of the elements of two lists holds of those of both
+pub all_both : {X : Type 0} (P : X → Type 0) (xs ys : List X) → AllByRecursion P xs → AllByRecursion P ys → AllByRecursion P (xs ++ ys)
+all_both P [] ys a b = b
+all_both P (x ∷ xs) ys a b = (a.0, all_both P xs ys a.1 b)
+
+-- what stands somewhere stands there where others are behind it
+pub get_front : {X : Type 0} (xs ys : List X) (i : ℕ) (x : X) → slice_get xs i ≡ Some x → slice_get (xs ++ ys) i ≡ Some x
+get_front [] ys i x h = cc
+get_front (z ∷ zs) ys zero x h = h
+get_front (z ∷ zs) ys (suc i) x h = get_front zs ys i x h

@@ -1,8 +1,7 @@
 -- Two quorums share an honest member.
-use Rattle.std.proofs.Common.{◌≡◌, ℕ, refl, sym, subst, slice_get, ◌+◌, ◌<◌, ◌≤◌, Bool, true, false, ◌&&◌, List, [], ◌∷◌, Option, Some, None, is_none, length, count_by, cond, arith, inl, inr, ◌⊎◌}
+use Rattle.std.proofs.Common.{◌≡◌, ℕ, refl, sym, subst, slice_get, ◌+◌, ◌<◌, ◌≤◌, Bool, true, false, ◌&&◌, List, [], ◌∷◌, Option, Some, None, is_none, length, count_by, arith, inl, inr, ◌⊎◌}
 use Rattle.std.specs.List.{list_any}
 use Rattle.std.proofs.lemmas.Bool.{or_cases, or_parts, and_parts, cases_Bool, false≢true}
-use Rattle.std.proofs.lemmas.List.Sums.{sum_by-cons}
 use Rattle.cw_types.specs.declared.note.Note.{Note}
 use Rattle.cw_types.specs.declared.vote.Vote.{Vote}
 use Rattle.cw_types.specs.Epochs.{Epochs, members_in, size}
@@ -11,6 +10,7 @@ use Rattle.cw_types.specs.Votes.{vote_epoch}
 use Rattle.cw_rules.specs.Notes.{has_vote}
 use Rattle.cw_rules.specs.Stands.{AreFew, Members, Stands, backs, backs_at, is_faulty_at}
 use Rattle.std.specs.Option.{option_map_or}
+use Rattle.cw_rules.proofs.Lists.{count-cons, counts_as}
 
 -- an honest member with both votes among its notes
 abbrev has_both : Vote → Vote → Option (List Note) → Bool
@@ -20,25 +20,18 @@ has_both v w (Some notes) = has_vote notes v && has_vote notes w
 abbrev has_both_at : Members → Vote → Vote → ℕ → Bool
 has_both_at members v w i = option_map_or (has_both v w) (slice_get members i) false
 
-one : Bool → ℕ
-one b = cond b 1 0
-
 -- each member adds two to the sides only where it is faulty or has both
-shares : (v w : Vote) (m : Option (Option (List Note))) → option_map_or (has_both v w) m false ≡ false → one (option_map_or (backs v) m false) + one (option_map_or (backs w) m false) ≤ 1 + one (option_map_or is_none m false)
-unfolding one
+shares : (v w : Vote) (m : Option (Option (List Note))) → option_map_or (has_both v w) m false ≡ false → counts_as (option_map_or (backs v) m false) + counts_as (option_map_or (backs w) m false) ≤ 1 + counts_as (option_map_or is_none m false)
+unfolding counts_as
 shares v w None h = omega arith
 shares v w (Some None) h = omega arith
 shares v w (Some (Some notes)) h = go (has_vote notes v) (has_vote notes w) h
   where
-    go : (x y : Bool) → x && y ≡ false → one x + one y ≤ 1 + 0
+    go : (x y : Bool) → x && y ≡ false → counts_as x + counts_as y ≤ 1 + 0
     go true true h = cc
     go true false h = omega arith
     go false true h = omega arith
     go false false h = omega arith
-
-count-cons : (p : ℕ → Bool) (i : ℕ) (is : List ℕ) → count_by p (i ∷ is) ≡ one (p i) + count_by p is
-unfolding one
-count-cons p i is = sum_by-cons (λ x. cond (p x) 1 0) i is
 
 -- where nobody honest of these has both, the two sides together are no more than they and the faulty ones
 sides : (ms : Members) (v w : Vote) (is : List ℕ) → list_any (has_both_at ms v w) is ≡ false → count_by (backs_at ms v) is + count_by (backs_at ms w) is ≤ length is + count_by (is_faulty_at ms) is

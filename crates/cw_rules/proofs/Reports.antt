@@ -3,7 +3,6 @@ use Rattle.std.proofs.Common.{◌≡◌, ℕ, zero, suc, ◌+◌, ◌<◌, ◌�
 use Rattle.std.specs.List.{AllByRecursion, list_any, range_with_len}
 use Rattle.std.specs.Option.{option_map_or}
 use Rattle.std.proofs.lemmas.Bool.{cases_Bool, cond-true, cond-false, lt-ltb, ltb-false}
-use Rattle.std.proofs.lemmas.List.Sums.{sum_by-cons}
 use Rattle.std.proofs.lemmas.Option.{same_Some}
 use Rattle.cw_types.specs.declared.commitment.Commitment.{Commitment}
 use Rattle.cw_types.specs.declared.event.Handed.{Handed}
@@ -17,7 +16,7 @@ use Rattle.cw_rules.specs.Report.{chain_of, handed_in, highest, report_of}
 use Rattle.cw_rules.specs.Rules.{Rules, commit, genesis, genesis_commitment}
 use Rattle.cw_rules.specs.Step.{deliveries_within, delivery, handing, most_delivered, nothing_came, start, with_given}
 use Rattle.cw_rules.specs.World.{Line, World, faults, opening}
-use Rattle.cw_rules.proofs.Lists.{in_left, in_right}
+use Rattle.cw_rules.proofs.Lists.{count-cons, counts_as, in_left, in_right}
 use Rattle.cw_rules.proofs.Deliveries.{holds_genesis}
 use Rattle.cw_rules.proofs.Runs.{handed_by, handed_parts, opening_handed, script_chain}
 
@@ -64,21 +63,14 @@ highest_is (z ∷ zs) x h = go (highest zs) refl (highest_is zs)
 
 -- ---- something is handed out
 
-one : Bool → ℕ
-one b = cond b 1 0
-
-count-cons : (p : ℕ → Bool) (i : ℕ) (is : List ℕ) → count_by p (i ∷ is) ≡ one (p i) + count_by p is
-unfolding one
-count-cons p i is = sum_by-cons (λ x. cond (p x) 1 0) i is
-
 -- where fewer than all pass, one fails
 one_fails : (p : ℕ → Bool) (total : ℕ) (is : List ℕ) → AllByRecursion (λ i. i < total) is → count_by p is < length is → (i : ℕ) × (i < total) × (p i ≡ false)
-unfolding one
+unfolding counts_as
 one_fails p total [] a h = absurd (omega arith)
 one_fails p total (i ∷ is) a h = go (cases_Bool (p i)) (one_fails p total is a.1)
   where
     go : (p i ≡ true) ⊎ (p i ≡ false) → (count_by p is < length is → (j : ℕ) × (j < total) × (p j ≡ false)) → (j : ℕ) × (j < total) × (p j ≡ false)
-    go (inl t) later = later (omega (arith, count-cons p i is, ap one t))
+    go (inl t) later = later (omega (arith, count-cons p i is, ap counts_as t))
     go (inr f) later = (i, a.0, f)
 
 in_flat_at : (f : ℕ → List Handed) (x : Handed) (i low len : ℕ) → low ≤ i → i < low + len → In x (f i) → In x (flat_map f (range_with_len low len))

@@ -26,7 +26,7 @@ use Rattle.cw_rules.specs.Rules.{Rules, genesis, genesis_commitment}
 use Rattle.cw_rules.specs.Step.{marks, settle, step_notes, with_notes}
 use Rattle.std.proofs.lemmas.Option.{same_Some}
 use Rattle.cw_types.proofs.Same.{same_vote_self, same_proposal_self, same_commitment_self}
-use Rattle.cw_rules.proofs.Lists.{or_some, when_some, first_some_at, and_then_some, map_some}
+use Rattle.cw_rules.proofs.Lists.{or_some, when_some, first_some_at, and_then_some, map_some, all_both}
 use Rattle.cw_rules.proofs.NoteLemmas.{any_front, any_back, any_weaker, vote_note}
 use Rattle.cw_rules.proofs.KeptNotes.{vote_in, of_itself}
 use Rattle.cw_rules.proofs.Lists.{in_left, in_right}
@@ -612,10 +612,6 @@ owed_moves r ts id s note k h = one (or_some a1 r1 note h)
     one (inr e) = two (or_some a2 r2 note e)
 
 -- ---- what a state names is covered by its marks, and by those of the state before an owed note
-
-pub all_both : {X : Type 0} (P : X → Type 0) (xs ys : List X) → AllByRecursion P xs → AllByRecursion P ys → AllByRecursion P (xs ++ ys)
-all_both P [] ys a b = b
-all_both P (x ∷ xs) ys a b = (a.0, all_both P xs ys a.1 b)
 
 -- the five of a vote's proposal are the vote's
 five_of : (v : Vote) (p : Proposal) → proposal_of v ≡ Some p → Sub (five p) (of_vote v)

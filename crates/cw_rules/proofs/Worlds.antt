@@ -24,6 +24,7 @@ use Rattle.cw_rules.specs.Step.{Member, Stepped, add_frame, cut_step, member_not
 use Rattle.cw_rules.specs.World.{Cut, Do, Faulty, Line, Restart, Sent, World, done_by, event_of, fault_sends, faults, happens, is_faulty, is_sent_vote, line_member, member_at, opening, run, sent_from, sent_now, signed, turned, with_done, with_sends}
 use Rattle.std.proofs.lemmas.Option.{same_Some}
 use Rattle.std.proofs.lemmas.List.Folds.{list_any-append}
+use Rattle.cw_types.proofs.EpochLemmas.{get-within}
 use Rattle.cw_rules.proofs.Lists.{is_in, and_then_some}
 use Rattle.cw_rules.proofs.NoteLemmas.{any_front, any_back}
 use Rattle.cw_rules.proofs.StepKeeps.{each_append, step_keeps}
@@ -77,12 +78,6 @@ length-range low (suc len) = ap suc (length-range (low + 1) len)
 pub length-mapped : {X Y : Type 0} (f : X → Y) (xs : List X) → length (map f xs) ≡ length xs
 length-mapped f [] = refl
 length-mapped f (x ∷ xs) = ap suc (length-mapped f xs)
-
--- a place below the length has an element
-pub get-within : {X : Type 0} (xs : List X) (i : ℕ) → i < length xs → (x : X) × (slice_get xs i ≡ Some x)
-get-within [] i h = absurd (omega arith)
-get-within (x ∷ xs) zero h = (x, refl)
-get-within (x ∷ xs) (suc i) h = get-within xs i (omega arith)
 
 -- ---- the invariant
 

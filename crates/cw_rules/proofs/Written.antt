@@ -42,12 +42,11 @@ use Rattle.cw_rules.proofs.ClashFound.{script_clash}
 use Rattle.cw_rules.proofs.Deliveries.{at_held}
 use Rattle.cw_rules.proofs.Fits.{plus_mul}
 use Rattle.cw_rules.proofs.Heights.{at_is_at}
-use Rattle.cw_rules.proofs.Lists.{all_true, and_then_some, first_some_at, map_some, or_some, when_some}
+use Rattle.cw_rules.proofs.Lists.{all_both, all_true, and_then_some, first_some_at, map_some, or_some, when_some}
 use Rattle.cw_rules.proofs.OwedKeeps.{shown_under}
 use Rattle.cw_types.proofs.Same.{same_commitment-true}
 use Rattle.cw_rules.proofs.StepKeeps.{IsParent, parent_found}
 use Rattle.cw_rules.proofs.Worlds.{frames_join, get-map_from, get-set, member_there}
-use Rattle.cw_rules.proofs.Settles.{all_both}
 
 -- ---- what can be written
 
@@ -95,7 +94,7 @@ times_more (suc n) s pos = subst (λ m. suc n ≤ m * s) one_more (omega (arith,
     one_more = omega arith
 
 -- numbers that are bytes are so by place
-bytes_by_place : (xs : List ℕ) → AreBytes xs → IsBytes xs
+pub bytes_by_place : (xs : List ℕ) → AreBytes xs → IsBytes xs
 bytes_by_place [] a i = omega arith
 bytes_by_place (x ∷ xs) a zero = a.0
 bytes_by_place (x ∷ xs) a (suc i) = bytes_by_place xs a.1 i

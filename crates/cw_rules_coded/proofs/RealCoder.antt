@@ -10,7 +10,7 @@ use Rattle.std.specs.Option.{option_map_or}
 use Rattle.std.proofs.lemmas.Bool.{and_parts, and_from, cases_Bool, cases_lt, cond-true, cond-false}
 use Rattle.std.proofs.lemmas.Bool.{lt-ltb}
 use Rattle.std.proofs.lemmas.Nat.{from_be_bytes-to_be_bytes_4}
-use Rattle.std.proofs.lemmas.Option.{same_Some, slice_get_past}
+use Rattle.std.proofs.lemmas.Option.{same_Some, slice_get_past, slice_get_within}
 use Rattle.std.proofs.lemmas.Slice.Eq.{bytes_eq-Decides}
 use Rattle.cw_base.specs.declared.hash.Digest32.{Digest32}
 use Rattle.cw_base.specs.Bytes.{be32}
@@ -28,7 +28,6 @@ use Rattle.cw_types.specs.Block.{Block}
 use Rattle.cw_types.specs.Commit.{empty_digest}
 use Rattle.cw_types.specs.Epochs.{Epochs}
 use Rattle.cw_types.specs.Same.{same_digest}
-use Rattle.cw_base.specs.ReadsBack.{IsBytes}
 use Rattle.cw_types.proofs.FormatLaws.{block_found}
 use Rattle.cw_rules.specs.Coding.{AreApart, AreByteChunks, AreBytes, IsCoder, IsText}
 use Rattle.cw_rules.specs.Rules.{Chunk}
@@ -42,6 +41,8 @@ use Rattle.cw_coding.proofs.LayoutLaws.{length-layout, length-row_at}
 use Rattle.cw_tree.proofs.WidthLaws.{shard_len-even, shard_len-some}
 use Rattle.cw_base.proofs.Lengths.{length-be32}
 use Rattle.cw_rules.proofs.Worlds.{length-mapped}
+use Rattle.cw_rules.proofs.Written.{bytes_by_place}
+use Rattle.cw_rules.proofs.Lists.{all_both}
 
 -- ---- lists by place
 
@@ -76,16 +77,11 @@ listed_from n f i x h = go (cases_lt i n)
     go (inl less) = (less, same_Some (f i) x (sym (listed_at n f i less) ∙ h))
     go (inr more) = cc (slice_get_past (listed n f) i (omega (arith, length-listed n f)))
 
-all_joined : {X : Type 0} (P : X → Type 0) (xs ys : List X) → AllByRecursion P xs
-    → AllByRecursion P ys → AllByRecursion P (xs ++ ys)
-all_joined P [] ys a b = b
-all_joined P (x ∷ xs) ys a b = (a.0, all_joined P xs ys a.1 b)
-
 all_listed : {X : Type 0} (P : X → Type 0) (n : ℕ) (f : ℕ → X) → ((i : ℕ) → P (f i))
     → AllByRecursion P (listed n f)
 unfolding listed
 all_listed P zero f h = tt
-all_listed P (suc n) f h = all_joined P (listed n f) (f n ∷ []) (all_listed P n f h) (h n, tt)
+all_listed P (suc n) f h = all_both P (listed n f) (f n ∷ []) (all_listed P n f h) (h n, tt)
 
 pub byte_at : (xs : List ℕ) → AreBytes xs → (i : ℕ) → slice_index xs i < 256
 byte_at [] a i = omega arith
@@ -102,11 +98,6 @@ take_front (x ∷ xs) ys = ap (λ zs. x ∷ zs) (take_front xs ys)
 
 -- ---- the layout
 
-bytes_are : (xs : List ℕ) → AreBytes xs → IsBytes xs
-bytes_are [] h i = omega arith
-bytes_are (x ∷ xs) h zero = h.0
-bytes_are (x ∷ xs) h (suc i) = bytes_are xs h.1 i
-
 bytes_be32 : (n : ℕ) → AreBytes (be32 n)
 unfolding be32
 bytes_be32 n = (omega arith, (omega arith, (omega arith, (omega arith, tt))))
@@ -121,7 +112,7 @@ unfolding layout
 layout_rows k text h bytes = record {
   even = shard_len-even (length text) k;
   long = length-layout k text h;
-  bytes = byte_at (layout k text) (all_joined (λ x. x < 256) (be32 (length text) ++ text) (replicate (k * shard_len (length text) k - (length text + 4)) 0) (all_joined (λ x. x < 256) (be32 (length text)) text (bytes_be32 (length text)) bytes) (bytes_zeros (k * shard_len (length text) k - (length text + 4))));
+  bytes = byte_at (layout k text) (all_both (λ x. x < 256) (be32 (length text) ++ text) (replicate (k * shard_len (length text) k - (length text + 4)) 0) (all_both (λ x. x < 256) (be32 (length text)) text (bytes_be32 (length text)) bytes) (bytes_zeros (k * shard_len (length text) k - (length text + 4))));
 }
 
 number_back : (n : ℕ) → n < 2 ^ 32 → from_be_bytes w32 (be32 n) ≡ n
@@ -167,7 +158,7 @@ module _ (k total : ℕ) (text : List ℕ) where
 
   shards_bytes : (chunks : List Chunk) → AreByteChunks chunks → AreBytes (shards_of chunks)
   shards_bytes [] a = tt
-  shards_bytes (c ∷ cs) a = all_joined (λ x. x < 256) c.shard (shards_of cs) a.0 (shards_bytes cs a.1)
+  shards_bytes (c ∷ cs) a = all_both (λ x. x < 256) c.shard (shards_of cs) a.0 (shards_bytes cs a.1)
 
   shard_rows : (chunks : List Chunk) → AreRowsAt k total text chunks → (s : ℕ) → s < length chunks
       → row_of (shards_of chunks) w s ≡ row_at k text (place_at chunks s)
@@ -283,11 +274,6 @@ root_some hash ds some =
     let (top, at) = top_some hash (length ds) (leaves_from hash digest_bytes 0 ds) (omega arith) (omega arith) in
     (_, ap (rooted_some hash digest_bytes (length ds)) at)
 
-pub get-there : {X : Type 0} (xs : List X) (i : ℕ) (x : X) → slice_get xs i ≡ Some x → i < length xs
-get-there [] i x h = cc
-get-there (y ∷ ys) zero x h = omega arith
-get-there (y ∷ ys) (suc i) x h = omega (arith, get-there ys i x h)
-
 pub get-mapped : {X Y : Type 0} (f : X → Y) (xs : List X) (i : ℕ) (x : X) (d : Y)
     → slice_get xs i ≡ Some x → get_or (map f xs) i d ≡ f x
 get-mapped f [] i x d h = cc
@@ -300,7 +286,7 @@ row_leads : (hash : List ℕ → Digest32) (rows : List (List ℕ)) (i : ℕ) (r
     → option_map_or (same_digest (root_over hash (map hash rows))) (root_by hash digest_bytes (length rows) (path_of hash digest_bytes i (map hash rows)) i (hash row)) false ≡ true
 row_leads hash rows i row at =
     let ds : List Digest32 = map hash rows in
-    let within : i < length ds = omega (arith, get-there rows i row at, length-mapped hash rows) in
+    let within : i < length ds = omega (arith, slice_get_within rows i row at, length-mapped hash rows) in
     let up = root_by-path_of hash digest_bytes ds i (hash row) within (sym (get-mapped hash rows i row (hash row) at)) in
     let (root, is) = root_some hash ds (omega arith) in
     let led : root_by hash digest_bytes (length rows) (path_of hash digest_bytes i ds) i (hash row) ≡ Some root = subst (λ n. root_by hash digest_bytes n (path_of hash digest_bytes i ds) i (hash row) ≡ Some root) (length-mapped hash rows) (up ∙ is) in
@@ -377,7 +363,7 @@ module _ (first : OriginalsComeFirst) (fix : RowsFixCodeword) (have : RowsHaveCo
   real_coder hash epochs backlog accepts = record {
     sound = decoded_sound;
     complete = decoded_complete;
-    reads = λ text b t read. (block_found text b (bytes_are text t.0) read).0;
+    reads = λ text b t read. (block_found text b (bytes_by_place text t.0) read).0;
     count = λ x text pos. length-listed (x.minimum + x.extra) (row_at x.minimum text);
     widths = λ x text pos. all_listed (λ (row : List ℕ). (0 < length row) × (length row % 2 ≡ 0)) (x.minimum + x.extra) (row_at x.minimum text) (λ i. wide x.minimum text pos i);
     leads = row_leads hash;

@@ -12,17 +12,19 @@ use Rattle.std.proofs.lemmas.List.FromFn.{length-range_with_len}
 use Rattle.cw_types.specs.Epochs.{Epochs, is_committee, is_sound, list_of, members_in, rises_from}
 use Rattle.cw_types.specs.Epochs.{single}
 
-all_at : {X : Type 0} (p : X → Bool) (xs : List X) (i : ℕ) (x : X) → list_all p xs ≡ true
+-- a test that all pass is passed at each place
+pub each_passes : {X : Type 0} (p : X → Bool) (xs : List X) (i : ℕ) (x : X) → list_all p xs ≡ true
     → slice_get xs i ≡ Some x → p x ≡ true
-all_at p [] i x a h = cc
-all_at p (y ∷ ys) zero x a h = let e : y ≡ x = cc in subst (λ z. p z ≡ true) e (and_parts (p y) (list_all p ys) a).0
-all_at p (y ∷ ys) (suc i) x a h = all_at p ys i x (and_parts (p y) (list_all p ys) a).1 h
+each_passes p [] i x a h = cc
+each_passes p (y ∷ ys) zero x a h = let e : y ≡ x = cc in subst (λ z. p z ≡ true) e (and_parts (p y) (list_all p ys) a).0
+each_passes p (y ∷ ys) (suc i) x a h = each_passes p ys i x (and_parts (p y) (list_all p ys) a).1 h
 
-last_there : {X : Type 0} (xs : List X) (i : ℕ) → i < length xs
+-- a place below the length has an element
+pub get-within : {X : Type 0} (xs : List X) (i : ℕ) → i < length xs
     → (x : X) × (slice_get xs i ≡ Some x)
-last_there [] i h = absurd (omega arith)
-last_there (x ∷ xs) zero h = (x, refl)
-last_there (x ∷ xs) (suc i) h = last_there xs i (omega arith)
+get-within [] i h = absurd (omega arith)
+get-within (x ∷ xs) zero h = (x, refl)
+get-within (x ∷ xs) (suc i) h = get-within xs i (omega arith)
 
 -- the list of an epoch is one of the lists
 pub list_passes : (p : List ℕ → Bool) (lists : List (List ℕ)) (epoch : ℕ) → 0 < length lists
@@ -31,10 +33,10 @@ list_passes p lists epoch some all = go (slice_get lists epoch) refl
   where
     go : (o : Option (List ℕ)) → slice_get lists epoch ≡ o
         → p (unwrap_or (option_or o (slice_get lists (length lists - 1))) []) ≡ true
-    go (Some list) e = all_at p lists epoch list all e
+    go (Some list) e = each_passes p lists epoch list all e
     go None e =
-        let (list, at) = last_there lists (length lists - 1) (omega arith) in
-        subst (λ o. p (unwrap_or o []) ≡ true) (sym at) (all_at p lists (length lists - 1) list all at)
+        let (list, at) = get-within lists (length lists - 1) (omega arith) in
+        subst (λ o. p (unwrap_or o []) ≡ true) (sym at) (each_passes p lists (length lists - 1) list all at)
 
 -- numbers that rise from low and stay below the total are no more than lie between
 rise_fits : (low total : ℕ) (xs : List ℕ) → rises_from low xs ≡ true

@@ -1,8 +1,8 @@
 -- What the links of a chain leave in a replica.
-use Rattle.std.proofs.Common.{◌≡◌, ◌⊎◌, inl, inr, ℕ, zero, suc, ◌+◌, ◌<◌, ◌≤◌, ◌==◌, Bool, true, false, cond, List, [], ◌∷◌, ◌++◌, length, map, take, fold, slice_get, Some, refl, sym, ◌∙◌, ap, subst, arith, add-one}
+use Rattle.std.proofs.Common.{◌≡◌, ◌⊎◌, inl, inr, ℕ, zero, suc, ◌+◌, ◌≤◌, ◌==◌, Bool, true, false, cond, List, [], ◌∷◌, ◌++◌, length, map, take, fold, slice_get, Some, refl, sym, ◌∙◌, ap, subst, arith, add-one}
 use Rattle.std.specs.Option.{option_map_or}
 use Rattle.std.proofs.lemmas.Bool.{cases_eq, eqb-true}
-use Rattle.std.proofs.lemmas.Option.{same_Some}
+use Rattle.std.proofs.lemmas.Option.{same_Some, slice_get_within}
 use Rattle.cw_types.specs.Block.{Block}
 use Rattle.cw_rules.specs.Reached.{In}
 use Rattle.cw_ledger.specs.Ledger.{applied}
@@ -12,11 +12,6 @@ use Rattle.hail_ledger.proofs.Orders.{after_one, reached_by}
 -- ---- each link of a chain is of its height
 
 -- ---- lists
-
-get_below : {X : Type 0} (xs : List X) (i : ℕ) (x : X) → slice_get xs i ≡ Some x → i < length xs
-get_below [] i x h = cc
-get_below (y ∷ ys) zero x h = omega arith
-get_below (y ∷ ys) (suc i) x h = omega (arith, get_below ys i x h)
 
 taken_more : (chain : List Block) (n : ℕ) (b : Block) → slice_get chain n ≡ Some b → map (λ x. x.payload) (take (n + 1) chain) ≡ map (λ x. x.payload) (take n chain) ++ b.payload ∷ []
 taken_more chain n b at = rw (add-one n) (go chain n at)
@@ -62,7 +57,7 @@ module _ (chain : List Block) (heights_are : HasHeights chain) where
           let is_it : (h == n) ≡ true = rw same (grind arith) in
           let there : slice_get chain n ≡ Some b = subst (λ k. slice_get chain k ≡ Some b) same at in
           let now : after_one n h ≡ n + 1 = ap (λ t. cond t (n + 1) n) is_it in
-          (opened ∙ ap (λ t. cond t (first n ++ b.payload ∷ []) (first n)) (test ∙ is_it) ∙ sym (taken_more chain n b there) ∙ ap first (sym now), omega (arith, now, get_below chain n b there))
+          (opened ∙ ap (λ t. cond t (first n ++ b.payload ∷ []) (first n)) (test ∙ is_it) ∙ sym (taken_more chain n b there) ∙ ap first (sym now), omega (arith, now, slice_get_within chain n b there))
       go (inr other) =
           let not_it : (h == n) ≡ false = not_same (h == n) refl in
           let now : after_one n h ≡ n = ap (λ t. cond t (n + 1) n) not_it in

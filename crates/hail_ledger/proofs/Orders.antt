@@ -2,7 +2,7 @@
 use Rattle.std.proofs.Common.{◌≡◌, ◌⊎◌, inl, inr, ℕ, zero, suc, ◌+◌, ◌<◌, ◌≤◌, ◌==◌, cond, max, List, [], ◌∷◌, ◌++◌, map, fold, Option, Some, None, refl, sym, ◌∙◌, ap, subst, arith, append_assoc, append-nil}
 use Rattle.std.specs.List.{last_or}
 use Rattle.std.specs.Option.{option_map_or}
-use Rattle.std.proofs.lemmas.Bool.{cases_eq, cases_lt}
+use Rattle.std.proofs.lemmas.Bool.{cases_eq, cases_lt, ne_eqb}
 use Rattle.cw_types.specs.declared.event.Handed.{Handed}
 use Rattle.cw_types.specs.declared.note.Note.{Note}
 use Rattle.cw_rules.specs.Accepted.{State}
@@ -13,7 +13,7 @@ use Rattle.cw_rules.specs.Step.{deliveries_within, delivery, with_given}
 use Rattle.cw_rules.proofs.Lists.{in_cases, in_left, in_right}
 use Rattle.hail_ledger.proofs.Acks.{last_there}
 use Rattle.cw_rules.proofs.Acks.{acks, acks_behind, floor_grows}
-use Rattle.cw_ledger.proofs.Moving.{other_is, same_is}
+use Rattle.cw_ledger.proofs.Moving.{same_is}
 use Rattle.node.proofs.Rising.{height_is}
 
 -- the next height after one was handed out
@@ -114,7 +114,7 @@ module _ (heights : List ℕ) (notes : List Note) (given : List ℕ) (height : �
   }
     where
       now : reached_by more ≡ n
-      now = fold_push 0 heights height ∙ ap (λ b. cond b (n + 1) n) (other_is height n other)
+      now = fold_push 0 heights height ∙ ap (λ b. cond b (n + 1) n) (ne_eqb height n other)
 
       out : In (reached_by more) heights ⊎ In (reached_by more) (height ∷ []) → ⊥
       out (inl there) = is.out (subst (λ k. In k heights) now there)

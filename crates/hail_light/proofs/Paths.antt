@@ -118,10 +118,6 @@ module _ (r : Rules) (notes : List Note) where
 
 -- ---- the search of a path
 
-pub no_some : {X : Type 0} (o : Option X) → ((x : X) → o ≡ Some x → ⊥) → o ≡ None
-no_some None h = refl
-no_some (Some x) h = absurd (h x refl)
-
 -- heights fall
 pub smaller : (b : Block) (o next : Option Block) → next ≡ Some b → IfSome o (λ a. a.height + 1 ≡ b.height) → suc (option_map_or (λ (x : Block). x.height + 1) o 0) ≤ option_map_or (λ (x : Block). x.height + 1) next 0
 smaller b o next e h = subst (λ (n : Option Block). suc (option_map_or (λ (x : Block). x.height + 1) o 0) ≤ option_map_or (λ (x : Block). x.height + 1) n 0) (sym e) (go o h)

@@ -1,6 +1,7 @@
 -- Whether a script is run, from what its parts say.
 use Rattle.std.proofs.Common.{◌≡◌, ℕ, ◌+◌, ◌<◌, ◌≤◌, ◌^◌, ◌&&◌, Bool, true, false, not, List, [], ◌∷◌, length, drop, map, Option, Some, None, Result, Ok, Err, refl, sym, ap, ◌∙◌, arith, nat_lt, nat_le, IsTrue}
 use Rattle.std.specs.List.{list_all}
+use Rattle.std.proofs.lemmas.Bool.{and_parts}
 use Rattle.cw_types.specs.Epochs.{Epochs, is_sound}
 use Rattle.cw_rules.specs.World.{Line}
 use Rattle.hail_script.specs.declared.error.RunError.{RunError}
@@ -11,14 +12,14 @@ use Rattle.hail_script.specs.Grammar as grammar
 use Rattle.hail_script.specs.Headers.{lists_in}
 use Rattle.hail_script.specs.Scenario.{Scenario}
 use Rattle.hail_script.proofs.Marks.{bears_same}
-use Rattle.hail_script.proofs.Sized.{and_left, and_right, and_both, sound_known, sound_sized, sound_there}
+use Rattle.hail_script.proofs.Sized.{sound_known, sound_sized, sound_there}
 
 -- at most f members of each list are marked, and so faulty
 marked_all : (lines : List Line) (total : ℕ) (lists : List (List ℕ)) → list_all (list_all (λ i. nat_lt i total)) lists ≡ true → list_all (admission.bears (grammar.marks lines total)) lists ≡ list_all (grammar.bears lines) lists
 marked_all lines total [] h = refl
 marked_all lines total (x ∷ xs) h =
-    let one = bears_same lines total x (and_left (list_all (λ i. nat_lt i total) x) _ h) in
-    let more = marked_all lines total xs (and_right (list_all (λ i. nat_lt i total) x) _ h) in
+    let one = bears_same lines total x (and_parts (list_all (λ i. nat_lt i total) x) _ h).0 in
+    let more = marked_all lines total xs (and_parts (list_all (λ i. nat_lt i total) x) _ h).1 in
     ap (λ (b : Bool). b && list_all (admission.bears (grammar.marks lines total)) xs) one ∙ ap (λ (b : Bool). grammar.bears lines x && b) more
 
 pub sound_marked : (s : Scenario) → is_sound s.committees ≡ true → list_all (admission.bears (grammar.marks s.lines s.committees.total)) s.committees.lists ≡ list_all (grammar.bears s.lines) s.committees.lists

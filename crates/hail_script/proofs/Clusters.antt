@@ -1,28 +1,23 @@
 -- A script that is run makes at most f members of each epoch faulty.
-use Rattle.std.proofs.Common.{◌≡◌, ℕ, zero, suc, ◌+◌, ◌-◌, ◌<◌, ◌≤◌, Bool, true, List, [], ◌∷◌, length, Option, Some, None, refl, sym, ap, subst, ◌∙◌, arith, nat_le, IsTrue, leb-true}
+use Rattle.std.proofs.Common.{◌≡◌, ℕ, ◌+◌, ◌-◌, ◌<◌, ◌≤◌, true, List, [], length, Option, Some, None, refl, subst, arith, nat_le, IsTrue, leb-true}
 use Rattle.std.specs.Prelude.{count_by, slice_get, unwrap_or}
 use Rattle.std.specs.List.{AllByRecursion, list_all, list_any}
 use Rattle.std.specs.Option.{option_or}
 use Rattle.cw_types.specs.Epochs.{Epochs, list_of, members_in, rises_from, size}
 use Rattle.cw_types.specs.Numbers.{max_faults}
+use Rattle.cw_types.proofs.EpochLemmas.{each_passes}
 use Rattle.cw_rules.specs.Reached.{IsCluster}
 use Rattle.cw_rules.specs.Rules.{Rules}
 use Rattle.cw_rules.specs.World.{Line, faults}
 use Rattle.hail_script.specs.Grammar as grammar
-use Rattle.hail_script.proofs.Sized.{and_left, and_right}
-
-got : {X : Type 0} (p : X → Bool) (xs : List X) (i : ℕ) (x : X) → list_all p xs ≡ true → slice_get xs i ≡ Some x → p x ≡ true
-got p [] i x h e = absurd (let no : None ≡ Some x = e in cc)
-got p (y ∷ xs) zero x h e = let same : y ≡ x = (let s : Some y ≡ Some x = e in cc) in ap p (sym same) ∙ and_left (p y) (list_all p xs) h
-got p (y ∷ xs) (suc i) x h e = got p xs i x (and_right (p y) (list_all p xs) h) e
 
 -- the list of an epoch bears what each list does
 borne : (lines : List Line) (lists : List (List ℕ)) (epoch : ℕ) → list_all (grammar.bears lines) lists ≡ true → grammar.bears lines (list_of lists epoch) ≡ true
 borne lines lists epoch h = go (slice_get lists epoch) (slice_get lists (length lists - 1)) refl refl
   where
     go : (a b : Option (List ℕ)) → slice_get lists epoch ≡ a → slice_get lists (length lists - 1) ≡ b → grammar.bears lines (unwrap_or (option_or (slice_get lists epoch) (slice_get lists (length lists - 1))) []) ≡ true
-    go (Some list) b p q = rw p (got (grammar.bears lines) lists epoch list h p)
-    go None (Some list) p q = rw (p, q) (got (grammar.bears lines) lists (length lists - 1) list h q)
+    go (Some list) b p q = rw p (each_passes (grammar.bears lines) lists epoch list h p)
+    go None (Some list) p q = rw (p, q) (each_passes (grammar.bears lines) lists (length lists - 1) list h q)
     go None None p q = rw (p, q) refl
 
 pub cluster : (x : Epochs) (lines : List Line) → list_all (grammar.bears lines) x.lists ≡ true → ((epoch : ℕ) → 4 ≤ size x epoch) → ((epoch : ℕ) → IsTrue (rises_from 0 (members_in x epoch)))

@@ -1,5 +1,5 @@
 -- The members that lines make faulty, as marks.
-use Rattle.std.proofs.Common.{◌≡◌, ◌≢◌, ℕ, ◌+◌, ◌<◌, ◌==◌, ◌||◌, ◌&&◌, Bool, true, false, not, cond, List, [], ◌∷◌, ◌++◌, length, map, get_or, refl, sym, ap, ◌∙◌, arith, nat_lt}
+use Rattle.std.proofs.Common.{◌≡◌, ◌≢◌, ℕ, ◌+◌, ◌<◌, ◌==◌, ◌||◌, Bool, true, false, not, cond, List, [], ◌∷◌, ◌++◌, length, map, get_or, refl, sym, ap, ◌∙◌, arith, nat_lt}
 use Rattle.std.specs.Prelude.{slice_set, count_by, slice_index_or, nat_le}
 use Rattle.std.specs.List.{list_any, list_all, range_with_len}
 use Rattle.std.proofs.lemmas.Bool.Decides.{nat_tests}
@@ -7,6 +7,7 @@ use Rattle.std.proofs.lemmas.List.{ext_get_or, get_or-set_same, get_or-set_other
 use Rattle.std.proofs.lemmas.List.Folds.{list_any-append}
 use Rattle.std.proofs.lemmas.List.Sums.{sum_by-cons}
 use Rattle.std.proofs.lemmas.List.FromFn.{get_or-map-range_with_len, length-map-range_with_len}
+use Rattle.std.proofs.lemmas.Bool.{and_parts}
 use Rattle.cw_rules.specs.World as rule
 use Rattle.hail_script.specs.Admission as admission
 use Rattle.hail_script.specs.Events.{line_of}
@@ -82,8 +83,8 @@ marks_more lines total (line.Faulty m fault) = mark_one lines total m _
 counted : (lines : List rule.Line) (total : ℕ) (list : List ℕ) → list_all (λ i. nat_lt i total) list ≡ true → count_by (admission.is_marked (grammar.marks lines total)) list ≡ count_by (grammar.is_faulty_in lines) list
 counted lines total [] h = refl
 counted lines total (i ∷ list) h =
-    let first : nat_lt i total ≡ true = and_left (nat_lt i total) (list_all (λ j. nat_lt j total) list) h in
-    let more : list_all (λ j. nat_lt j total) list ≡ true = and_right (nat_lt i total) (list_all (λ j. nat_lt j total) list) h in
+    let first : nat_lt i total ≡ true = (and_parts (nat_lt i total) (list_all (λ j. nat_lt j total) list) h).0 in
+    let more : list_all (λ j. nat_lt j total) list ≡ true = (and_parts (nat_lt i total) (list_all (λ j. nat_lt j total) list) h).1 in
     let below : i < total = grind (arith, nat_tests) in
     count-cons (admission.is_marked (grammar.marks lines total)) i list
     ∙ ap (λ (b : Bool). cond b 1 0 + count_by (admission.is_marked (grammar.marks lines total)) list) (marks_at lines total i below)
@@ -92,14 +93,6 @@ counted lines total (i ∷ list) h =
   where
     count-cons : (p : ℕ → Bool) (i : ℕ) (is : List ℕ) → count_by p (i ∷ is) ≡ cond (p i) 1 0 + count_by p is
     count-cons p i is = sum_by-cons (λ x. cond (p x) 1 0) i is
-
-    and_left : (a b : Bool) → (a && b) ≡ true → a ≡ true
-    and_left true b e = refl
-    and_left false b e = e
-
-    and_right : (a b : Bool) → (a && b) ≡ true → b ≡ true
-    and_right true b e = e
-    and_right false b e = absurd (let no : false ≡ true = e in cc)
 
 pub bears_same : (lines : List rule.Line) (total : ℕ) (list : List ℕ) → list_all (λ i. nat_lt i total) list ≡ true → admission.bears (grammar.marks lines total) list ≡ grammar.bears lines list
 bears_same lines total list h = rw (counted lines total list h) refl

@@ -20,9 +20,10 @@ use Rattle.cw_rules.specs.Step.{Member, member_notes}
 use Rattle.cw_rules.specs.World.{World}
 use Rattle.hailstorm.specs.declared.place.Place.{Place}
 use Rattle.hailstorm.specs.declared.place.Place.TheVariants as place
-use Rattle.hailstorm.specs.Places.{SitAs, SitsAs, notes_at}
+use Rattle.hailstorm.specs.Places.{SitAs, notes_at}
 use Rattle.hailstorm.specs.Runs.{GoesBy, HasGrown, all_before, clash_in, clash_of, earlier_of, encoded, notes_of, other_in}
 use Rattle.hailstorm.specs.Seats.{Seat}
+use Rattle.hailstorm.proofs.Playing.{seated_notes, sit_as_many}
 
 -- ---- notes and blocks
 
@@ -40,25 +41,11 @@ blocks_is [] = refl
 blocks_is (None ∷ os) = blocks_is os
 blocks_is (Some m ∷ os) = ap (λ (l : List Block). blocks (member_notes m) ++ l) (blocks_is os) ∙ sym (filter_map-append noted_block (member_notes m) (notes_in os))
 
-one_place : (p : Place Seat) (o : Option Member) → SitsAs p o → notes_at p ≡ notes_of o
-one_place place.Faulty None h = refl
-one_place place.Faulty (Some x) h = absurd h
-one_place (place.Live m) None h = absurd h
-one_place (place.Live m) (Some x) h = ap member_notes h
-one_place (place.Stopped disk notes) None h = absurd h
-one_place (place.Stopped disk notes) (Some x) h = h.2
-
 pub same_notes : (ps : List (Place Seat)) (os : List (Option Member)) → SitAs ps os → map notes_at ps ≡ map notes_of os
 same_notes [] [] h = refl
 same_notes [] (o ∷ os) h = absurd h
 same_notes (p ∷ ps) [] h = absurd h
-same_notes (p ∷ ps) (o ∷ os) h = ap (λ (l : List Note). l ∷ map notes_at ps) (one_place p o h.0) ∙ ap (λ (l : List (List Note)). notes_of o ∷ l) (same_notes ps os h.1)
-
-as_many : (ps : List (Place Seat)) (os : List (Option Member)) → SitAs ps os → length os ≡ length ps
-as_many [] [] h = refl
-as_many [] (o ∷ os) h = absurd h
-as_many (p ∷ ps) [] h = absurd h
-as_many (p ∷ ps) (o ∷ os) h = ap suc (as_many ps os h.1)
+same_notes (p ∷ ps) (o ∷ os) h = ap (λ (l : List Note). l ∷ map notes_at ps) (seated_notes p o h.0) ∙ ap (λ (l : List (List Note)). notes_of o ∷ l) (same_notes ps os h.1)
 
 own_is : (os : List (Option Member)) (i : ℕ) (d : Option Member) → i < length os → notes_in (take 1 (drop i os)) ≡ notes_of (get_or os i d)
 own_is [] i d lt = absurd (omega arith)
@@ -68,7 +55,7 @@ own_is (o ∷ os) (suc i) d lt = own_is os i d (omega arith)
 own_at : (ps : List (Place Seat)) (os : List (Option Member)) (i : ℕ) (d : Place Seat) → SitAs ps os → i < length ps → notes_in (take 1 (drop i os)) ≡ notes_at (get_or ps i d)
 own_at [] os i d h lt = absurd (omega arith)
 own_at (p ∷ ps) [] i d h lt = absurd h
-own_at (p ∷ ps) (o ∷ os) zero d h lt = append-nil (notes_of o) ∙ sym (one_place p o h.0)
+own_at (p ∷ ps) (o ∷ os) zero d h lt = append-nil (notes_of o) ∙ sym (seated_notes p o h.0)
 own_at (p ∷ ps) (o ∷ os) (suc i) d h lt = own_at ps os i d h.1 (omega arith)
 
 parts : (os : List (Option Member)) (i : ℕ) → i < length os → notes_in os ≡ notes_in (take i os) ++ (notes_in (take 1 (drop i os)) ++ notes_in (drop (i + 1) os))
@@ -310,7 +297,7 @@ by_rules r before after id old bytes lt grown named =
 pub clash_found : (hash : List ℕ → Digest32) (r : Rules) (before after : World) (ps : List (Place Seat)) (d : Place Seat) (id old : ℕ) → GoesBy hash r → SitAs ps after.members → id < length ps → HasGrown before after id old → AllNamed r after
     → clash_in hash (map notes_at ps) id old (drop old (notes_at (get_or ps id d))) ≡ option_map (encoded r) (clash_at r before after id)
 clash_found hash r before after ps d id old by members lt grown named =
-    let many = as_many ps after.members members in
+    let many = sit_as_many ps after.members members in
     ap (λ (h : List ℕ → Digest32). clash_in h (map notes_at ps) id old (drop old (notes_at (get_or ps id d)))) (sym by.hashes)
     ∙ ap (λ (l : List (List Note)). clash_in r.hash l id old (drop old (notes_at (get_or ps id d)))) (same_notes ps after.members members)
     ∙ ap (λ (l : List Note). clash_in r.hash (map notes_of after.members) id old (drop old l)) (sym (own_at ps after.members id d members lt))

@@ -1,5 +1,5 @@
 -- What a line adds to the notes of its member, and to those of no other.
-use Rattle.std.proofs.Common.{◌≡◌, ℕ, zero, suc, ◌+◌, ◌<◌, ◌==◌, ◌||◌, ◌&&◌, cond, nat_lt, Bool, true, false, List, [], ◌∷◌, ◌++◌, length, map, take, drop, get_or, Option, Some, None, refl, sym, ap, subst, ◌∙◌, arith, append_assoc, append-nil}
+use Rattle.std.proofs.Common.{◌≡◌, ℕ, zero, suc, ◌+◌, ◌<◌, ◌==◌, ◌||◌, ◌&&◌, cond, nat_lt, Bool, true, false, List, [], ◌∷◌, ◌++◌, length, map, take, drop, get_or, Option, Some, None, refl, sym, ap, subst, ◌∙◌, arith, append-nil}
 use Rattle.std.specs.Prelude.{flat_map, option_and_then, option_map, slice_get, slice_set}
 use Rattle.std.specs.List.{AllByRecursion}
 use Rattle.std.specs.Option.{option_map_or}
@@ -10,14 +10,16 @@ use Rattle.cw_rules.specs.Keeps.{Keeps, Meaning, meaning}
 use Rattle.cw_rules.specs.Reached.{IsMemberKept, Reaches, members_of}
 use Rattle.cw_rules.specs.Rules.{Rules}
 use Rattle.cw_rules.specs.Stands.{EachAfter}
-use Rattle.cw_rules.specs.Step.{Member, Stepped, add_frame, cut_step, member_notes, start, state_of, step, step_notes, stopped, taken}
+use Rattle.cw_rules.specs.Step.{Member, Stepped, cut_step, member_notes, start, state_of, step, step_notes, stopped, taken}
 use Rattle.cw_rules.specs.World as rule
 use Rattle.cw_rules.specs.World.{Line, World, done_by, event_of, happens, line_member, member_at, run, signed, turned, with_done}
+use Rattle.cw_rules.proofs.Worlds.{frames_join}
 use Rattle.hailstorm.specs.declared.place.Place.{Place}
 use Rattle.hailstorm.specs.declared.place.Place.TheVariants as place
 use Rattle.hailstorm.specs.Places.{SitAs, SitsAs, notes_at}
 use Rattle.hailstorm.specs.Runs.{HasGrown, notes_of}
 use Rattle.hailstorm.specs.Seats.{Seat}
+use Rattle.hailstorm.proofs.Playing.{seated_notes}
 
 -- ---- what is done only adds notes
 
@@ -27,18 +29,10 @@ Adds m x = (more : List Note) × (member_notes x ≡ member_notes m ++ more)
 none_added : (m x : Member) → member_notes x ≡ member_notes m → Adds m x
 none_added m x e = ([], e ∙ sym (append-nil (member_notes m)))
 
-frame_added : (frames : List (List Note)) (notes : List Note) → flat_map (λ frame. frame) (add_frame frames notes) ≡ flat_map (λ frame. frame) frames ++ notes
-frame_added frames [] = sym (append-nil (flat_map (λ frame. frame) frames))
-frame_added frames (n ∷ ns) = joined frames
-  where
-    joined : (fs : List (List Note)) → flat_map (λ frame. frame) (fs ++ (n ∷ ns) ∷ []) ≡ flat_map (λ frame. frame) fs ++ n ∷ ns
-    joined [] = append-nil (n ∷ ns)
-    joined (f ∷ fs) = ap (λ (xs : List Note). f ++ xs) (joined fs) ∙ sym (append_assoc f (flat_map (λ frame. frame) fs) (n ∷ ns))
-
 step_adds : (r : Rules) (w : World) (i : ℕ) (m : Member) (e : Event) → Adds m (step r i (signed w) m e).member
 step_adds r w i m e =
     let notes = step_notes r i (taken r (signed w) (state_of m) e) e in
-    (notes, frame_added m.frames notes)
+    (notes, frames_join m.frames notes)
 
 cut_adds : (r : Rules) (w : World) (i : ℕ) (m : Member) (a c x : ℕ) (e : Event) → Adds m (cut_step r i (signed w) m a c x e).member
 cut_adds r w i m a c x e = by_end ((length notes == 0) || nat_lt 4 a)
@@ -56,11 +50,11 @@ cut_adds r w i m a c x e = by_end ((length notes == 0) || nat_lt 4 a)
     part b = record { member = stopped m (cond b done.member.frames m.frames); sent = []; handed = []; tickets = [] }
 
     by_stay : (b : Bool) → Adds m (part b).member
-    by_stay true = (notes, frame_added m.frames notes)
+    by_stay true = (notes, frames_join m.frames notes)
     by_stay false = none_added m (part false).member refl
 
     by_end : (b : Bool) → Adds m (cond b whole (part (nat_lt 2 a && (nat_lt 0 c || (x == 1))))).member
-    by_end true = (notes, frame_added m.frames notes)
+    by_end true = (notes, frames_join m.frames notes)
     by_end false = by_stay (nat_lt 2 a && (nat_lt 0 c || (x == 1)))
 
 turn_adds : (r : Rules) (w : World) (i : ℕ) (line : Line) (m : Member) (done : Stepped) → turned r w i line m ≡ Some done → Adds m done.member
@@ -159,14 +153,6 @@ line_grown r w (rule.Cut a c x i ask) old o at count = turn_grown r w (rule.Cut 
 line_grown r w (rule.Restart i) old o at count = turn_grown r w (rule.Restart i) old o at count
 line_grown r w (rule.Faulty i fault) old o at count = same_grown w (happens r w (rule.Faulty i fault)) i old o refl at count
 
-notes_same : (p : Place Seat) (o : Option Member) → SitsAs p o → notes_at p ≡ notes_of o
-notes_same place.Faulty None h = refl
-notes_same place.Faulty (Some x) h = absurd h
-notes_same (place.Live m) None h = absurd h
-notes_same (place.Live m) (Some x) h = ap member_notes h
-notes_same (place.Stopped disk notes) None h = absurd h
-notes_same (place.Stopped disk notes) (Some x) h = h.2
-
 -- who sits in a place, and the member that it is
 record IsSeated (ps : List (Place Seat)) (os : List (Option Member)) (i : ℕ) : Type 0 where
   place : Place Seat
@@ -190,6 +176,6 @@ grown r w line ps i old members lt named count =
     let at = seated ps w.members i members lt in
     let there : slice_get w.members (line_member line) ≡ Some at.member = ap (λ (k : ℕ). slice_get w.members k) (sym named) ∙ at.there in
     subst (λ (k : ℕ). HasGrown w (happens r w line) k old) (sym named)
-    (line_grown r w line old at.member there (count at.place at.seat ∙ ap (λ (l : List Note). length l) (notes_same at.place at.member at.is)))
+    (line_grown r w line old at.member there (count at.place at.seat ∙ ap (λ (l : List Note). length l) (seated_notes at.place at.member at.is)))
 
 -- ---- noted blocks are under their digests

@@ -4,6 +4,7 @@ use Rattle.std.specs.Prelude.{option_map, slice_get}
 use Rattle.std.specs.List.{list_all}
 use Rattle.std.specs.Option.{option_or}
 use Rattle.std.proofs.lemmas.List.{drop_all}
+use Rattle.std.proofs.lemmas.Bool.{and_parts}
 use Rattle.cw_types.specs.Block.{Block}
 use Rattle.cw_rules.specs.Rules.{Rules}
 use Rattle.cw_rules.specs.World.{Line, line_member}
@@ -60,22 +61,18 @@ known_at s i line runnable e =
 pub short_at : (s : Scenario) (i : ℕ) (line : Line) → grammar.IsRunnable s → slice_get s.lines i ≡ Some line → grammar.names_oversize line ≡ false
 short_at s i line runnable e = none_at grammar.names_oversize (grammar.first_event s.committees) s.lines i line runnable.short e
 
-both : (a b : Bool) → (a && b) ≡ true → (a ≡ true) × (b ≡ true)
-both true b e = (refl, e)
-both false b e = absurd (let no : false ≡ true = e in cc)
-
 pub few_members : (s : Scenario) → grammar.IsRunnable s → s.committees.total < 2 ^ 16
 few_members s runnable =
-    let more = (both (nat_le 4 s.committees.total) (nat_lt s.committees.total (2 ^ 16) && list_all (λ list. nat_le 4 (length list)) s.committees.lists) runnable.sized).1 in
-    ltb-true s.committees.total (2 ^ 16) (both (nat_lt s.committees.total (2 ^ 16)) (list_all (λ list. nat_le 4 (length list)) s.committees.lists) more).0
+    let more = (and_parts (nat_le 4 s.committees.total) (nat_lt s.committees.total (2 ^ 16) && list_all (λ list. nat_le 4 (length list)) s.committees.lists) runnable.sized).1 in
+    ltb-true s.committees.total (2 ^ 16) (and_parts (nat_lt s.committees.total (2 ^ 16)) (list_all (λ list. nat_le 4 (length list)) s.committees.lists) more).0
 
 pub later_at : (s : Scenario) (i : ℕ) (line : Line) → grammar.IsRunnable s → slice_get s.lines i ≡ Some line → IsTrue (grammar.is_later line)
 later_at s i line runnable e = all s.lines i e runnable.later
   where
     all : (lines : List Line) (i : ℕ) → slice_get lines i ≡ Some line → list_all grammar.is_later lines ≡ true → grammar.is_later line ≡ true
     all [] i e h = absurd (let no : None ≡ Some line = e in cc)
-    all (l ∷ lines) zero e h = let same : l ≡ line = (let s : Some l ≡ Some line = e in cc) in ap grammar.is_later (sym same) ∙ (both (grammar.is_later l) (list_all grammar.is_later lines) h).0
-    all (l ∷ lines) (suc i) e h = all lines i e (both (grammar.is_later l) (list_all grammar.is_later lines) h).1
+    all (l ∷ lines) zero e h = let same : l ≡ line = (let s : Some l ≡ Some line = e in cc) in ap grammar.is_later (sym same) ∙ (and_parts (grammar.is_later l) (list_all grammar.is_later lines) h).0
+    all (l ∷ lines) (suc i) e h = all lines i e (and_parts (grammar.is_later l) (list_all grammar.is_later lines) h).1
 
 -- ---- a clash, and none
 

@@ -8,6 +8,7 @@ use Rattle.std.proofs.lemmas.Option.{slice_get-map}
 use Rattle.cw_types.specs.declared.event.Out.{Out}
 use Rattle.cw_rules.specs.Report.{Entry}
 use Rattle.cw_rules.specs.World.{Sent, sent_from}
+use Rattle.cw_rules.proofs.Lists.{get_front}
 use Rattle.hailstorm.specs.Pool.{StandAt, sent_at, sent_in}
 
 -- one entry more
@@ -71,12 +72,6 @@ looked_up entries places n h = go (slice_get places n) refl
     go None q = rw q (sym (none_stands entries places n h q))
     go (Some p) q = rw q (stands entries places n p h q)
 
--- what stands somewhere stands there where entries are added
-get_on : {X : Type 0} (xs ys : List X) (i : ℕ) (x : X) → slice_get xs i ≡ Some x → slice_get (xs ++ ys) i ≡ Some x
-get_on [] ys i x e = cc
-get_on (y ∷ xs) ys zero x e = e
-get_on (y ∷ xs) ys (suc i) x e = get_on xs ys i x e
-
 get_last : {X : Type 0} (xs : List X) (x : X) → slice_get (xs ++ x ∷ []) (length xs) ≡ Some x
 get_last [] x = refl
 get_last (y ∷ xs) x = get_last xs x
@@ -86,7 +81,7 @@ sent_on entries e p s h = go (slice_get entries p.0) refl
   where
     go : (o : Option Entry) → slice_get entries p.0 ≡ o → sent_at (entries ++ e ∷ []) p ≡ Some s
     go None q = absurd (let no : None ≡ Some s = rw q at h in cc)
-    go (Some x) q = rw (get_on entries (e ∷ []) p.0 x q) (rw q at h)
+    go (Some x) q = rw (get_front entries (e ∷ []) p.0 x q) (rw q at h)
 
 stand_on : (entries : List Entry) (e : Entry) (places : List (ℕ × ℕ)) (sent : List Sent) → map (sent_at entries) places ≡ map Some sent → map (sent_at (entries ++ e ∷ [])) places ≡ map Some sent
 stand_on entries e [] [] h = refl

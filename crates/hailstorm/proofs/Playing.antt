@@ -14,6 +14,7 @@ use Rattle.cw_rules.specs.Rules.{Rules}
 use Rattle.cw_rules.specs.Step.{Member, Stepped, cut_step, member_notes, start, step}
 use Rattle.cw_rules.specs.World as rule
 use Rattle.cw_rules.specs.World.{Sent, World, done_by, happens, member_at, sent_from, signed, turned, with_done}
+use Rattle.cw_rules.proofs.Worlds.{set-get, set-set}
 use Rattle.hail_script.specs.Events.{ask_of, fault_of, line_of}
 use Rattle.hail_script.specs.declared.event.EventLine.{EventLine}
 use Rattle.hail_script.specs.declared.event.Fault.{Fault}
@@ -23,6 +24,7 @@ use Rattle.hailstorm.specs.declared.place.Place.TheVariants as place
 use Rattle.hailstorm.specs.Honest.{IsHonest, IsPlaced}
 use Rattle.hailstorm.specs.Places.{SitAs, WorkBy, SitsAs, WorksBy, IsTurn, Makes, found_at, marked, notes_at, over, table, turned_by}
 use Rattle.hailstorm.specs.Seats.{Seat, out_of}
+use Rattle.hailstorm.specs.Runs.{notes_of}
 
 -- ---- places
 
@@ -61,10 +63,21 @@ members_set (y ∷ ps) [] i p o h m = absurd h
 members_set (y ∷ ps) (x ∷ os) zero p o h m = (m, h.1)
 members_set (y ∷ ps) (x ∷ os) (suc i) p o h m = (h.0, members_set ps os i p o h.1 m)
 
-set_same : {X : Type 0} (xs : List X) (i : ℕ) (x : X) → slice_get xs i ≡ Some x → slice_set xs i x ≡ xs
-set_same {X} [] i x e = refl
-set_same {X} (y ∷ xs) zero x e = let same : x ≡ y = (let s : Some y ≡ Some x = e in cc) in ap (λ (z : X). z ∷ xs) same
-set_same {X} (y ∷ xs) (suc i) x e = ap (λ (l : List X). y ∷ l) (set_same xs i x e)
+-- a place has noted what its member has
+pub seated_notes : (p : Place Seat) (o : Option Member) → SitsAs p o → notes_at p ≡ notes_of o
+seated_notes place.Faulty None h = refl
+seated_notes place.Faulty (Some x) h = absurd h
+seated_notes (place.Live m) None h = absurd h
+seated_notes (place.Live m) (Some x) h = ap member_notes h
+seated_notes (place.Stopped disk notes) None h = absurd h
+seated_notes (place.Stopped disk notes) (Some x) h = h.2
+
+-- there are as many members as places
+pub sit_as_many : (ps : List (Place Seat)) (os : List (Option Member)) → SitAs ps os → length os ≡ length ps
+sit_as_many [] [] h = refl
+sit_as_many [] (o ∷ os) h = absurd h
+sit_as_many (p ∷ ps) [] h = absurd h
+sit_as_many (p ∷ ps) (o ∷ os) h = ap suc (sit_as_many ps os h.1)
 
 -- ---- signatures and events
 
@@ -163,7 +176,7 @@ turn_is r w number e ps p out o pool entry honest there members makes gives send
         let sent = sends ∙ ap (λ (x : Option StepOut). w.pool ++ sent_from (length w.pool) (line_number e) (option_map_or (λ out. out.sent) x [])) makes.1 in
         record {
           gives = mine ∙ sym whole;
-          members = subst (λ (l : List (Option Member)). SitAs (slice_set ps (line_number e) p) l) (set_same w.members (line_number e) o there ∙ sym (ap (λ (v : World). v.members) after)) kept;
+          members = subst (λ (l : List (Option Member)). SitAs (slice_set ps (line_number e) p) l) (set-get w.members (line_number e) o there ∙ sym (ap (λ (v : World). v.members) after)) kept;
           sent = sent ∙ append-nil w.pool ∙ sym (ap (λ (v : World). v.pool) after);
         }
     go (Some done) is makes =
@@ -179,11 +192,6 @@ turn_is r w number e ps p out o pool entry honest there members makes gives send
           sent = sent ∙ sym (ap (λ (v : World). v.pool) after);
         }
 
-set_twice : {X : Type 0} (xs : List X) (i : ℕ) (x y : X) → slice_set (slice_set xs i x) i y ≡ slice_set xs i y
-set_twice [] i x y = refl
-set_twice (z ∷ xs) zero x y = refl
-set_twice {X} (z ∷ xs) (suc i) x y = ap (λ (l : List X). z ∷ l) (set_twice xs i x y)
-
 get_at : {X : Type 0} (xs : List X) (i : ℕ) (d : X) → i < length xs → slice_get xs i ≡ Some (get_or xs i d)
 get_at [] i d lt = absurd (omega arith)
 get_at (x ∷ xs) zero d lt = refl
@@ -198,7 +206,7 @@ taken_sound r ps i j d p h lt same is =
 pub put_back : (r : Rules) (ps : List (Place Seat)) (i j k : ℕ) (x p : Place Seat) → WorkBy r 0 ps → j ≡ i → k ≡ i → WorksBy r i p → WorkBy r 0 (slice_set (slice_set ps j x) k p)
 put_back r ps i j k x p h a b s =
     let none : i ≡ 0 + i = omega arith in
-    rw (a, b, set_twice ps i x p) (sound_set r 0 ps i p h (subst (λ (n : ℕ). WorksBy r n p) none s))
+    rw (a, b, set-set ps i x p) (sound_set r 0 ps i p h (subst (λ (n : ℕ). WorksBy r n p) none s))
 
 pub placed : (r : Rules) (faulty : List Bool) (pool : List Sent) (ps : List (Place Seat)) (i j k : ℕ) (d p x new : Place Seat) (e : EventLine) (found : Option ℕ) (out : Option StepOut) → i < length ps → j ≡ i → k ≡ i → p ≡ get_or ps j d
     → found ≡ found_at e new out
@@ -208,7 +216,7 @@ placed r faulty pool ps i j k d p x new e found out lt a b is finds makes = reco
   before = p;
   after = new;
   was = get_at ps i d lt ∙ ap (λ (q : Place Seat). let o : Option (Place Seat) = Some q in o) (sym (is ∙ ap (λ (n : ℕ). get_or ps n d) a));
-  becomes = rw (a, b) (set_twice ps i x new);
+  becomes = rw (a, b) (set-set ps i x new);
   finds = finds;
   makes = makes;
 }

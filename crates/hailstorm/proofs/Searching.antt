@@ -1,34 +1,22 @@
 -- A search from some place on.
-use Rattle.std.proofs.Common.{◌≡◌, ℕ, zero, suc, ◌+◌, ◌<◌, Bool, List, [], ◌∷◌, ◌++◌, length, map, drop, get_or, Option, Some, None, refl, sym, ap, ◌∙◌, arith, append_assoc}
+use Rattle.std.proofs.Common.{◌≡◌, ℕ, zero, suc, ◌+◌, ◌<◌, Bool, List, ◌∷◌, length, map, drop, get_or, Option, Some, None, sym, ap, ◌∙◌, arith, append_assoc}
 use Rattle.std.specs.Prelude.{Err, IfOk, Ok, Result, flat_map, option_map}
 use Rattle.std.specs.Option.{option_or}
-use Rattle.std.proofs.lemmas.List.{at_drop_more, drop_more, drop-map}
+use Rattle.std.proofs.lemmas.List.{drop_more, drop-map}
 use Rattle.cw_base.specs.declared.hash.Digest32.{Digest32}
 use Rattle.cw_types.specs.Block.{Block}
 use Rattle.cw_types.specs.Encoding.{block_bytes}
 use Rattle.cw_types.specs.declared.commitment.Commitment.{Commitment}
 use Rattle.cw_types.specs.declared.note.Note.{Note}
 use Rattle.cw_rules.specs.Accepted.{first_some}
+use Rattle.cw_rules.proofs.Lists.{first_from, first_of_both}
 use Rattle.hailstorm.specs.Runs.{all_before, clash_of, earlier_of, notes_before}
 
--- at one element
-pub at_one : {X Y : Type 0} (f : X → Option Y) (xs : List X) (i : ℕ) (x : X) → i < length xs → x ≡ get_or xs i x → first_some f (drop i xs) ≡ option_or (f x) (first_some f (drop (i + 1) xs))
-at_one {X} f xs i x lt is = at_drop_more (first_some f) xs i x lt ∙ ap (λ (y : X). option_or (f y) (first_some f (drop (i + 1) xs))) (sym is)
-
 pub here : {X Y : Type 0} (f : X → Option Y) (xs : List X) (i : ℕ) (x : X) (y : Y) → i < length xs → x ≡ get_or xs i x → f x ≡ Some y → first_some f (drop i xs) ≡ Some y
-here {X} {Y} f xs i x y lt is e = at_one f xs i x lt is ∙ ap (λ (o : Option Y). option_or o (first_some f (drop (i + 1) xs))) e
+here {X} {Y} f xs i x y lt is e = first_from f xs i x lt is ∙ ap (λ (o : Option Y). option_or o (first_some f (drop (i + 1) xs))) e
 
 pub further : {X Y : Type 0} (f : X → Option Y) (xs : List X) (i : ℕ) (x : X) → i < length xs → x ≡ get_or xs i x → f x ≡ None → first_some f (drop (i + 1) xs) ≡ first_some f (drop i xs)
-further {X} {Y} f xs i x lt is e = sym (at_one f xs i x lt is ∙ ap (λ (o : Option Y). option_or o (first_some f (drop (i + 1) xs))) e)
-
--- in lists end to end
-pub over_two : {X Y : Type 0} (f : X → Option Y) (xs ys : List X) → first_some f (xs ++ ys) ≡ option_or (first_some f xs) (first_some f ys)
-over_two f [] ys = refl
-over_two {X} {Y} f (x ∷ xs) ys = go (f x) (over_two f xs ys)
-  where
-    go : (o : Option Y) → first_some f (xs ++ ys) ≡ option_or (first_some f xs) (first_some f ys) → option_or o (first_some f (xs ++ ys)) ≡ option_or (option_or o (first_some f xs)) (first_some f ys)
-    go None e = e
-    go (Some y) e = refl
+further {X} {Y} f xs i x lt is e = sym (first_from f xs i x lt is ∙ ap (λ (o : Option Y). option_or o (first_some f (drop (i + 1) xs))) e)
 
 -- the rest of a list that is made of another
 pub made_drop : {X Z : Type 0} (v : X → Z) (xs : List X) (i : ℕ) (x : X) → i < length xs → x ≡ get_or xs i x → drop i (map v xs) ≡ v x ∷ drop (i + 1) (map v xs)
@@ -37,7 +25,7 @@ made_drop {X} {Z} v xs i x lt is = drop-map v i xs ∙ ap (λ (l : List X). map 
 -- in the lists that are made of others
 lists_at : {X Y Z : Type 0} (f : Y → Option Z) (v : X → List Y) (xs : List X) (i : ℕ) (x : X) → i < length xs → x ≡ get_or xs i x
     → first_some f (flat_map (λ l. l) (drop i (map v xs))) ≡ option_or (first_some f (v x)) (first_some f (flat_map (λ l. l) (drop (i + 1) (map v xs))))
-lists_at {X} {Y} {Z} f v xs i x lt is = ap (λ (l : List (List Y)). first_some f (flat_map (λ n. n) l)) (made_drop v xs i x lt is) ∙ over_two f (v x) (flat_map (λ n. n) (drop (i + 1) (map v xs)))
+lists_at {X} {Y} {Z} f v xs i x lt is = ap (λ (l : List (List Y)). first_some f (flat_map (λ n. n) l)) (made_drop v xs i x lt is) ∙ first_of_both f (v x) (flat_map (λ n. n) (drop (i + 1) (map v xs)))
 
 pub lists_here : {X Y Z : Type 0} (f : Y → Option Z) (v : X → List Y) (xs : List X) (i : ℕ) (x : X) (notes : List Y) (z : Z) → i < length xs → x ≡ get_or xs i x → notes ≡ v x → Some z ≡ first_some f notes
     → first_some f (flat_map (λ l. l) (drop i (map v xs))) ≡ first_some f (flat_map (λ l. l) (map v xs)) → Some z ≡ first_some f (flat_map (λ l. l) (map v xs))
@@ -55,7 +43,7 @@ lists_on {X} {Y} {Z} f v xs i x notes lt is made e inv =
 before_at : {X Z : Type 0} (f : Note → Option Z) (v : X → List Note) (xs : List X) (id index i : ℕ) (x : X) → i < length xs → x ≡ get_or xs i x
     → first_some f (all_before id index i (drop i (map v xs))) ≡ option_or (first_some f (notes_before id index i (v x))) (first_some f (all_before id index (i + 1) (drop (i + 1) (map v xs))))
 before_at {X} {Z} f v xs id index i x lt is =
-    ap (λ (l : List (List Note)). first_some f (all_before id index i l)) (made_drop v xs i x lt is) ∙ over_two f (notes_before id index i (v x)) (all_before id index (i + 1) (drop (i + 1) (map v xs)))
+    ap (λ (l : List (List Note)). first_some f (all_before id index i l)) (made_drop v xs i x lt is) ∙ first_of_both f (notes_before id index i (v x)) (all_before id index (i + 1) (drop (i + 1) (map v xs)))
 
 pub before_here : {X Z : Type 0} (f : Note → Option Z) (v : X → List Note) (xs : List X) (id index i : ℕ) (x : X) (notes : List Note) (z : Z) → i < length xs → x ≡ get_or xs i x → notes ≡ notes_before id index i (v x) → Some z ≡ first_some f notes
     → first_some f (all_before id index i (drop i (map v xs))) ≡ first_some f (all_before id index 0 (map v xs)) → Some z ≡ first_some f (all_before id index 0 (map v xs))

@@ -10,7 +10,7 @@ use Rattle.hailstorm.specs.declared.place.Place.{Place}
 use Rattle.hailstorm.specs.Offers.{some_of}
 use Rattle.hailstorm.specs.Places.{SitAs, WorkBy, SitsAs, WorksBy}
 use Rattle.hailstorm.specs.Seats.{Seat}
-use Rattle.hailstorm.proofs.Playing.{HasMember, member_in, sound_at}
+use Rattle.hailstorm.proofs.Playing.{HasMember, member_in, sit_as_many, sound_at}
 
 -- what the places from a number on come to stands behind what the others came to
 abbrev pub StandSo : ℕ → List (Place Seat) → List Acked → Type 0
@@ -38,14 +38,8 @@ stand_next i places d p acked more one inv lt is gives adds r os sound members =
     ap (λ (l : List (Option Member)). filter_map acked_at (enumerate_from i l)) (drop_got os i at.member at.there) ∙ first_of_some i at.member (enumerate_from (i + 1) (drop (i + 1) os)) one mine in
     ap (λ (l : List Acked). l ++ tail) adds ∙ append_assoc acked (some_of one) tail ∙ ap (λ (l : List Acked). acked ++ l) (sym split) ∙ inv r os sound members
 
-as_many : (ps : List (Place Seat)) (os : List (Option Member)) → SitAs ps os → length os ≡ length ps
-as_many [] [] h = refl
-as_many [] (o ∷ os) h = absurd h
-as_many (p ∷ ps) [] h = absurd h
-as_many (p ∷ ps) (o ∷ os) h = ap suc (as_many ps os h.1)
-
 pub stand_all : (i : ℕ) (places : List (Place Seat)) (acked : List Acked) → StandSo i places acked → length places ≤ i → (r : Rules) (os : List (Option Member)) → WorkBy r 0 places → SitAs places os → acked ≡ filter_map acked_at (enumerate_from 0 os)
 stand_all i places acked inv past r os sound members =
-    let count = as_many places os members in
+    let count = sit_as_many places os members in
     let none : drop i os ≡ [] = drop_all i os (omega (arith, count)) in
     sym (append-nil acked) ∙ ap (λ (l : List (Option Member)). acked ++ filter_map acked_at (enumerate_from i l)) (sym none) ∙ inv r os sound members

@@ -9,6 +9,7 @@ use Rattle.std.specs.declared.cmp.Ordering.{Ordering}
 use Rattle.std.specs.declared.cmp.Ordering.TheVariants.{Less, Equal, Greater}
 use Rattle.std.proofs.lemmas.Bool.Decides.{nat_tests}
 use Rattle.std.proofs.lemmas.List.Folds.{list_any-append}
+use Rattle.std.proofs.lemmas.Bool.{and_parts, false_from_ne_true}
 use Rattle.cw_types.specs.Same.{same_vote}
 use Rattle.cw_types.proofs.Same.{same_vote-true}
 use Rattle.cw_types.specs.declared.message.Message.{Message}
@@ -47,10 +48,6 @@ itself (a, b, c) = rw (nat_itself a, nat_itself b, nat_itself c) refl
 
 -- ---- a vote more
 
-both : (a b : Bool) → (a && b) ≡ true → (a ≡ true) × (b ≡ true)
-both true b e = (refl, e)
-both false b e = absurd (let no : false ≡ true = e in cc)
-
 eq_itself : (x : ℕ) → (x == x) ≡ true
 eq_itself x = grind (arith, nat_tests)
 
@@ -61,10 +58,6 @@ any_more test xs x = list_any-append test xs (x ∷ []) ∙ ap (λ b. list_any t
     or_false : (b : Bool) → (b || false) ≡ b
     or_false true = refl
     or_false false = refl
-
-not_true : (b : Bool) → (b ≡ true → ⊥) → b ≡ false
-not_true true h = absurd (h refl)
-not_true false h = refl
 
 or_no : (a b : Bool) → b ≡ false → (a || b) ≡ a
 or_no true b e = refl
@@ -94,7 +87,7 @@ module _ (m n : Kept) (i : ℕ) (w : Vote) (before : List Sent) (s : Sent) where
           ∙ ap (λ b. list_any (is_sent_vote j v) before || b) (sym (sent ∙ rw yes refl))
           ∙ sym (any_more (is_sent_vote j v) before s)
       go false e =
-          let none : is_sent_vote j v s ≡ false = not_true (is_sent_vote j v s) (λ h. other (both (i == j) ((i == j) && same_vote v w) (sym sent ∙ h))) in
+          let none : is_sent_vote j v s ≡ false = false_from_ne_true (is_sent_vote j v s) (λ h. other (and_parts (i == j) ((i == j) && same_vote v w) (sym sent ∙ h))) in
           ap (λ (l : List Vote). list_any (same_vote v) l) (more.others (round_of j v) e) ∙ told j v
           ∙ sym (or_no (list_any (is_sent_vote j v) before) (is_sent_vote j v s) none)
           ∙ sym (any_more (is_sent_vote j v) before s)
@@ -102,7 +95,7 @@ module _ (m n : Kept) (i : ℕ) (w : Vote) (before : List Sent) (s : Sent) where
           other : ((i == j) ≡ true) × (((i == j) && same_vote v w) ≡ true) → ⊥
           other h =
               let same : j ≡ i = sym (eqb-true i j h.0) in
-              let one : v ≡ w = same_vote-true v w (both (i == j) (same_vote v w) h.1).1 in
+              let one : v ≡ w = same_vote-true v w (and_parts (i == j) (same_vote v w) h.1).1 in
               let at : round_of j v ≡ round_of i w = rw (same, one) refl in
               let yes : is_eq (round_cmp (round_of i w) (round_of j v)) ≡ true = subst (λ (r : Round). is_eq (round_cmp (round_of i w) r) ≡ true) (sym at) (itself (round_of i w)) in
               absurd (true≢false (sym yes ∙ e))
@@ -113,9 +106,9 @@ module _ (m n : Kept) (i : ℕ) (w : Vote) (before : List Sent) (s : Sent) where
 
 -- a vote of another signer
 pub not_own : (from i : ℕ) (w : Vote) (s : Sent) → s.from ≡ from → s.message ≡ message.Vote i w → (i == from) ≡ false → (j : ℕ) (v : Vote) → is_sent_vote j v s ≡ false
-not_own from i w s at is differs j v = rw (at, is) (not_true ((from == j) && ((i == j) && same_vote v w)) (λ h.
-    let first = both (from == j) ((i == j) && same_vote v w) h in
-    let second = both (i == j) (same_vote v w) first.1 in
+not_own from i w s at is differs j v = rw (at, is) (false_from_ne_true ((from == j) && ((i == j) && same_vote v w)) (λ h.
+    let first = and_parts (from == j) ((i == j) && same_vote v w) h in
+    let second = and_parts (i == j) (same_vote v w) first.1 in
     let same : i ≡ from = eqb-true i j second.0 ∙ sym (eqb-true from j first.0) in
     absurd (let no : false ≡ true = sym differs ∙ rw same (eq_itself from) in cc)))
 

@@ -5,9 +5,10 @@ use Rattle.std.specs.Prelude.{Option, None, slice_get, Some, nat_lt, if◌then�
 use Rattle.std.specs.List.{list_all}
 use Rattle.std.proofs.lemmas.List.Sums.{count_by-le-length, sum_by-append}
 use Rattle.std.proofs.lemmas.Bool.Decides.{nat_tests}
+use Rattle.std.proofs.lemmas.Bool.{and_from, and_parts}
 use Rattle.mailbox.specs.declared.call.Call.{Call}
 use Rattle.mailbox.specs.Calls.{AreCalls, Each, calls_in, IsEntryAt, IsFirstFault, Rises, holds_at, holds_in, none_at, place_holds, rises_at, calls_at, times_in}
-use Rattle.mailbox.proofs.PlacesHad.{and_both, and_left, and_right, is_less, is_same, itself, none_rises, read_at, sum_cons, times_cons}
+use Rattle.mailbox.proofs.PlacesHad.{is_less, is_same, itself, none_rises, read_at, sum_cons, times_cons}
 
 sum_split : {A : Type 0} (f g h : A → ℕ) (e : (x : A) → f x ≡ g x + h x) (xs : List A) → sum_by f xs ≡ sum_by g xs + sum_by h xs
 sum_split f g h e [] = omega arith
@@ -96,8 +97,8 @@ entries_in : {T E R X : Type 0} (same : X → Call T E R → Bool) (history : Li
 entries_in same history n [] holds low = tt
 entries_in same history n (c ∷ cs) holds low =
     let here = holds c.place (is_less c.place n low.0) in (
-      (here.0, here.1, own_is c.place (same here.0 c) (and_left _ _ here.2)),
-      entries_in same history n cs (λ k less. ((holds k less).0, (holds k less).1, and_right _ _ (holds k less).2)) low.1,
+      (here.0, here.1, own_is c.place (same here.0 c) (and_parts _ _ here.2).0),
+      entries_in same history n cs (λ k less. ((holds k less).0, (holds k less).1, (and_parts _ _ (holds k less).2).1)) low.1,
     )
 
 -- what stands behind a call is above it
@@ -107,9 +108,9 @@ above : {T E R : Type 0} (n p : ℕ) (ds : List (Call T E R))
 above n p [] apart none low = tt
 above n p (d ∷ ds) apart none low =
     let parts = times_cons p d ds in
-    let rest = above n p ds (λ k less under. and_right _ _ (apart k less under)) (omega (arith, parts, none)) low.1 in
+    let rest = above n p ds (λ k less under. (and_parts _ _ (apart k less under)).1) (omega (arith, parts, none)) low.1 in
     let unlike : cond (d.place == p) 1 0 ≡ 0 = omega (arith, parts, none) in
-    let not_less : d.place < p → ⊥ = λ under. above_none d.place (and_left _ _ (apart d.place (is_less d.place n low.0) under)) in
+    let not_less : d.place < p → ⊥ = λ under. above_none d.place (and_parts _ _ (apart d.place (is_less d.place n low.0) under)).0 in
     (above_step d.place p not_less unlike, rest)
   where
     above_none : (k : ℕ) → not (k == k) ≡ true → ⊥
@@ -149,15 +150,15 @@ lists_in : {T E R X : Type 0} (same : X → Call T E R → Bool) (history : List
     → Each (Each (IsEntryAt same history)) lists × Each Rises lists
 lists_in same history n [] holds once low = (tt, tt)
 lists_in same history n (v ∷ vs) holds once low =
-    let rest = lists_in same history n vs (λ k less. ((holds k less).0, (holds k less).1, and_right _ _ (holds k less).2))
+    let rest = lists_in same history n vs (λ k less. ((holds k less).0, (holds k less).1, (and_parts _ _ (holds k less).2).1))
     (λ k less. omega (arith, sum_cons (times_in k) v vs, once k less)) low.1
     in (
       (
-        entries_in same history n v (λ k less. ((holds k less).0, (holds k less).1, and_left _ _ (and_left _ _ (holds k less).2))) low.0,
+        entries_in same history n v (λ k less. ((holds k less).0, (holds k less).1, (and_parts _ _ (and_parts _ _ (holds k less).2).0).0)) low.0,
         rest.0,
       ),
       (
-        rises_in n v (λ k less. and_right _ _ (and_left _ _ (holds k less).2))
+        rises_in n v (λ k less. (and_parts _ _ (and_parts _ _ (holds k less).2).0).1)
             (λ k less. omega (arith, sum_cons (times_in k) v vs, once k less)) low.0,
         rest.1,
       ),
@@ -173,8 +174,8 @@ are_calls {X = X} same history lists holds many =
     let at : (k : ℕ) → k < length history → (x : X) × (slice_get history k ≡ Some x) × (holds_at (same x) k lists ≡ true) =
     λ k less. holds_some (λ x. holds_at (same x) k lists) (slice_get history k) (holds k less)
     in
-    let once : (k : ℕ) → k < length history → calls_at k lists ≡ 1 = λ k less. is_same _ _ (and_left _ _ (at k less).2) in
-    let both = lists_in same history (length history) lists (λ k less. ((at k less).0, (at k less).1, and_right _ _ (at k less).2))
+    let once : (k : ℕ) → k < length history → calls_at k lists ≡ 1 = λ k less. is_same _ _ (and_parts _ _ (at k less).2).0 in
+    let both = lists_in same history (length history) lists (λ k less. ((at k less).0, (at k less).1, (and_parts _ _ (at k less).2).1))
     (λ k less. omega (arith, once k less)) (all_below (length history) lists once many)
     in
     record { once = once; entries = both.0; rising = both.1 }
@@ -185,7 +186,7 @@ entries_hold : {T E R X : Type 0} (same : X → Call T E R → Bool) (history : 
     → list_all (λ c. not (c.place == k) || same x c) cs ≡ true
 entries_hold same history k x [] at each = refl
 entries_hold {X = X} same history k x (c ∷ cs) at each =
-    and_both (not (c.place == k) || same x c) (list_all (λ d. not (d.place == k) || same x d) cs) (step (c.place == k) refl) (entries_hold same history k x cs at each.1)
+    and_from (not (c.place == k) || same x c) (list_all (λ d. not (d.place == k) || same x d) cs) (step (c.place == k) refl) (entries_hold same history k x cs at each.1)
   where
     step : (b : Bool) → (c.place == k) ≡ b → (not (c.place == k) || same x c) ≡ true
     step true h =
@@ -206,7 +207,7 @@ rising_holds {T} {E} {R} k (c ∷ cs) h = step (nat_lt k c.place) refl (rising_h
     over (d ∷ ds) less each =
         let first = each.0 in
         let other : (d.place == k) ≡ false = grind (arith, nat_tests) in
-        and_both (not (d.place == k)) (none_at k ds) (rw other refl) (over ds less each.1)
+        and_from (not (d.place == k)) (none_at k ds) (rw other refl) (over ds less each.1)
 
     step : (b : Bool) → nat_lt k c.place ≡ b → rises_at k cs ≡ true → (if nat_lt k c.place then none_at k cs else rises_at k cs) ≡ true
     step true is rest = rw is (over cs (is_less k c.place is) h.0)
@@ -218,14 +219,14 @@ pub calls_hold : {T E R X : Type 0} (same : X → Call T E R → Bool) (history 
 calls_hold {T} {E} {R} {X} same history lists calls k less =
     let here = read_at history k less in
     let once : (calls_at k lists == 1) ≡ true = rw (calls.once k less) refl in
-    rw here.1 (and_both (calls_at k lists == 1) (list_all (holds_in (same here.0) k) lists) once (each_list here.0 here.1 lists calls.entries calls.rising))
+    rw here.1 (and_from (calls_at k lists == 1) (list_all (holds_in (same here.0) k) lists) once (each_list here.0 here.1 lists calls.entries calls.rising))
   where
     each_list : (x : X) → slice_get history k ≡ Some x → (ls : List (List (Call T E R))) → Each (Each (IsEntryAt same history)) ls → Each Rises ls
         → list_all (holds_in (same x) k) ls ≡ true
     each_list x at [] entries rising = refl
     each_list x at (l ∷ ls) entries rising =
-        let first : holds_in (same x) k l ≡ true = and_both (list_all (λ c. not (c.place == k) || same x c) l) (rises_at k l) (entries_hold same history k x l at entries.0) (rising_holds k l rising.0) in
-        and_both (holds_in (same x) k l) (list_all (holds_in (same x) k) ls) first (each_list x at ls entries.1 rising.1)
+        let first : holds_in (same x) k l ≡ true = and_from (list_all (λ c. not (c.place == k) || same x c) l) (rises_at k l) (entries_hold same history k x l at entries.0) (rising_holds k l rising.0) in
+        and_from (holds_in (same x) k l) (list_all (holds_in (same x) k) ls) first (each_list x at ls entries.1 rising.1)
 
 -- where a place fails, the history isn't the calls of all lists
 pub fault_refutes : {T E R X : Type 0} (same : X → Call T E R → Bool) (history : List X) (lists : List (List (Call T E R))) (k : ℕ)

@@ -5,12 +5,13 @@ use Rattle.std.specs.List.{list_all}
 use Rattle.std.proofs.lemmas.Bool.Decides.{nat_tests}
 use Rattle.std.proofs.lemmas.List.{get_or-set_same, get_or-set_other}
 use Rattle.std.proofs.lemmas.Option.{slice_get_read, slice_get_within}
+use Rattle.std.proofs.lemmas.Bool.{and_from}
 use Rattle.mailbox.specs.declared.call.Call.{Call}
 use Rattle.mailbox.specs.declared.mark.Mark.{Mark}
 use Rattle.mailbox.specs.declared.mark.Mark.TheVariants.{Empty, Filled, Failed}
 use Rattle.mailbox.specs.Calls.{IsFirstFault, none_at, rises_at, holds_in, holds_at, times_in, calls_at, place_holds}
 use Rattle.mailbox.specs.Marks.{is_empty, is_filled, next_mark, marked, marked_by, marked_by_all}
-use Rattle.mailbox.proofs.PlacesHad.{and_left, and_right, and_both, is_same, itself, none_all, none_holds, none_rises, none_times, read_at, some_times, sum_cons, times_cons}
+use Rattle.mailbox.proofs.PlacesHad.{is_same, itself, none_all, none_holds, none_rises, none_times, read_at, some_times, sum_cons, times_cons}
 
 -- before the first call every mark is empty
 pub empty_at : {X : Type 0} (history : List X) (k : ℕ) → get_or (map (λ x. Empty) history) k Empty ≡ Empty
@@ -202,7 +203,7 @@ none_lists : {T E R : Type 0} (is_it : Call T E R → Bool) (k : ℕ) (ls : List
     → list_all (holds_in is_it k) ls ≡ true
 none_lists is_it k [] h = refl
 none_lists is_it k (l ∷ ls) h =
-    and_both (holds_in is_it k l) (list_all (holds_in is_it k) ls) (step (none_at k l) refl) (none_lists is_it k ls (omega (arith, times_more k l ls, h)))
+    and_from (holds_in is_it k l) (list_all (holds_in is_it k) ls) (step (none_at k l) refl) (none_lists is_it k ls (omega (arith, times_more k l ls, h)))
   where
     step : (n : Bool) → none_at k l ≡ n → holds_in is_it k l ≡ true
     step true is = none_holds is_it k l is

@@ -4,6 +4,7 @@ use Rattle.std.specs.Prelude.{slice_get, Some, nat_lt, if◌then◌else◌}
 use Rattle.std.specs.List.{list_all}
 use Rattle.std.proofs.lemmas.List.Sums.{sum_by-append}
 use Rattle.std.proofs.lemmas.Bool.Decides.{nat_tests}
+use Rattle.std.proofs.lemmas.Bool.{and_from, and_parts}
 use Rattle.mailbox.specs.declared.call.Call.{Call}
 use Rattle.mailbox.specs.Calls.{none_at, rises_at, holds_in, times_in, calls_at}
 
@@ -18,17 +19,6 @@ is_same j k h = grind (arith, nat_tests)
 
 pub is_less : (k n : ℕ) → nat_lt k n ≡ true → k < n
 is_less k n h = grind (arith, nat_tests)
-
-pub and_left : (a b : Bool) → (a && b) ≡ true → a ≡ true
-and_left true b h = refl
-and_left false b h = h
-
-pub and_right : (a b : Bool) → (a && b) ≡ true → b ≡ true
-and_right true b h = h
-and_right false b h = let e : false ≡ true = h in cc
-
-pub and_both : (a b : Bool) → a ≡ true → b ≡ true → (a && b) ≡ true
-and_both a b h i = rw (h, i) refl
 
 -- each place of a list is read
 pub read_at : {X : Type 0} (xs : List X) (k : ℕ) → k < length xs → (x : X) × (slice_get xs k ≡ Some x)
@@ -45,8 +35,8 @@ times_cons k c cs = sum_cons (λ d. cond (d.place == k) 1 0) c cs
 pub none_times : {T E R : Type 0} (k : ℕ) (cs : List (Call T E R)) → none_at k cs ≡ true → times_in k cs ≡ 0
 none_times k [] h = refl
 none_times k (c ∷ cs) h =
-    let rest : times_in k cs ≡ 0 = none_times k cs (and_right (not (c.place == k)) (none_at k cs) h) in
-    omega (arith, times_cons k c cs, rest, unlike (c.place == k) (and_left (not (c.place == k)) (none_at k cs) h))
+    let rest : times_in k cs ≡ 0 = none_times k cs (and_parts (not (c.place == k)) (none_at k cs) h).1 in
+    omega (arith, times_cons k c cs, rest, unlike (c.place == k) (and_parts (not (c.place == k)) (none_at k cs) h).0)
   where
     unlike : (b : Bool) → not b ≡ true → ◌≡◌ {A = ℕ} (cond b 1 0) 0
     unlike true h = let e : false ≡ true = h in cc
@@ -65,9 +55,9 @@ pub none_all : {T E R : Type 0} (is_it : Call T E R → Bool) (k : ℕ) (cs : Li
     → list_all (λ c. not (c.place == k) || is_it c) cs ≡ true
 none_all is_it k [] h = refl
 none_all {T} {E} {R} is_it k (c ∷ cs) h =
-    let other : not (c.place == k) ≡ true = and_left (not (c.place == k)) (none_at k cs) h in
-    let rest : none_at k cs ≡ true = and_right (not (c.place == k)) (none_at k cs) h in
-    and_both (not (c.place == k) || is_it c) (list_all (λ (d : Call T E R). not (d.place == k) || is_it d) cs) (either other) (none_all is_it k cs rest)
+    let other : not (c.place == k) ≡ true = (and_parts (not (c.place == k)) (none_at k cs) h).0 in
+    let rest : none_at k cs ≡ true = (and_parts (not (c.place == k)) (none_at k cs) h).1 in
+    and_from (not (c.place == k) || is_it c) (list_all (λ (d : Call T E R). not (d.place == k) || is_it d) cs) (either other) (none_all is_it k cs rest)
   where
     either : not (c.place == k) ≡ true → (not (c.place == k) || is_it c) ≡ true
     either other = rw other refl
@@ -75,7 +65,7 @@ none_all {T} {E} {R} is_it k (c ∷ cs) h =
 pub none_rises : {T E R : Type 0} (k : ℕ) (cs : List (Call T E R)) → none_at k cs ≡ true → rises_at k cs ≡ true
 none_rises k [] h = refl
 none_rises k (c ∷ cs) h =
-    let rest = and_right (not (c.place == k)) (none_at k cs) h in
+    let rest = (and_parts (not (c.place == k)) (none_at k cs) h).1 in
     elim (nat_lt k c.place) as (λ b. (if b then none_at k cs else rises_at k cs) ≡ true) [
       | true ↦ rest
       | false ↦ none_rises k cs rest
@@ -83,4 +73,4 @@ none_rises k (c ∷ cs) h =
 
 pub none_holds : {T E R : Type 0} (is_it : Call T E R → Bool) (k : ℕ) (cs : List (Call T E R)) → none_at k cs ≡ true
     → holds_in is_it k cs ≡ true
-none_holds is_it k cs h = and_both (list_all (λ c. not (c.place == k) || is_it c) cs) (rises_at k cs) (none_all is_it k cs h) (none_rises k cs h)
+none_holds is_it k cs h = and_from (list_all (λ c. not (c.place == k) || is_it c) cs) (rises_at k cs) (none_all is_it k cs h) (none_rises k cs h)

@@ -4,6 +4,7 @@ use Rattle.std.specs.List.{filter_map, last_or}
 use Rattle.std.specs.Option.{option_map_or}
 use Rattle.std.proofs.lemmas.Bool.{and_from, cases_Bool, cond-false, cond-true, eqb-true, le-leb}
 use Rattle.std.proofs.lemmas.List.Elements.{filter-append}
+use Rattle.std.proofs.lemmas.Option.{none-some}
 use Rattle.cw_types.specs.Block.{Block}
 use Rattle.cw_types.specs.Epochs.{rises_from}
 use Rattle.cw_types.specs.declared.commitment.Commitment.{Commitment}
@@ -20,9 +21,6 @@ use Rattle.marshal.specs.Promises.{IsReached}
 use Rattle.marshal.proofs.Growing.{first_in}
 use Rattle.cw_rules.proofs.Deliveries.{next_given}
 use Rattle.cw_rules.proofs.Heights.{at_is_at}
-
-no_some : {Y : Type 0} (y : Y) → ◌≡◌ {A = Option Y} None (Some y) → ⊥
-no_some y e = cc
 
 -- what is handed out is what stands at its height, and is held there
 pub record IsHanded (r : Rules) (s : State) (h : Handed) : Type 0 where
@@ -47,7 +45,7 @@ module _ (r : Rules) where
       is room c b p q same = subst (IsHanded r s) same (record { room = room; height = refl; at = p; block = b; is_held = q; named = refl })
 
       go : (nat_lt (length (pending s)) r.backlog ≡ true) ⊎ (nat_lt (length (pending s)) r.backlog ≡ false) → IsHanded r s h
-      go (inr f) = absurd (no_some h (sym (cond-false (nat_lt (length (pending s)) r.backlog) at None f) ∙ e))
+      go (inr f) = absurd (none-some h (sym (cond-false (nat_lt (length (pending s)) r.backlog) at None f) ∙ e))
       go (inl t) =
           let (c, p, u) = and_then_some out (at_height r s.notes (next s)) h (sym (cond-true (nat_lt (length (pending s)) r.backlog) at None t) ∙ e) in
           let (b, q, same) = map_some (handing r (next s) c) (held r s.notes c) h u in

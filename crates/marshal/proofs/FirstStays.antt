@@ -2,7 +2,7 @@
 use Rattle.std.proofs.Common.{◌≡◌, ◌⊎◌, inl, inr, ℕ, ◌==◌, true, false, if◌then◌else◌, List, [], ◌∷◌, ◌++◌, Option, Some, None, option_and_then, refl, sym, ◌∙◌, ap, subst}
 use Rattle.std.specs.List.{cons_option, filter_map}
 use Rattle.std.proofs.lemmas.Bool.{cases_Bool, cond-false, cond-true, eqb-true}
-use Rattle.std.proofs.lemmas.Option.{same_Some}
+use Rattle.std.proofs.lemmas.Option.{none-some, same_Some}
 use Rattle.cw_types.specs.Block.{Block}
 use Rattle.cw_types.specs.declared.commitment.Commitment.{Commitment}
 use Rattle.cw_types.specs.declared.note.Note.{Note}
@@ -19,15 +19,12 @@ use Rattle.marshal.specs.Promises.{AgreeAt, IsUnpruned}
 use Rattle.marshal.specs.declared.identifier.Identifier.{Identifier}
 use Rattle.marshal.proofs.Growing.{filter_map_both, first_in, first_same, held_stays, reaches_itself}
 
-no_some : {Y : Type 0} (y : Y) → ◌≡◌ {A = Option Y} None (Some y) → ⊥
-no_some y e = cc
-
 in_filter : {X Y : Type 0} (f : X → Option Y) (x : X) (y : Y) (xs : List X) → In x xs → f x ≡ Some y → In y (filter_map f xs)
 in_filter f x y [] i e = absurd i
 in_filter {X} {Y} f x y (w ∷ ws) i e = go (f w) refl i (in_filter f x y ws)
   where
     go : (o : Option Y) → f w ≡ o → In x (w ∷ ws) → (In x ws → f x ≡ Some y → In y (filter_map f ws)) → In y (filter_map f (w ∷ ws))
-    go None is (inl same) later = absurd (no_some y (sym is ∙ sym (ap f same) ∙ e))
+    go None is (inl same) later = absurd (none-some y (sym is ∙ sym (ap f same) ∙ e))
     go None is (inr j) later = rw is (later j e)
     go (Some v) is (inl same) later = rw is (inl (same_Some y v (sym e ∙ ap f same ∙ is)))
     go (Some v) is (inr j) later = rw is (inr (later j e))
@@ -50,15 +47,15 @@ module _ (r : Rules) where
     where
       go : (p : Proposal) (b : Block) → finalization_of (Note.Cert t) ≡ Some p → held r notes p.payload ≡ Some b → (if b.height == h then Some t else None) ≡ Some cert → ((b.height == h) ≡ true) ⊎ ((b.height == h) ≡ false) → Finalizes notes h (Note.Cert t) cert
       go p b f k v (inl y) = record { proposal = p; block = b; finalizes = f; is_held = k; height = y; named = ap Note.Cert (same_Some t cert (sym (cond-true (b.height == h) (Some t) None y) ∙ v)) }
-      go p b f k v (inr n) = absurd (no_some cert (sym (cond-false (b.height == h) (Some t) None n) ∙ v))
-  final_is notes h (Note.Block c b) cert e = absurd (no_some cert e)
-  final_is notes h (Note.Verified x v c) cert e = absurd (no_some cert e)
-  final_is notes h (Note.Certified p) cert e = absurd (no_some cert e)
-  final_is notes h (Note.Vote v) cert e = absurd (no_some cert e)
-  final_is notes h (Note.Ack x) cert e = absurd (no_some cert e)
-  final_is notes h (Note.Floor x) cert e = absurd (no_some cert e)
-  final_is notes h (Note.Prune x) cert e = absurd (no_some cert e)
-  final_is notes h (Note.Epoch x c) cert e = absurd (no_some cert e)
+      go p b f k v (inr n) = absurd (none-some cert (sym (cond-false (b.height == h) (Some t) None n) ∙ v))
+  final_is notes h (Note.Block c b) cert e = absurd (none-some cert e)
+  final_is notes h (Note.Verified x v c) cert e = absurd (none-some cert e)
+  final_is notes h (Note.Certified p) cert e = absurd (none-some cert e)
+  final_is notes h (Note.Vote v) cert e = absurd (none-some cert e)
+  final_is notes h (Note.Ack x) cert e = absurd (none-some cert e)
+  final_is notes h (Note.Floor x) cert e = absurd (none-some cert e)
+  final_is notes h (Note.Prune x) cert e = absurd (none-some cert e)
+  final_is notes h (Note.Epoch x c) cert e = absurd (none-some cert e)
 
   final_when : (notes : List Note) (h : ℕ) (t : Cert) (p : Proposal) (b : Block) → finalization_of (Note.Cert t) ≡ Some p → held r notes p.payload ≡ Some b → (b.height == h) ≡ true → finalization_at r notes h (Note.Cert t) ≡ Some t
   final_when notes h t p b f k y =
@@ -100,7 +97,7 @@ module _ (r : Rules) where
           where
             go : (o : Option Cert) → finalization_at r (notes ++ more) h x ≡ o → o ≡ None
             go None g = refl
-            go (Some t) g = absurd (no_some t (sym f ∙ ap (finalization_at r notes h) w.named ∙ before))
+            go (Some t) g = absurd (none-some t (sym f ∙ ap (finalization_at r notes h) w.named ∙ before))
               where
                 w : Finalizes (notes ++ more) h x t
                 w = final_is (notes ++ more) h x t g

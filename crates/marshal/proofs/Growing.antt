@@ -3,7 +3,7 @@ use Rattle.std.proofs.Common.{◌≡◌, ◌⊎◌, inl, inr, ℕ, zero, suc, �
 use Rattle.std.specs.List.{filter_map}
 use Rattle.std.specs.Option.{option_or}
 use Rattle.std.proofs.lemmas.Bool.{and_parts, cases_Bool, cond-false, cond-true, eqb-true}
-use Rattle.std.proofs.lemmas.Option.{same_Some}
+use Rattle.std.proofs.lemmas.Option.{none-some, same_Some}
 use Rattle.cw_types.specs.Block.{Block}
 use Rattle.cw_types.specs.Same.{same_commitment}
 use Rattle.cw_types.specs.declared.commitment.Commitment.{Commitment}
@@ -20,12 +20,9 @@ use Rattle.marshal.specs.Promises.{IsReached, IsUnpruned}
 
 -- ---- searches
 
-no_some : {Y : Type 0} (y : Y) → ◌≡◌ {A = Option Y} None (Some y) → ⊥
-no_some y e = cc
-
 -- what is found is found at an element
 pub first_in : {X Y : Type 0} (f : X → Option Y) (xs : List X) (y : Y) → first_some f xs ≡ Some y → (x : X) × In x xs × (f x ≡ Some y)
-first_in f [] y e = absurd (no_some y e)
+first_in f [] y e = absurd (none-some y e)
 first_in {X} {Y} f (x ∷ xs) y e = go (f x) refl e (first_in f xs y)
   where
     go : (o : Option Y) → f x ≡ o → option_or o (first_some f xs) ≡ Some y → (first_some f xs ≡ Some y → (z : X) × In z xs × (f z ≡ Some y)) → (z : X) × In z (x ∷ xs) × (f z ≡ Some y)
@@ -34,7 +31,7 @@ first_in {X} {Y} f (x ∷ xs) y e = go (f x) refl e (first_in f xs y)
 
 -- what is found in front is found in all
 pub first_front : {X Y : Type 0} (f : X → Option Y) (xs ys : List X) (y : Y) → first_some f xs ≡ Some y → first_some f (xs ++ ys) ≡ Some y
-first_front f [] ys y e = absurd (no_some y e)
+first_front f [] ys y e = absurd (none-some y e)
 first_front {Y = Y} f (x ∷ xs) ys y e = go (f x) e (first_front f xs ys y)
   where
     go : (o : Option Y) → option_or o (first_some f xs) ≡ Some y → (first_some f xs ≡ Some y → first_some f (xs ++ ys) ≡ Some y) → option_or o (first_some f (xs ++ ys)) ≡ Some y
@@ -48,11 +45,11 @@ first_behind {Y = Y} f (x ∷ xs) ys e = go (f x) e (first_behind f xs ys)
   where
     go : (o : Option Y) → option_or o (first_some f xs) ≡ None → (first_some f xs ≡ None → first_some f (xs ++ ys) ≡ first_some f ys) → option_or o (first_some f (xs ++ ys)) ≡ first_some f ys
     go None h later = later h
-    go (Some w) h later = absurd (no_some w (sym h))
+    go (Some w) h later = absurd (none-some w (sym h))
 
 -- what is found by one test is found by another in a longer list, where the other says the same of the front
 pub first_same : {X Y : Type 0} (f g : X → Option Y) (y : Y) (xs ys : List X) → ((x : X) → In x xs → f x ≡ None → g x ≡ None) → ((x : X) → In x xs → f x ≡ Some y → g x ≡ Some y) → first_some f xs ≡ Some y → first_some g (xs ++ ys) ≡ Some y
-first_same f g y [] ys none some e = absurd (no_some y e)
+first_same f g y [] ys none some e = absurd (none-some y e)
 first_same {X} {Y} f g y (x ∷ xs) ys none some e = go (f x) refl e (first_same f g y xs ys (λ z i. none z (inr i)) (λ z i. some z (inr i)))
   where
     go : (o : Option Y) → f x ≡ o → option_or o (first_some f xs) ≡ Some y → (first_some f xs ≡ Some y → first_some g (xs ++ ys) ≡ Some y) → first_some g ((x ∷ xs) ++ ys) ≡ Some y
@@ -75,7 +72,7 @@ none_noted c [] e = refl
 none_noted c (Note.Block d b ∷ notes) e = go (cases_Bool (same_commitment c d)) (none_noted c notes)
   where
     go : (same_commitment c d ≡ true) ⊎ (same_commitment c d ≡ false) → (first_some (noted_block_of c) notes ≡ None → has_block notes c ≡ false) → has_block (Note.Block d b ∷ notes) c ≡ false
-    go (inl t) later = absurd (no_some b (sym e ∙ ap (λ o. option_or o (first_some (noted_block_of c) notes)) (cond-true (same_commitment c d) (Some b) None t)))
+    go (inl t) later = absurd (none-some b (sym e ∙ ap (λ o. option_or o (first_some (noted_block_of c) notes)) (cond-true (same_commitment c d) (Some b) None t)))
     go (inr f) later = rw f (later (sym (ap (λ o. option_or o (first_some (noted_block_of c) notes)) (cond-false (same_commitment c d) (Some b) None f)) ∙ e))
 none_noted c (Note.Verified x v d ∷ notes) e = none_noted c notes e
 none_noted c (Note.Certified p ∷ notes) e = none_noted c notes e
@@ -117,7 +114,7 @@ module _ (r : Rules) where
       same x u = by (cases_Bool (is_gone notes x))
         where
           by : (is_gone notes x ≡ true) ⊎ (is_gone notes x ≡ false) → x ≡ b
-          by (inl t) = absurd (no_some b (sym (cond-true (is_gone notes x) None (Some x) t) ∙ u))
+          by (inl t) = absurd (none-some b (sym (cond-true (is_gone notes x) None (Some x) t) ∙ u))
           by (inr f) = same_Some x b (sym (cond-false (is_gone notes x) None (Some x) f) ∙ u)
 
       go : (same_commitment c (genesis_commitment r) ≡ true) ⊎ (same_commitment c (genesis_commitment r) ≡ false)
@@ -153,7 +150,7 @@ module _ (r : Rules) where
     where
       by : ((a.height + 1 == b.height) ≡ true) ⊎ ((a.height + 1 == b.height) ≡ false) → (a ≡ x) × (a.height + 1 ≡ b.height)
       by (inl t) = (same_Some a x (sym (cond-true (a.height + 1 == b.height) (Some a) None t) ∙ u), eqb-true (a.height + 1) b.height t)
-      by (inr f) = absurd (no_some x (sym (cond-false (a.height + 1 == b.height) (Some a) None f) ∙ u))
+      by (inr f) = absurd (none-some x (sym (cond-false (a.height + 1 == b.height) (Some a) None f) ∙ u))
 
   -- what stands under the parent's commitment, and its height
   pub parent_is : (notes : List Note) (b a : Block) → parent_of r notes b ≡ Some a → (held r notes b.context.parent ≡ Some a) × (a.height + 1 ≡ b.height)
@@ -181,7 +178,7 @@ module _ (r : Rules) where
     where
       go : ((b.height == h) ≡ true) ⊎ ((b.height == h) ≡ false) → ((b.height == h) ≡ true) × (c ≡ d)
       go (inl t) = (t, same_Some c d (sym (cond-true (b.height == h) (Some c) None t) ∙ e))
-      go (inr f) = absurd (no_some d (sym (cond-false (b.height == h) (Some c) None f) ∙ e))
+      go (inr f) = absurd (none-some d (sym (cond-false (b.height == h) (Some c) None f) ∙ e))
 
   -- a block reaches itself
   pub reaches_itself : (notes : List Note) (steps h : ℕ) (c : Commitment) (b : Block) → (b.height == h) ≡ true → reached r notes steps h c b ≡ Some c

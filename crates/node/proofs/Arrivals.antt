@@ -59,14 +59,6 @@ pub map_behind : {X Y : Type 0} (f : X → Y) (xs ys : List X) → map f (xs ++ 
 map_behind f [] ys = refl
 map_behind f (x ∷ xs) ys = ap (λ l. f x ∷ l) (map_behind f xs ys)
 
-pub first_behind : {X Y : Type 0} (f : X → Option Y) (xs ys : List X) → first_some f (xs ++ ys) ≡ option_or (first_some f xs) (first_some f ys)
-first_behind f [] ys = refl
-first_behind {Y = Y} f (x ∷ xs) ys = go (f x) refl (first_behind f xs ys)
-  where
-    go : (o : Option Y) → f x ≡ o → first_some f (xs ++ ys) ≡ option_or (first_some f xs) (first_some f ys) → option_or (f x) (first_some f (xs ++ ys)) ≡ option_or (option_or (f x) (first_some f xs)) (first_some f ys)
-    go (Some y) e rest = rw e refl
-    go None e rest = rw e rest
-
 -- one more block that came whole
 pub parts_whole : (ars : List Arrival) (kept : List KeptChunk) (c : Commitment) (b : Block) → count_rows ars ≡ length kept → parts_of (ars ++ record { commitment = c; block = Some b } ∷ []) kept ≡ parts_of ars kept ++ Whole b ∷ []
 parts_whole ars kept c b h =

@@ -8,6 +8,7 @@ use Rattle.cw_rules.specs.Accepted.{State}
 use Rattle.cw_rules.specs.Step.{with_notes}
 use Rattle.voter.specs.Known.{with_note}
 use Rattle.voter.specs.Standing as voter
+use Rattle.marshal.proofs.Floors.{no_notes}
 use Rattle.node.specs.Holding.{Holding, rules_of, state_of}
 use Rattle.node.specs.Noting.{HasNoted, with_all_staged}
 use Rattle.node.specs.Standing.{PartsStand}
@@ -16,9 +17,6 @@ use Rattle.node.specs.Store.{Store, with_staged}
 -- more notes, and more behind them
 pub notes_on : (s : State) (xs ys : List Note) → with_notes (with_notes s xs) ys ≡ with_notes s (xs ++ ys)
 notes_on s xs ys = ap (λ (l : List Note). record s { notes = l }) (append_assoc s.notes xs ys)
-
-pub no_notes : (s : State) → with_notes s [] ≡ s
-no_notes s = ap (λ (l : List Note). record s { notes = l }) (append-nil s.notes)
 
 pub staged_on : (t : Store) (xs ys : List Note) → with_all_staged (with_all_staged t xs) ys ≡ with_all_staged t (xs ++ ys)
 staged_on t xs ys = ap (λ (l : List Note). record t { staged = l }) (append_assoc t.staged xs ys)

@@ -1,7 +1,6 @@
 -- Commitments that are kept once.
-use Rattle.std.proofs.Common.{◌≡◌, Bool, true, false, ◌||◌, List, [], ◌∷◌, ◌++◌, refl, sym, ◌∙◌, ap, append_assoc, Option, Some, None, filter, filter_map, ℕ, zero, suc, ◌+◌, ◌<◌, length, get_or, take, add-one, arith}
+use Rattle.std.proofs.Common.{◌≡◌, Bool, true, false, ◌||◌, List, [], ◌∷◌, ◌++◌, refl, sym, ◌∙◌, ap, append_assoc, filter, ℕ, zero, suc, ◌+◌, ◌<◌, length, get_or, take, add-one, arith}
 use Rattle.std.specs.List.{list_any}
-use Rattle.std.specs.Option.{option_map_or}
 use Rattle.std.proofs.lemmas.List.Folds.{list_any-append}
 use Rattle.cw_types.specs.Same.{same_commitment}
 use Rattle.cw_types.specs.declared.commitment.Commitment.{Commitment}
@@ -32,19 +31,6 @@ once_adds g c led rest h k =
     let no : list_any (same_commitment c) (led ++ g ∷ []) ≡ false = list_any-append (same_commitment c) led (g ∷ []) ∙ rw (h, k) refl in
     let same = once_same (c ∷ (led ++ g ∷ [])) ((led ++ c ∷ []) ++ g ∷ []) (λ d. ap (λ b. same_commitment d c || b) (list_any-append (same_commitment d) led (g ∷ [])) ∙ (or_swap (same_commitment d c) (list_any (same_commitment d) led) (same_commitment d g || false) ∙ sym (list_any-append (same_commitment d) (led ++ c ∷ []) (g ∷ []) ∙ ap (λ b. b || (same_commitment d g || false)) (list_any-append (same_commitment d) led (c ∷ []))))) rest in
     rw no (ap (λ l. led ++ c ∷ l) same ∙ sym (append_assoc led (c ∷ []) (once ((led ++ c ∷ []) ++ g ∷ []) rest)))
-
--- what is kept of one more
-pub filter_more : {X Y : Type 0} (f : X → Option Y) (xs : List X) (x : X) → filter_map f (xs ++ x ∷ []) ≡ filter_map f xs ++ option_map_or (λ y. y ∷ []) (f x) []
-filter_more {Y = Y} f [] x = go (f x) refl
-  where
-    go : (o : Option Y) → f x ≡ o → filter_map f (x ∷ []) ≡ option_map_or (λ y. y ∷ []) (f x) []
-    go (Some y) e = rw e refl
-    go None e = rw e refl
-filter_more {Y = Y} f (z ∷ xs) x = go (f z) refl (filter_more f xs x)
-  where
-    go : (o : Option Y) → f z ≡ o → filter_map f (xs ++ x ∷ []) ≡ filter_map f xs ++ option_map_or (λ y. y ∷ []) (f x) [] → filter_map f (z ∷ (xs ++ x ∷ [])) ≡ filter_map f (z ∷ xs) ++ option_map_or (λ y. y ∷ []) (f x) []
-    go (Some y) e rest = rw e (ap (λ l. y ∷ l) rest)
-    go None e rest = rw e rest
 
 filter_behind : {X : Type 0} (p : X → Bool) (xs ys : List X) → filter p (xs ++ ys) ≡ filter p xs ++ filter p ys
 filter_behind p [] ys = refl

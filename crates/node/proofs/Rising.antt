@@ -17,6 +17,7 @@ use Rattle.cw_rules.specs.Step.{Member, deliveries_within, delivery, handing, ma
 use Rattle.node.proofs.Votes.{frame_added}
 use Rattle.node.specs.Lives.{GoUp, IsNext, Turn, after_turns, since_start}
 use Rattle.cw_rules.proofs.Acks.{acks, acks_behind, settle_quiet, quiet_if, quiet_proposed, quiet_timeout, floor_grows}
+use Rattle.cw_rules.proofs.Lists.{in_left}
 
 -- ---- nothing is acknowledged before something was handed out
 
@@ -50,11 +51,6 @@ floor_in (Note.Floor h ∷ notes) some = go (nat_le (greatest_floor notes) h) re
         inr (subst (λ (n : ℕ). In (Note.Floor n) notes) same (later (omega arith)))
 floor_in (_ ∷ notes) some = inr (floor_in notes some)
 
-in_front : {X : Type 0} (x : X) (xs ys : List X) → In x xs → In x (xs ++ ys)
-in_front x [] ys h = absurd h
-in_front x (y ∷ xs) ys (inl e) = inl e
-in_front x (y ∷ xs) ys (inr h) = inr (in_front x xs ys h)
-
 -- ---- heights that go up
 
 -- the height that is due after these
@@ -68,7 +64,7 @@ due_last g (height ∷ heights) due = due_last height heights due
 
 next_more : (notes more : List Note) (due height : ℕ) → IsNext notes due height → IsNext (notes ++ more) due height
 next_more notes more due height (inl e) = inl e
-next_more notes more due height (inr (above, floor)) = inr (above, in_front (Note.Floor height) notes more floor)
+next_more notes more due height (inr (above, floor)) = inr (above, in_left (Note.Floor height) notes more floor)
 
 up_more : (notes more : List Note) (due : ℕ) (heights : List ℕ) → GoUp notes due heights → GoUp (notes ++ more) due heights
 up_more notes more due [] up = tt

@@ -4,7 +4,7 @@ use Rattle.std.specs.Prelude.{position}
 use Rattle.std.specs.List.{list_any}
 use Rattle.std.specs.Option.{option_map_or, option_or}
 use Rattle.cw_base.specs.declared.hash.Digest32.{Digest32}
-use Rattle.std.proofs.lemmas.Bool.{false≢true}
+use Rattle.std.proofs.lemmas.Bool.{false_from_ne_true, false≢true}
 use Rattle.std.proofs.lemmas.List.{take_all}
 use Rattle.shards.proofs.Lists.{any_epoch}
 use Rattle.cw_types.specs.Epochs.{Epochs, list_of, place}
@@ -24,8 +24,8 @@ use Rattle.voter.specs.Known as tally
 use Rattle.voter.specs.Known.{with_own}
 use Rattle.voter.specs.Standing as voter
 use Rattle.node.proofs.Accepting.{came_nothing, came_row}
-use Rattle.node.proofs.Arrivals.{first_behind}
 use Rattle.cw_types.proofs.Same.{same_commitment-true}
+use Rattle.cw_rules.proofs.Lists.{first_of_both}
 use Rattle.node.specs.Accepting.{is_new_row, is_own_place, with_row}
 use Rattle.node.specs.Holding.{Holding, came_of, rules_of, shown_under, state_of}
 use Rattle.node.specs.Standing.{HasCome, PartsStand}
@@ -67,10 +67,6 @@ taken_by r ks c x known foreign = go (kept.is_known ks c x) refl (is_chunk_of r 
     go false e true f = (e, f)
     go false e false f = absurd (foreign (rw (e, f) refl))
 
-not_there : (b : Bool) → (b ≡ true → ⊥) → b ≡ false
-not_there true h = absurd (h refl)
-not_there false h = refl
-
 kept_so : (r : Rules) (ks : List KeptChunk) (c : Commitment) (x : Chunk) → kept.is_known ks c x ≡ false → is_chunk_of r c x ≡ true → kept_after r ks c x ≡ kept.with_chunk ks c x
 kept_so r ks c x e f = rw (e, f) refl
 
@@ -102,7 +98,7 @@ before_none : (hash : List ℕ → Digest32) (epochs : Epochs) (ks : List KeptCh
 before_none hash epochs ks c x b first e f told = go (length (kept.chunks_of c ks) + 1 == c.config.minimum) refl
   where
     short : (length (kept.chunks_of c ks) + 1 == c.config.minimum) ≡ true → (length (kept.chunks_of c ks) == c.config.minimum) ≡ false
-    short t = not_there (length (kept.chunks_of c ks) == c.config.minimum) (λ h. let p = eqb-true (length (kept.chunks_of c ks)) c.config.minimum h in let q = eqb-true (length (kept.chunks_of c ks) + 1) c.config.minimum t in omega arith)
+    short t = false_from_ne_true (length (kept.chunks_of c ks) == c.config.minimum) (λ h. let p = eqb-true (length (kept.chunks_of c ks)) c.config.minimum h in let q = eqb-true (length (kept.chunks_of c ks) + 1) c.config.minimum t in omega arith)
 
     all : (length (kept.chunks_of c ks) + 1 == c.config.minimum) ≡ true → take c.config.minimum (kept.chunks_of c ks) ≡ kept.chunks_of c ks
     all t = let q = eqb-true (length (kept.chunks_of c ks) + 1) c.config.minimum t in take_all c.config.minimum (kept.chunks_of c ks) (omega arith)
@@ -164,7 +160,7 @@ module _ {D A : Type 0} (hash : List ℕ → Digest32) (accepts : A → Block �
       test = same_test ∙ both.1
 
       fresh : list_any (same_part (Row c x)) (came_of h).parts ≡ false
-      fresh = not_there (list_any (same_part (Row c x)) (came_of h).parts) (λ t. unknown (known.1 t))
+      fresh = false_from_ne_true (list_any (same_part (Row c x)) (came_of h).parts) (λ t. unknown (known.1 t))
 
       so : kept_after (kept.rules_of hash h.shards.epochs) h.shards.kept c x ≡ kept.with_chunk h.shards.kept c x
       so = kept_so (kept.rules_of hash h.shards.epochs) h.shards.kept c x both.0 both.1
@@ -199,6 +195,6 @@ module _ {D A : Type 0} (hash : List ℕ → Digest32) (accepts : A → Block �
           let at = ap (λ (k : Commitment). shown (kept.rules_of hash h.shards.epochs) (kept.came_of (kept_after (kept.rules_of hash h.shards.epochs) h.shards.kept c x)) k) e ∙ now in
           let was = ap (λ (k : Commitment). shown (kept.rules_of hash h.shards.epochs) (kept.came_of h.shards.kept) k) e ∙ before in
           let none : first_some (shown_under d) h.shown ≡ None = sym (s.shown d m) ∙ was in
-          at ∙ sym (first_behind (shown_under d) h.shown (record { commitment = c; block = b } ∷ []) ∙ rw (none, t) refl)
+          at ∙ sym (first_of_both (shown_under d) h.shown (record { commitment = c; block = b } ∷ []) ∙ rw (none, t) refl)
       go false t =
-          others d t ∙ (s.shown d m ∙ sym (first_behind (shown_under d) h.shown (record { commitment = c; block = b } ∷ []) ∙ rw t (or_none (first_some (shown_under d) h.shown))))
+          others d t ∙ (s.shown d m ∙ sym (first_of_both (shown_under d) h.shown (record { commitment = c; block = b } ∷ []) ∙ rw t (or_none (first_some (shown_under d) h.shown))))

@@ -7,7 +7,8 @@ use Rattle.cw_rules.specs.Accepted.{State}
 use Rattle.cw_rules.specs.Owed.{owed}
 use Rattle.cw_rules.specs.Rules.{Rules}
 use Rattle.cw_rules.specs.Step.{marks, settle, with_notes}
-use Rattle.node.proofs.Noting.{no_notes, noted_none, noted_on, notes_on, same_rules}
+use Rattle.marshal.proofs.Floors.{no_notes}
+use Rattle.node.proofs.Noting.{noted_none, noted_on, notes_on, same_rules}
 use Rattle.node.specs.Holding.{Holding, rules_of, state_of}
 use Rattle.node.specs.Noting.{HasNoted}
 use Rattle.node.specs.Standing.{PartsStand}

@@ -31,7 +31,8 @@ use Rattle.std.proofs.lemmas.Bool.{and_parts}
 use Rattle.cw_types.specs.Values.{is_storable}
 use Rattle.cw_types.specs.Votes.{well_formed}
 use Rattle.note_scans.specs.Countable.{is_countable}
-use Rattle.node.proofs.Noting.{notes_on, no_notes}
+use Rattle.marshal.proofs.Floors.{no_notes}
+use Rattle.node.proofs.Noting.{notes_on}
 
 -- a tally that is told more notes stands for the member with them
 pub stands_told : (hash : List ℕ → Digest32) (r : Rules)

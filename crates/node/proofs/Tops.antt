@@ -1,11 +1,10 @@
 -- The greatest of some numbers, and what lies below it.
-use Rattle.std.proofs.Common.{◌≡◌, ℕ, zero, suc, Bool, true, false, ◌&&◌, ◌+◌, ◌-◌, ◌<◌, ◌≤◌, max, nat_lt, nat_le, ◌*◌, List, [], ◌∷◌, length, drop, find, Option, Some, None, slice_get, get_or, add-one, drop-cons, refl, sym, ◌∙◌, ap, arith}
+use Rattle.std.proofs.Common.{◌≡◌, ℕ, zero, suc, Bool, true, false, ◌&&◌, ◌-◌, ◌<◌, ◌≤◌, max, nat_lt, nat_le, ◌*◌, List, [], ◌∷◌, drop, find, Some, None, slice_get, refl, sym, ◌∙◌, ap, arith}
 use Rattle.std.specs.List.{list_all}
-use Rattle.std.specs.Option.{option_map_or, option_or}
+use Rattle.std.specs.Option.{option_map_or}
 use Rattle.cw_rules.specs.Notes.{greatest}
 use Rattle.cw_types.specs.declared.commitment.Commitment.{Commitment}
 use Rattle.cw_types.specs.declared.note.Note.{Note}
-use Rattle.cw_rules.specs.Accepted.{first_some}
 use Rattle.cw_rules.specs.Held.{at_height}
 use Rattle.cw_rules.specs.Notes.{epoch_of}
 use Rattle.cw_rules.specs.Owed.{reached_epoch}
@@ -37,11 +36,6 @@ drop_none [] (suc i) h = refl
 drop_none (y ∷ ys) zero h = cc
 drop_none (y ∷ ys) (suc i) h = drop_none ys i h
 
-pub here_below : {X : Type 0} (xs : List X) (i : ℕ) (x : X) → slice_get xs i ≡ Some x → i < length xs
-here_below [] i x h = cc
-here_below (y ∷ ys) zero x h = omega arith
-here_below (y ∷ ys) (suc i) x h = omega (arith, here_below ys i x h)
-
 -- ---- the greatest epoch that is reached
 
 module _ (r : Rules) (notes : List Note) (span : ℕ) where
@@ -56,17 +50,6 @@ module _ (r : Rules) (notes : List Note) (span : ℕ) where
   pub reach_end : (epoch : ℕ) → epoch ≤ epoch_of notes → reached_epoch r notes span epoch ≡ None
   reach_end zero l = refl
   reach_end (suc epoch) l = let yes : nat_le (suc epoch) (epoch_of notes) ≡ true = grind arith in rw yes refl
-
--- ---- searches that go along a list
-
-pub first_at : {X Y : Type 0} (f : X → Option Y) (xs : List X) (i : ℕ) (x : X) → i < length xs → x ≡ get_or xs i x → first_some f (drop i xs) ≡ option_or (f x) (first_some f (drop (i + 1) xs))
-first_at f xs i x l e = rw (add-one, drop-cons xs i x) (ap (λ z. option_or (f z) (first_some f (drop (suc i) xs))) (sym e))
-
-pub first_here : {X Y : Type 0} (f : X → Option Y) (xs : List X) (i : ℕ) (x : X) (y : Y) → i < length xs → x ≡ get_or xs i x → f x ≡ Some y → first_some f (drop i xs) ≡ first_some f xs → Some y ≡ first_some f xs
-first_here f xs i x y l e h inv = sym (sym inv ∙ (first_at f xs i x l e ∙ rw h refl))
-
-pub first_next : {X Y : Type 0} (f : X → Option Y) (xs : List X) (i : ℕ) (x : X) → i < length xs → x ≡ get_or xs i x → f x ≡ None → first_some f (drop i xs) ≡ first_some f xs → first_some f (drop (i + 1) xs) ≡ first_some f xs
-first_next f xs i x l e h inv = sym (first_at f xs i x l e ∙ rw h refl) ∙ inv
 
 -- ---- the first that passes, by place
 

@@ -1,17 +1,14 @@
 -- What a step did to the disk, by where it ended.
-use Rattle.std.proofs.Common.{◌≡◌, ap, Option, Some, None, List, [], Result, Ok, Err, refl, sym, subst, append-nil, arith}
+use Rattle.std.proofs.Common.{◌≡◌, ap, List, [], Result, Ok, Err, refl, sym, subst, arith}
 use Rattle.std.specs.Prelude.{IsErrAnd}
 use Rattle.cw_types.specs.declared.note.Note.{Note}
 use Rattle.marshal.specs.Frames.{FindsAllOrNone, frame_bytes}
-use Rattle.node_disk.specs.Disk.{DeviceCall, DiskState, LeavesOnly, told_more}
+use Rattle.node_disk.specs.Disk.{DiskState, LeavesOnly}
 use Rattle.node_disk.specs.Log.{LogState, calls_of_append}
 use Rattle.node_disk.specs.declared.log.StoreError.{StoreError}
 use Rattle.node_disk.specs.declared.log.StoreError.TheVariants as store
+use Rattle.node_disk.proofs.Moments.{told_none}
 use Rattle.node.specs.Disks.{HasFound, HasTried, WasRefused}
-
-told_none : (o : Option (List DeviceCall)) → o ≡ told_more o []
-told_none None = refl
-told_none (Some told) = ap Some (sym (append-nil told))
 
 -- an error that is want of memory
 pub err_is : {X : Type 0} (r : Result X StoreError) → IsErrAnd r (λ e. e ≡ store.NoMemory) → r ≡ Err store.NoMemory
@@ -29,7 +26,7 @@ module _ {D : Type 0} (state : D → DiskState) (continues : D → D → Type 0)
     readable = tt;
     cut_short = λ e. cc;
     cut_readable = λ e. cc;
-    refused = λ e. record { did = []; rest = calls_of_append old.gate (frame_bytes notes); whole = refl; told = told_none (state old.disk).calls };
+    refused = λ e. record { did = []; rest = calls_of_append old.gate (frame_bytes notes); whole = refl; told = sym (told_none (state old.disk).calls) };
     cause = λ e. cc;
     faults = omega arith;
     goes_on = itself old.disk;

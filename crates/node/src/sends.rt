@@ -70,7 +70,7 @@ impl<H: Hasher<Digest = Digest32>, D: Disk, A: Application> Holding<H, D, A> {
     }
 
     // Puts behind the others the chunks of a block, each for the member at its place.
-    #[tactic(auto, using(crate::proofs::Once::filter_more))]
+    #[tactic(auto, using(cw_rules::proofs::Lists::filter_map_more))]
     fn put_chunks(
         &self,
         list: &[u16],

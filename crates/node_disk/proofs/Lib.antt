@@ -1,3 +1,4 @@
+pub mod Lists
 pub mod Compose
 pub mod AddFrame
 pub mod AtRest

@@ -13,6 +13,7 @@ use Rattle.cw_rules.specs.Rules.{Chunk, Rules, block_of}
 use Rattle.shards.specs.Kept.{AreTakenOnce, came_of, chunks_of, is_known, part_of, with_chunk}
 use Rattle.shards.specs.declared.pieces.KeptChunk.{KeptChunk}
 use Rattle.cw_types.proofs.Same.{same_commitment-true}
+use Rattle.cw_rules.proofs.Lists.{all_both}
 
 -- the rows of a commitment that came are the chunks that were kept of it
 pub rows_kept : (c : Commitment) (kept : List KeptChunk) → filter_map (row_of c) (map part_of kept) ≡ chunks_of c kept
@@ -48,13 +49,9 @@ chunks_more c (k ∷ ks) d x = go (same_commitment c k.commitment) refl (chunks_
     go true e more = rw e (ap (λ xs. k.chunk ∷ xs) more)
     go false e more = rw e more
 
-pub all_append : {X : Type 0} (P : X → Type 0) (xs ys : List X) → AllByRecursion P xs → AllByRecursion P ys → AllByRecursion P (xs ++ ys)
-all_append P [] ys a b = b
-all_append P (x ∷ xs) ys a b = (a.0, all_append P xs ys a.1 b)
-
 apart_push : (xs : List Chunk) (x : Chunk) → AreApart xs → AllByRecursion (λ (y : Chunk). y.index ≢ x.index) xs → AreApart (xs ++ x ∷ [])
 apart_push [] x a b = (tt, tt)
-apart_push (y ∷ ys) x a b = (all_append (λ (d : Chunk). y.index ≢ d.index) ys (x ∷ []) a.0 (b.0, tt), apart_push ys x a.1 b.1)
+apart_push (y ∷ ys) x a b = (all_both (λ (d : Chunk). y.index ≢ d.index) ys (x ∷ []) a.0 (b.0, tt), apart_push ys x a.1 b.1)
 
 -- a chunk that isn't known has another index than those kept of its commitment
 pub unknown_apart : (c : Commitment) (x : Chunk) (kept : List KeptChunk) → is_known kept c x ≡ false → AllByRecursion (λ (y : Chunk). y.index ≢ x.index) (chunks_of c kept)
@@ -75,7 +72,7 @@ pub keep_more : (r : Rules) (kept : List KeptChunk) (c : Commitment) (x : Chunk)
 keep_more r kept c x are new taken = record { taken = λ d. rw (chunks_more d kept c x) (take_in d (cases_Bool (same_commitment d c))); apart = λ d. rw (chunks_more d kept c x) (apart_in d (cases_Bool (same_commitment d c))) }
   where
     take_in : (d : Commitment) → (same_commitment d c ≡ true) ⊎ (same_commitment d c ≡ false) → AllByRecursion (λ y. IsTrue (is_chunk_of r d y)) (chunks_of d kept ++ (if same_commitment d c then x ∷ [] else []))
-    take_in d (inl e) = rw e (all_append (λ y. IsTrue (is_chunk_of r d y)) (chunks_of d kept) (x ∷ []) (are.taken d) (subst (λ e. IsTrue (is_chunk_of r e x)) (sym (same_commitment-true d c e)) taken, tt))
+    take_in d (inl e) = rw e (all_both (λ y. IsTrue (is_chunk_of r d y)) (chunks_of d kept) (x ∷ []) (are.taken d) (subst (λ e. IsTrue (is_chunk_of r e x)) (sym (same_commitment-true d c e)) taken, tt))
     take_in d (inr e) = rw e (rw append-nil (are.taken d))
 
     apart_in : (d : Commitment) → (same_commitment d c ≡ true) ⊎ (same_commitment d c ≡ false) → AreApart (chunks_of d kept ++ (if same_commitment d c then x ∷ [] else []))

@@ -1,7 +1,7 @@
 -- A tally answers for every member of the rules that it stands for.
-use Rattle.std.proofs.Common.{◌≡◌, ◌&&◌, ◌||◌, ◌==◌, ℕ, Bool, false, not, List, [], ◌∷◌, Option, Some, None, option_map, refl, sym, subst, ◌∙◌, ap}
+use Rattle.std.proofs.Common.{◌≡◌, ◌&&◌, ◌||◌, ◌==◌, ℕ, Bool, false, not, List, [], Option, Some, None, option_map, refl, sym, subst, ◌∙◌, ap}
 use Rattle.std.specs.List.{find, list_any}
-use Rattle.std.specs.Option.{option_map_or, option_or}
+use Rattle.std.specs.Option.{option_map_or}
 use Rattle.cw_base.specs.declared.hash.Digest32.{Digest32}
 use Rattle.cw_types.specs.Block.{Block}
 use Rattle.cw_types.specs.Commit as types
@@ -19,16 +19,13 @@ use Rattle.cw_rules.specs.Held.{held}
 use Rattle.cw_rules.specs.Notes.{epoch_of, settled, view_of}
 use Rattle.cw_rules.specs.Owed.{all_nullified, cert_owed, certified_owed, finalize_owed, has_own_row, has_voted, is_again, is_payload_for, is_row_at, is_single, named_proposals, named_votes, notarize_owed, when}
 use Rattle.cw_rules.specs.Rules.{Rules, genesis_commitment}
+use Rattle.cw_rules.proofs.Lists.{same_first}
 use Rattle.voter.specs.Known.{Known, is_own_at, vote_rules, state_of}
 use Rattle.voter.specs.Owing as owing
 use Rattle.voter.specs.Standing.{IsTallyOf, best_from}
 use Rattle.voter.proofs.Candidates.{certified_found}
 use Rattle.voter.proofs.BestParent.{best_held, best_next, best_none, best_start}
 use Rattle.voter.proofs.Voted.{own_at}
-
-first_same : {X Y : Type 0} (f g : X → Option Y) → ((x : X) → f x ≡ g x) → (xs : List X) → first_some f xs ≡ first_some g xs
-first_same f g h [] = refl
-first_same f g h (x ∷ xs) = ap (λ o. option_or o (first_some f xs)) (h x) ∙ ap (option_or (g x)) (first_same f g h xs)
 
 -- a state of these notes and of what came
 abbrev state_with : List Note → List Ballot → State
@@ -80,7 +77,7 @@ module _ (hash : List ℕ → Digest32) (t : Known) (r : Rules) (s : State) (sta
   notarize_same p = λ i. notarize_with (rules_with (stands.epochs i) (stands.hash_same i) (stands.blocks i) (stands.contexts i)) t.id (stands.notes i) (stands.ballots i) (own_row p i) p
 
   pub notarize_agrees : first_some (notarize_owed r t.id s) (named_proposals s) ≡ owing.notarize_owed hash t
-  notarize_agrees = first_same (notarize_owed r t.id s) (notarize_owed (vote_rules hash t.epochs) t.id (state_of t)) notarize_same (named_proposals s) ∙ (λ i. first_some (notarize_owed (vote_rules hash t.epochs) t.id (state_of t)) (named_proposals (state_with (stands.notes i) (stands.ballots i))))
+  notarize_agrees = same_first (notarize_owed r t.id s) (notarize_owed (vote_rules hash t.epochs) t.id (state_of t)) notarize_same (named_proposals s) ∙ (λ i. first_some (notarize_owed (vote_rules hash t.epochs) t.id (state_of t)) (named_proposals (state_with (stands.notes i) (stands.ballots i))))
 
   pub certified_agrees : first_some (certified_owed r s) (named_proposals s) ≡ option_map Note.Certified (find (block_fits r t.notes) (owing.uncertified t))
   certified_agrees =

@@ -1,5 +1,5 @@
 -- Who signs a certificate that is owed.
-use Rattle.std.proofs.Common.{◌≡◌, ◌&&◌, ◌==◌, ◌+◌, ◌<◌, ◌≤◌, ◌⊎◌, inl, inr, ℕ, Bool, true, false, nat_le, nat_lt, List, [], ◌∷◌, length, filter, option_map, unwrap_or, refl, sym, arith, subst, eq-eqb, eqb-true, le-leb, leb-false, leb-true}
+use Rattle.std.proofs.Common.{◌≡◌, ◌&&◌, ◌==◌, ◌<◌, ◌≤◌, ◌⊎◌, inl, inr, ℕ, Bool, true, false, nat_le, nat_lt, List, [], ◌∷◌, length, filter, option_map, unwrap_or, refl, sym, arith, subst, eq-eqb, eqb-true, leb-false}
 use Rattle.std.specs.List.{find, list_all, list_any}
 use Rattle.std.proofs.lemmas.Bool.{and_from, and_parts, cases_Bool, or_left, or_right}
 use Rattle.cw_types.specs.Epochs.{Epochs, is_committee, is_member, members_in, rises_from}
@@ -12,13 +12,6 @@ use Rattle.voter.specs.Known.{ballot_signers, is_cert_for}
 use Rattle.voter.specs.Standing.{are_signers, is_signed}
 use Rattle.cw_types.proofs.EpochLemmas.{committee_size}
 use Rattle.cw_rules.proofs.Lists.{filter_rises}
-
-rises_later : (low high : ℕ) (xs : List ℕ) → low ≤ high → rises_from high xs ≡ true → rises_from low xs ≡ true
-rises_later low high [] le h = refl
-rises_later low high (x ∷ xs) le h =
-    let p = and_parts (nat_le high x) (rises_from (x + 1) xs) h in
-    let over : high ≤ x = leb-true high x p.0 in
-    and_from (nat_le low x) (rises_from (x + 1) xs) (le-leb low x (omega (arith, le, over))) p.1
 
 filter_passes : (q p : ℕ → Bool) (xs : List ℕ) → list_all q xs ≡ true → list_all q (filter p xs) ≡ true
 filter_passes q p [] h = refl

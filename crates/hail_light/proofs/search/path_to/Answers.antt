@@ -3,8 +3,9 @@ use Rattle.std.proofs.lemmas.Result.{IfOk-weaker}
 use Rattle.cw_types.specs.Block.{Block}
 use Rattle.cw_rules.specs.Rules.{Rules}
 use Rattle.cw_rules_coded.specs.Coded.{coded}
+use Rattle.hailstorm.proofs.Between.{none_when}
 use Rattle.hail_light.specs.Finding.{path_to}
-use Rattle.hail_light.proofs.Paths.{behind, behind_end, behind_on, behind_start, from, no_some, smaller}
+use Rattle.hail_light.proofs.Paths.{behind, behind_end, behind_on, behind_start, from, smaller}
 use Rattle.hail_light.proofs.search.path_to.Goals as goal
 
 pub loop-next-init : goal.loop-next-init
@@ -38,4 +39,4 @@ loop-next-preserved g c = λ epochs backlog accepts.
 pub returns : goal.returns
 returns g c = λ epochs backlog accepts.
     let r : Rules = coded g.H.Hasher.digest_of epochs backlog accepts in
-    sym (sym (c.loop-next.invariant epochs backlog accepts) ∙ ap (behind r c.args.notes.now c.args.height c.loop-next.path) (no_some c.loop-next.next c.in_default.not-Some))
+    sym (sym (c.loop-next.invariant epochs backlog accepts) ∙ ap (behind r c.args.notes.now c.args.height c.loop-next.path) (none_when c.loop-next.next c.in_default.not-Some))

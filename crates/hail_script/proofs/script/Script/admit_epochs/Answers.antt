@@ -1,10 +1,11 @@
 use Rattle.std.proofs.Common.{◌≡◌, ◌&&◌, ℕ, true, map, List, sym, ◌∙◌, inr, Some, nat_le, nat_lt, length, ◌^◌}
 use Rattle.std.specs.List.{list_all}
+use Rattle.std.proofs.lemmas.Bool.{and_parts}
 use Rattle.hail_script.specs.Events.{line_of}
 use Rattle.hail_script.specs.Grammar as grammar
 use Rattle.hail_script.specs.Scenario.{Scenario}
 use Rattle.hail_script.proofs.Admitting.{unsized, strange}
-use Rattle.hail_script.proofs.Sized.{and_right, committees}
+use Rattle.hail_script.proofs.Sized.{committees}
 use Rattle.hail_script.proofs.script.Script.admit_epochs.Goals as goal
 
 pub returns-then-not-are_sized-clause-err : goal.returns-then-not-are_sized-clause-err
@@ -24,6 +25,6 @@ pub committees_of-requires-clause-committees : goal.committees_of-requires-claus
 committees_of-requires-clause-committees c =
     let lists = c.args.lists in
     let sized = sym (rw c.as_slice.ensures at c.are_sized.ensures) ∙ c.if-not-are_sized.false in
-    let long = and_right (nat_lt c.args.members (2 ^ 16)) _ (and_right (nat_le 4 c.args.members) _ sized) in
+    let long = (and_parts (nat_lt c.args.members (2 ^ 16)) _ (and_parts (nat_le 4 c.args.members) _ sized).1).1 in
     let first = sym (rw c.as_slice-2.ensures at c.first_strange.ensures) ∙ c.in_default.is in
     rw c.as_slice-3.ensures (committees c.args.members lists long c.requires.rise first)

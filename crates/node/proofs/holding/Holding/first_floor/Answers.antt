@@ -1,7 +1,7 @@
 use Rattle.std.proofs.Common.{sym, ◌∙◌, ap, option_map}
 use Rattle.cw_types.specs.declared.note.Note.{Note}
 use Rattle.cw_rules.specs.Owed.{floor_owed}
-use Rattle.node.proofs.Tops.{first_here, first_next}
+use Rattle.cw_rules.proofs.Lists.{first_here, first_next}
 use Rattle.node.specs.Holding.{rules_of, state_of}
 use Rattle.node.proofs.holding.Holding.first_floor.Goals as goal
 

@@ -1,9 +1,10 @@
 use Rattle.std.proofs.Common.{◌≡◌, ◌+◌, suc, sym, ◌∙◌, ap, option_map, find, drop, slice_get, add-one, arith, Bor}
+use Rattle.std.proofs.lemmas.Option.{slice_get_within}
 use Rattle.cw_types.specs.declared.note.Note.{Note}
 use Rattle.cw_types.specs.declared.vote.Proposal.{Proposal}
 use Rattle.cw_rules.specs.Fits.{block_fits}
 use Rattle.voter.specs.Owing.{uncertified}
-use Rattle.node.proofs.Tops.{find_end, find_here, find_next, here_below}
+use Rattle.node.proofs.Tops.{find_end, find_here, find_next}
 use Rattle.node.specs.Holding.{Holding, rules_of, state_of}
 use Rattle.node.specs.Store.{stored_notes}
 use Rattle.node.proofs.holding.Holding.owed_certified.Goals as goal
@@ -31,7 +32,7 @@ loop-proposal-smaller g c =
     let law = c.tally_stands.ensures.certified hash h.tally r (state_of h) c.requires.tally in
     let noted = ap (λ l. option_map Note.Certified (find (block_fits r l) (uncertified h.tally))) c.requires.tally.notes in
     let at = sym same ∙ (sym c.uncertified.ensures.value ∙ ap (option_map (λ (p : Bor Proposal). p.now)) c.in-Some.is) in
-    let below = here_below (uncertified h.tally) c.loop-proposal.index c.in-Some.proposal.now at in
+    let below = slice_get_within (uncertified h.tally) c.loop-proposal.index c.in-Some.proposal.now at in
     let next : c.in-Some-checked_add.next ≡ c.loop-proposal.index + 1 = c.in-Some-checked_add.ensures.1 in
     omega (arith, below)
 
