@@ -12,6 +12,7 @@ use Rattle.cw_types.proofs.Same.{same_commitment-true}
 use Rattle.cw_rules.specs.Coding.{AreApart}
 use Rattle.cw_rules.specs.Rules.{Chunk}
 use Rattle.cw_coding.specs.Totals.{total_of}
+use Rattle.cw_rules.proofs.Codewords.{all_taken, apart_taken}
 use Rattle.shards.specs.Kept.{chunks_of}
 use Rattle.shards.specs.declared.pieces.KeptChunk.{KeptChunk}
 use Rattle.cw_archive.specs.Archived.{by_index, chunk_at, least_chunks}
@@ -67,19 +68,9 @@ take_all_of (suc k) [] h = refl
 take_all_of zero (x ∷ xs) h = absurd (omega arith)
 take_all_of (suc k) (x ∷ xs) h = ap (λ zs. x ∷ zs) (take_all_of k xs (omega arith))
 
-pub all_taken : {X : Type 0} (P : X → Type 0) (k : ℕ) (xs : List X) → AllByRecursion P xs → AllByRecursion P (take k xs)
-all_taken P zero xs h = tt
-all_taken P (suc k) [] h = tt
-all_taken P (suc k) (x ∷ xs) h = (h.0, all_taken P k xs h.1)
-
 pub all_mapped : {X : Type 0} (P Q : X → Type 0) (xs : List X) → ((x : X) → P x → Q x) → AllByRecursion P xs → AllByRecursion Q xs
 all_mapped P Q [] f h = tt
 all_mapped P Q (x ∷ xs) f h = (f x h.0, all_mapped P Q xs f h.1)
-
-pub apart_taken : (k : ℕ) (xs : List Chunk) → AreApart xs → AreApart (take k xs)
-apart_taken zero xs h = tt
-apart_taken (suc k) [] h = tt
-apart_taken (suc k) (x ∷ xs) h = (all_taken (λ (d : Chunk). x.index ≢ d.index) k xs h.0, apart_taken k xs h.1)
 
 -- ---- a chunk at an index
 

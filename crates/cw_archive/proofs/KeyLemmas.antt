@@ -1,5 +1,5 @@
 -- Keys: when two are the same, and how they are ordered.
-use Rattle.std.proofs.Common.{◌≡◌, ℕ, ◌&&◌, ◌==◌, Bool, true, false, cond, refl, sym, ◌∙◌, ap, subst, eqb-true, eq-eqb, List, [], ◌∷◌, Option, Some}
+use Rattle.std.proofs.Common.{◌≡◌, ℕ, ◌&&◌, ◌==◌, true, cond, refl, ◌∙◌, ap, subst, eqb-true, eq-eqb, List, [], ◌∷◌, Option, Some}
 use Rattle.std.specs.Cmp.{IsEquivalence}
 use Rattle.std.specs.Cmp.Lexicographic.{slice_cmp}
 use Rattle.std.specs.Map.{lookup}
@@ -14,6 +14,7 @@ use Rattle.cw_types.specs.Same.{same_commitment}
 use Rattle.cw_types.proofs.Same.{same_commitment-true, same_commitment_self}
 use Rattle.cw_types.specs.declared.commitment.Commitment.{Commitment}
 use Rattle.cw_rules.specs.Rules.{Chunk}
+use Rattle.cw_rules.proofs.Lists.{one_test}
 use Rattle.cw_archive.specs.Keys.{at_key, commitment_of, same_key}
 use Rattle.cw_archive.specs.declared.key.ChunkKey.{ChunkKey}
 
@@ -29,14 +30,8 @@ same_key-true a b h =
 pub same_key_self : (a : ChunkKey) → same_key a a ≡ true
 same_key_self a = and_from (same_commitment (commitment_of a) (commitment_of a)) (a.index == a.index) (same_commitment_self (commitment_of a)) (eq-eqb a.index a.index refl)
 
--- tests that are true together are one
-pub alike : (s t : Bool) → (s ≡ true → t ≡ true) → (t ≡ true → s ≡ true) → s ≡ t
-alike true t f g = sym (f refl)
-alike false true f g = g refl
-alike false false f g = refl
-
 pub same_key_symm : (a b : ChunkKey) → same_key a b ≡ same_key b a
-same_key_symm a b = alike (same_key a b) (same_key b a) (λ h. turn a b h) (λ h. turn b a h)
+same_key_symm a b = one_test (same_key a b) (same_key b a) (λ h. turn a b h) (λ h. turn b a h)
   where
     turn : (x y : ChunkKey) → same_key x y ≡ true → same_key y x ≡ true
     turn x y h = subst (λ (z : ChunkKey). same_key z x ≡ true) (same_key-true x y h) (same_key_self x)
@@ -95,7 +90,7 @@ key_cmp_self a =
 
 -- keys are compared equal where they are the same
 pub key_tests : (a b : ChunkKey) → is_eq (key_cmp a b) ≡ same_key a b
-key_tests a b = alike (is_eq (key_cmp a b)) (same_key a b)
+key_tests a b = one_test (is_eq (key_cmp a b)) (same_key a b)
     (λ h. subst (λ (z : ChunkKey). same_key a z ≡ true) (key_cmp-true a b h) (same_key_self a))
     (λ h. subst (λ (z : ChunkKey). is_eq (key_cmp a z) ≡ true) (same_key-true a b h) (key_cmp_self a))
 

@@ -3,7 +3,7 @@ use Rattle.std.proofs.Common.{◌≡◌, ◌⊎◌, inl, inr, ℕ, zero, suc, �
 use Rattle.std.specs.BTreeMap.{is_at}
 use Rattle.std.specs.Map.{values_of}
 use Rattle.std.specs.Ordering.{nat_cmp}
-use Rattle.std.proofs.lemmas.Bool.{cases_eq, le-leb, leb-true, ne_eqb}
+use Rattle.std.proofs.lemmas.Bool.{cases_eq, eq-eqb, le-leb, leb-true, ne_eqb}
 use Rattle.std.proofs.lemmas.Map.Steps.{lookup-le-sum}
 use Rattle.std.proofs.lemmas.Grind.{flat_map-append}
 use Rattle.cw_ledger.specs.declared.transfer.Transfer.{Transfer}
@@ -11,9 +11,6 @@ use Rattle.cw_ledger.specs.Kept.{AreBalances, HasRoom, IsSet, amount_in, has_ent
 use Rattle.cw_ledger.specs.Transfers.{applies, balances, first_balance, moved, moved_all, transfers}
 
 -- ---- one transfer, by what each account has
-
-pub same_is : (n m : ℕ) → n ≡ m → (n == m) ≡ true
-same_is n m e = rw e (grind arith)
 
 -- accounts that have the same have the same after it
 pub moved_same : (f g : ℕ → ℕ) (t : Transfer) → ((a : ℕ) → f a ≡ g a) → (a : ℕ) → moved f t a ≡ moved g t a
@@ -46,7 +43,7 @@ passed_over has t why a = ap (λ b. cond b (cond (a == t.from) (has a - t.amount
             go : (b : Bool) → nat_le x y ≡ b → b ≡ false
             go true is = absurd (omega (arith, leb-true x y is))
             go false is = refl
-    unfit (inr same) = ap (λ b. nat_le t.amount (has t.from) && not b) (same_is t.from t.to same) ∙ with_false (nat_le t.amount (has t.from))
+    unfit (inr same) = ap (λ b. nat_le t.amount (has t.from) && not b) (eq-eqb t.from t.to same) ∙ with_false (nat_le t.amount (has t.from))
 
 -- a transfer that applies: its amount is taken from one account, and given to the other
 module _ (has mid new : ℕ → ℕ) (t : Transfer) (there : t.amount ≤ has t.from) (apart : t.from ≡ t.to → ⊥)
@@ -67,13 +64,13 @@ module _ (has mid new : ℕ → ℕ) (t : Transfer) (there : t.amount ≤ has t.
       go (inl from) (inl to) = absurd (apart (from ∙ sym to))
       go (inl from) (inr to) =
           second a ∙ ap (λ b. cond b (mid t.to + t.amount) (mid a)) (ne_eqb t.to a to)
-          ∙ first a ∙ ap (λ b. cond b (has t.from - t.amount) (has a)) (same_is t.from a from)
+          ∙ first a ∙ ap (λ b. cond b (has t.from - t.amount) (has a)) (eq-eqb t.from a from)
           ∙ ap (λ n. has n - t.amount) from
-          ∙ sym (opened a ∙ ap (λ b. cond b (has a - t.amount) (cond (a == t.to) (has a + t.amount) (has a))) (same_is a t.from (sym from)))
+          ∙ sym (opened a ∙ ap (λ b. cond b (has a - t.amount) (cond (a == t.to) (has a + t.amount) (has a))) (eq-eqb a t.from (sym from)))
       go (inr from) (inl to) =
-          second a ∙ ap (λ b. cond b (mid t.to + t.amount) (mid a)) (same_is t.to a to)
+          second a ∙ ap (λ b. cond b (mid t.to + t.amount) (mid a)) (eq-eqb t.to a to)
           ∙ ap (λ n. n + t.amount) (mid_to ∙ ap has to)
-          ∙ sym (opened a ∙ ap (λ b. cond b (has a - t.amount) (cond (a == t.to) (has a + t.amount) (has a))) (ne_eqb a t.from (λ e. from (sym e))) ∙ ap (λ b. cond b (has a + t.amount) (has a)) (same_is a t.to (sym to)))
+          ∙ sym (opened a ∙ ap (λ b. cond b (has a - t.amount) (cond (a == t.to) (has a + t.amount) (has a))) (ne_eqb a t.from (λ e. from (sym e))) ∙ ap (λ b. cond b (has a + t.amount) (has a)) (eq-eqb a t.to (sym to)))
       go (inr from) (inr to) =
           second a ∙ ap (λ b. cond b (mid t.to + t.amount) (mid a)) (ne_eqb t.to a to)
           ∙ first a ∙ ap (λ b. cond b (has t.from - t.amount) (has a)) (ne_eqb t.from a from)

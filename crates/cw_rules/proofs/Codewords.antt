@@ -26,7 +26,8 @@ use Rattle.std.specs.Option.{option_map_or}
 
 -- ---- chunks of one commitment stand apart
 
-apart_more : (xs : List Chunk) (y : Chunk) → AreApart xs → AllByRecursion (λ (x : Chunk). x.index ≢ y.index) xs → AreApart (xs ++ y ∷ [])
+-- one more chunk of another index
+pub apart_more : (xs : List Chunk) (y : Chunk) → AreApart xs → AllByRecursion (λ (x : Chunk). x.index ≢ y.index) xs → AreApart (xs ++ y ∷ [])
 apart_more [] y a b = (tt, tt)
 apart_more (x ∷ xs) y a b = (all_more xs a.0, apart_more xs y a.1 b.1)
   where
@@ -39,7 +40,7 @@ all_taken P zero xs a = tt
 all_taken P (suc n) [] a = tt
 all_taken P (suc n) (x ∷ xs) a = (a.0, all_taken P n xs a.1)
 
-apart_taken : (n : ℕ) (xs : List Chunk) → AreApart xs → AreApart (take n xs)
+pub apart_taken : (n : ℕ) (xs : List Chunk) → AreApart xs → AreApart (take n xs)
 apart_taken zero xs a = tt
 apart_taken (suc n) [] a = tt
 apart_taken (suc n) (x ∷ xs) a = (all_taken (λ (d : Chunk). x.index ≢ d.index) n xs a.0, apart_taken n xs a.1)

@@ -65,6 +65,13 @@ filter_rises p low (x ∷ xs) h =
     kept true le r = and_from (nat_le low x) (rises_from (x + 1) (filter p xs)) le r
     kept false le r = rises_lower low (x + 1) (filter p xs) (omega (arith, leb-true low x le)) r
 
+-- tests that are true together are one
+pub one_test : (a b : Bool) → (a ≡ true → b ≡ true) → (b ≡ true → a ≡ true) → a ≡ b
+one_test true true f g = refl
+one_test true false f g = sym (f refl)
+one_test false true f g = g refl
+one_test false false f g = refl
+
 abbrev pub is_in : List ℕ → ℕ → Bool
 is_in xs i = list_any (λ j. j == i) xs
 

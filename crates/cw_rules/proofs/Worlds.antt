@@ -24,6 +24,7 @@ use Rattle.cw_rules.specs.Step.{Member, Stepped, add_frame, cut_step, member_not
 use Rattle.cw_rules.specs.World.{Cut, Do, Faulty, Line, Restart, Sent, World, done_by, event_of, fault_sends, faults, happens, is_faulty, is_sent_vote, line_member, member_at, opening, run, sent_from, sent_now, signed, turned, with_done, with_sends}
 use Rattle.std.proofs.lemmas.Option.{same_Some}
 use Rattle.std.proofs.lemmas.List.Folds.{list_any-append}
+use Rattle.std.proofs.lemmas.List.FromFn.{length-range_with_len}
 use Rattle.cw_types.proofs.EpochLemmas.{get-within}
 use Rattle.cw_rules.proofs.Lists.{is_in, and_then_some}
 use Rattle.cw_rules.proofs.NoteLemmas.{any_front, any_back}
@@ -70,10 +71,6 @@ pub get-range : (low len i k : ℕ) → slice_get (range_with_len low len) i ≡
 get-range low zero i k h = cc
 get-range low (suc len) zero k h = let e : low ≡ k = cc in omega arith
 get-range low (suc len) (suc i) k h = omega (arith, get-range (low + 1) len i k h)
-
-length-range : (low len : ℕ) → length (range_with_len low len) ≡ len
-length-range low zero = refl
-length-range low (suc len) = ap suc (length-range (low + 1) len)
 
 pub length-mapped : {X Y : Type 0} (f : X → Y) (xs : List X) → length (map f xs) ≡ length xs
 length-mapped f [] = refl
@@ -581,7 +578,7 @@ front_of script before rest e = from [] before e
 
 pub opening_kept : (r : Rules) (script : List Line) → IsCluster r script → IsWorldKept r script (opening r script)
 opening_kept r script c = record {
-  total = length-mapped (option_map member_notes) (opening r script).members ∙ (length-mapped start_of (range_with_len 0 r.epochs.total) ∙ length-range 0 r.epochs.total);
+  total = length-mapped (option_map member_notes) (opening r script).members ∙ (length-mapped start_of (range_with_len 0 r.epochs.total) ∙ length-range_with_len 0 r.epochs.total);
   few = λ epoch. omega (arith, c.few epoch, count_more (is_faulty_at (members_of (opening r script))) (λ i. list_any (faults i) script) by_faulty (members_in r.epochs epoch));
   named = λ i f m h. by_named i f m (get-map_from start_of (range_with_len 0 r.epochs.total) i (Some m) h);
   each = λ i m h. by_each i m (get-map_from start_of (range_with_len 0 r.epochs.total) i (Some m) h);

@@ -2,7 +2,7 @@
 use Rattle.std.proofs.Common.{◌≡◌, ◌⊎◌, inl, inr, ℕ, zero, suc, ◌+◌, ◌<◌, ◌≤◌, ◌==◌, cond, max, List, [], ◌∷◌, ◌++◌, map, fold, Option, Some, None, refl, sym, ◌∙◌, ap, subst, arith, append_assoc, append-nil}
 use Rattle.std.specs.List.{last_or}
 use Rattle.std.specs.Option.{option_map_or}
-use Rattle.std.proofs.lemmas.Bool.{cases_eq, cases_lt, ne_eqb}
+use Rattle.std.proofs.lemmas.Bool.{cases_eq, cases_lt, eq-eqb, ne_eqb}
 use Rattle.cw_types.specs.declared.event.Handed.{Handed}
 use Rattle.cw_types.specs.declared.note.Note.{Note}
 use Rattle.cw_rules.specs.Accepted.{State}
@@ -13,7 +13,6 @@ use Rattle.cw_rules.specs.Step.{deliveries_within, delivery, with_given}
 use Rattle.cw_rules.proofs.Lists.{in_cases, in_left, in_right}
 use Rattle.hail_ledger.proofs.Acks.{last_there}
 use Rattle.cw_rules.proofs.Acks.{acks, acks_behind, floor_grows}
-use Rattle.cw_ledger.proofs.Moving.{same_is}
 use Rattle.node.proofs.Rising.{height_is}
 
 -- the next height after one was handed out
@@ -82,7 +81,7 @@ module _ (heights : List ℕ) (notes : List Note) (given : List ℕ) (height : �
   }
     where
       now : reached_by more ≡ n + 1
-      now = fold_push 0 heights height ∙ ap (λ b. cond b (n + 1) n) (same_is height n same)
+      now = fold_push 0 heights height ∙ ap (λ b. cond b (n + 1) n) (eq-eqb height n same)
 
       low : (h : ℕ) → (h < n) ⊎ (n ≤ h) → h < n + 1 → In h more
       low h (inl lt) below = in_left h heights (height ∷ []) (is.low h lt)

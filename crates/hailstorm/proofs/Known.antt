@@ -1,10 +1,10 @@
 -- What is known of the lines of a script that is run.
-use Rattle.std.proofs.Common.{◌≡◌, ℕ, zero, suc, ◌+◌, ◌<◌, ◌≤◌, ◌^◌, ◌&&◌, nat_le, Bool, true, false, not, nat_lt, List, [], ◌∷◌, length, map, drop, get_or, Option, Some, None, IsTrue, refl, sym, ap, subst, ◌∙◌, arith, ltb-true}
+use Rattle.std.proofs.Common.{◌≡◌, ℕ, zero, suc, ◌+◌, ◌<◌, ◌≤◌, ◌^◌, ◌&&◌, nat_le, Bool, true, false, nat_lt, List, [], ◌∷◌, length, map, drop, get_or, Option, Some, None, IsTrue, refl, sym, ap, subst, ◌∙◌, arith, ltb-true}
 use Rattle.std.specs.Prelude.{option_map, slice_get}
 use Rattle.std.specs.List.{list_all}
 use Rattle.std.specs.Option.{option_or}
 use Rattle.std.proofs.lemmas.List.{drop_all}
-use Rattle.std.proofs.lemmas.Bool.{and_parts}
+use Rattle.std.proofs.lemmas.Bool.{and_parts, not-false}
 use Rattle.cw_types.specs.Block.{Block}
 use Rattle.cw_rules.specs.Rules.{Rules}
 use Rattle.cw_rules.specs.World.{Line, line_member}
@@ -48,15 +48,11 @@ second_none : (a b : Option ℕ) → option_or a b ≡ None → b ≡ None
 second_none None b h = h
 second_none (Some x) b h = absurd (let no : Some x ≡ None = h in cc)
 
-not_false : (t : Bool) → not t ≡ false → t ≡ true
-not_false true e = refl
-not_false false e = absurd (let no : true ≡ false = e in cc)
-
 pub known_at : (s : Scenario) (i : ℕ) (line : Line) → grammar.IsRunnable s → slice_get s.lines i ≡ Some line → line_member line < s.committees.total
 known_at s i line runnable e =
     let none = second_none (grammar.first_at (grammar.has_stranger s.committees.total) 2 s.committees.lists) (grammar.first_at (grammar.names_stranger s.committees.total) (grammar.first_event s.committees) s.lines) runnable.known in
     let no = none_at (grammar.names_stranger s.committees.total) (grammar.first_event s.committees) s.lines i line none e in
-    ltb-true (line_member line) s.committees.total (not_false (nat_lt (line_member line) s.committees.total) no)
+    ltb-true (line_member line) s.committees.total (not-false (nat_lt (line_member line) s.committees.total) no)
 
 pub short_at : (s : Scenario) (i : ℕ) (line : Line) → grammar.IsRunnable s → slice_get s.lines i ≡ Some line → grammar.names_oversize line ≡ false
 short_at s i line runnable e = none_at grammar.names_oversize (grammar.first_event s.committees) s.lines i line runnable.short e

@@ -9,6 +9,7 @@ use Rattle.cw_types.specs.declared.event.Out.{Out}
 use Rattle.cw_rules.specs.Report.{Entry}
 use Rattle.cw_rules.specs.World.{Sent, sent_from}
 use Rattle.cw_rules.proofs.Lists.{get_front}
+use Rattle.cw_rules_coded.proofs.RealCoder.{get-append_at}
 use Rattle.hailstorm.specs.Pool.{StandAt, sent_at, sent_in}
 
 -- one entry more
@@ -72,10 +73,6 @@ looked_up entries places n h = go (slice_get places n) refl
     go None q = rw q (sym (none_stands entries places n h q))
     go (Some p) q = rw q (stands entries places n p h q)
 
-get_last : {X : Type 0} (xs : List X) (x : X) → slice_get (xs ++ x ∷ []) (length xs) ≡ Some x
-get_last [] x = refl
-get_last (y ∷ xs) x = get_last xs x
-
 sent_on : (entries : List Entry) (e : Entry) (p : ℕ × ℕ) (s : Sent) → sent_at entries p ≡ Some s → sent_at (entries ++ e ∷ []) p ≡ Some s
 sent_on entries e p s h = go (slice_get entries p.0) refl
   where
@@ -120,7 +117,7 @@ pub stand_more : (entries : List Entry) (e : Entry) (places : List (ℕ × ℕ))
 stand_more entries e places h =
     let new : List (ℕ × ℕ) = map (λ i. (length entries, i)) (range_with_len 0 (length e.sent)) in
     let old : map (sent_at (entries ++ e ∷ [])) places ≡ map Some (sent_in entries) = stand_on entries e places (sent_in entries) h in
-    let last : (i : ℕ) → sent_at (entries ++ e ∷ []) (length entries, i) ≡ slice_get e.sent i = λ i. rw (get_last entries e) refl in
+    let last : (i : ℕ) → sent_at (entries ++ e ∷ []) (length entries, i) ≡ slice_get e.sent i = λ i. rw (get-append_at entries e) refl in
     let mine : map (sent_at (entries ++ e ∷ [])) new ≡ map Some e.sent =
     map_map (sent_at (entries ++ e ∷ [])) (λ i. (length entries, i)) (range_with_len 0 (length e.sent))
     ∙ map_same (λ i. sent_at (entries ++ e ∷ []) (length entries, i)) (λ i. slice_get e.sent i) (range_with_len 0 (length e.sent)) last

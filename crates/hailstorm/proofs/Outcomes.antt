@@ -16,22 +16,16 @@ use Rattle.hailstorm.specs.Runs.{AreMidway, ArePlayed}
 use Rattle.hailstorm.specs.Seats.{Seat}
 use Rattle.hailstorm.proofs.Numbered.{sent_more}
 use Rattle.cw_rules.proofs.Changes.{flags_kept, set_flags}
+use Rattle.cw_rules.proofs.Worlds.{member_there}
 
 -- ---- who is faulty stays so
-
-pub member_got : (w : World) (i : ℕ) (x : Member) → member_at w i ≡ Some x → slice_get w.members i ≡ Some (Some x)
-member_got w i x e = go (slice_get w.members i) refl e
-  where
-    go : (o : Option (Option Member)) → slice_get w.members i ≡ o → option_and_then (λ o. o) o ≡ Some x → slice_get w.members i ≡ Some (Some x)
-    go None p q = absurd (let no : None ≡ Some x = q in cc)
-    go (Some o) p q = p ∙ ap (λ (z : Option Member). let r : Option (Option Member) = Some z in r) q
 
 done_flags : (r : Rules) (w : World) (i : ℕ) (line : Line) → map is_none (option_map_or (with_done w i) (option_and_then (turned r w i line) (member_at w i)) w).members ≡ map is_none w.members
 done_flags r w i line = go (member_at w i) refl
   where
     of : (x : Member) → member_at w i ≡ Some x → (d : Option Stepped) → map is_none (option_map_or (with_done w i) d w).members ≡ map is_none w.members
     of x e None = refl
-    of x e (Some done) = set_flags w.members i x done.member (member_got w i x e)
+    of x e (Some done) = set_flags w.members i x done.member (member_there w i x e)
 
     go : (o : Option Member) → member_at w i ≡ o → map is_none (option_map_or (with_done w i) (option_and_then (turned r w i line) o) w).members ≡ map is_none w.members
     go None e = refl

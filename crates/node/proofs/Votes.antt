@@ -21,6 +21,7 @@ use Rattle.cw_rules.specs.Owed.{closes, has_closed, has_voted, is_of, votes_in}
 use Rattle.cw_rules.specs.Rules.{Rules}
 use Rattle.cw_rules.specs.Stands.{EachAfter}
 use Rattle.cw_rules.specs.Step.{Member, add_frame, member_notes, start, state_of, step, step_notes, taken, taken_came}
+use Rattle.cw_rules.proofs.NoteLemmas.{any_weaker}
 use Rattle.marshal.proofs.Joins.{joins_one}
 use Rattle.node.specs.Lives.{Life, Turn, VotesOnce, after_lives, after_turns, finalizes, notarizes, nullifies, since_start}
 
@@ -98,14 +99,6 @@ at_last p notes note h = go (or_cases (list_any p notes) (list_any p (note ∷ [
         last : (p note ≡ true) ⊎ (false ≡ true) → p note ≡ true
         last (inl c) = c
         last (inr f) = absurd (false≢true f)
-
-weaker : (p q : Note → Bool) → ((note : Note) → p note ≡ true → q note ≡ true) → (notes : List Note) → list_any p notes ≡ true → list_any q notes ≡ true
-weaker p q f [] h = absurd (false≢true h)
-weaker p q f (note ∷ notes) h = go (or_cases (p note) (list_any p notes) h) (weaker p q f notes)
-  where
-    go : (p note ≡ true) ⊎ (list_any p notes ≡ true) → (list_any p notes ≡ true → list_any q notes ≡ true) → (q note || list_any q notes) ≡ true
-    go (inl a) later = or_left (q note) (list_any q notes) (f note a)
-    go (inr b) later = or_right (q note) (list_any q notes) (later b)
 
 counted : (p : Note → Bool) (notes : List Note) (note : Note) (b : Bool) → p note ≡ b → count_by p (notes ++ note ∷ []) ≡ count_by p notes + cond b 1 0
 counted p notes note b e =
@@ -198,8 +191,8 @@ once_more r before note k once = record { one_notarize = one; not_both = both }
       where
         go : (list_any (nullifies epoch view) before ≡ true) ⊎ (nullifies epoch view note ≡ true) → (list_any (finalizes epoch view) before ≡ true) ⊎ (finalizes epoch view note ≡ true) → ⊥
         go (inl a) (inl b) = once.not_both epoch view a b
-        go (inl a) (inr b) = false≢true (sym (finalize_first r before note k epoch view b) ∙ weaker (nullifies epoch view) (closes epoch view) (nullify_closes epoch view) before a)
-        go (inr a) (inl b) = false≢true (sym (nullify_first r before note k epoch view a) ∙ weaker (finalizes epoch view) (closes epoch view) (finalize_closes epoch view) before b)
+        go (inl a) (inr b) = false≢true (sym (finalize_first r before note k epoch view b) ∙ any_weaker (nullifies epoch view) (closes epoch view) (nullify_closes epoch view) before a)
+        go (inr a) (inl b) = false≢true (sym (nullify_first r before note k epoch view a) ∙ any_weaker (finalizes epoch view) (closes epoch view) (finalize_closes epoch view) before b)
         go (inr a) (inr b) = never_both epoch view note a b
 
 once_all : (r : Rules) (before notes : List Note) → EachAfter (KeepsBy r (λ l. anything)) before notes → VotesOnce before → VotesOnce (before ++ notes)

@@ -1,6 +1,5 @@
 -- A node that isn't refused is at work.
 use Rattle.std.proofs.Common.{◌≡◌, ◌∙◌, Bool, false, true, inr, ⊎_elim, List, [], map, ℕ, refl, subst, sym}
-use Rattle.std.specs.Prelude.{not}
 use Rattle.cw_base.specs.declared.hash.Digest32.{Digest32}
 use Rattle.cw_types.specs.Block.{Block}
 use Rattle.marshal.specs.Frames.{FindsAllOrNone, ReadBack, frame_bytes}
@@ -27,10 +26,6 @@ at_work state h running failed frames readable settled still = record {
   found = finds_at_rest h.log.frames h.log.gate (state h.log.disk).now.seen settled.file;
   on_disk = λ image is. ⊎_elim (λ e. e) (λ e. e) (still.left image (inr is));
 }
-
-pub not_live : (failed : Bool) → not failed ≡ true → failed ≡ false
-not_live false e = refl
-not_live true e = cc
 
 -- another log is nothing that a node stands on
 stands_logged : {D A : Type 0} (hash : List ℕ → Digest32) (accepts : A → Block → Block → Bool) (h : Holding D A) (log : LogState D) → PartsStand hash accepts h → PartsStand hash accepts (record h { log = log })

@@ -1,7 +1,7 @@
 -- What a stop leaves of an append, from the device calls that were told.
 use Rattle.std.proofs.Common.{◌≡◌, ◌≢◌, inl, inr, ℕ, zero, suc, ◌+◌, ◌-◌, ◌^◌, ◌<◌, ◌≤◌, List, [], ◌∷◌, ◌++◌, length, take, drop, map, Bool, true, false, ◌||◌, ◌==◌, nat_le, if◌then◌else◌, replicate, Option, Some, refl, sym, ◌∙◌, ap, subst, arith, length-append, length-take, length-drop, append_assoc}
 use Rattle.std.proofs.lemmas.List.{map-append, append_cancel_left, take_at, drop_at, take_all}
-use Rattle.std.proofs.lemmas.Bool.{cases_lt}
+use Rattle.std.proofs.lemmas.Bool.{cases_lt, eq-eqb, ne_eqb}
 use Rattle.std.proofs.lemmas.Bool.Decides.{nat_tests}
 use Rattle.node_disk.specs.Disk.{DeviceCall, Wrote, Synced, failing, told_more, HasTold, put_at, Holds, IsCutShort}
 use Rattle.node_disk.specs.Frames.{body, blocks, IsAtRest, Finds}
@@ -40,12 +40,6 @@ le_true m n le = grind (arith, nat_tests)
 le_false : (m n : ℕ) → n < m → nat_le m n ≡ false
 le_false m n lt = grind (arith, nat_tests)
 
-eq_true : (m n : ℕ) → m ≡ n → (m == n) ≡ true
-eq_true m n same = grind (arith, nat_tests)
-
-eq_false : (m n : ℕ) → (m ≡ n → ⊥) → (m == n) ≡ false
-eq_false m n other = grind (arith, nat_tests)
-
 -- one stop alone
 module _ (made call cut fill : ℕ) where
   abbrev stop : Option Stop
@@ -57,12 +51,12 @@ module _ (made call cut fill : ℕ) where
   outcome_before : (at i : ℕ) → at ≡ made + i → i + 1 < call → outcome_at stop [] at ≡ Done
   outcome_before at i is lt =
       if_false (nat_le (made + call) at) Failed (inner at) (le_false (made + call) at (omega arith))
-      ∙ if_false (made + call == at + 1) (Stopped cut fill) Done (eq_false (made + call) (at + 1) (λ same. absurd (omega arith)))
+      ∙ if_false (made + call == at + 1) (Stopped cut fill) Done (ne_eqb (made + call) (at + 1) (λ same. absurd (omega arith)))
 
   outcome_here : (at i : ℕ) → at ≡ made + i → call ≡ i + 1 → outcome_at stop [] at ≡ Stopped cut fill
   outcome_here at i is same =
       if_false (nat_le (made + call) at) Failed (inner at) (le_false (made + call) at (omega arith))
-      ∙ if_true (made + call == at + 1) (Stopped cut fill) Done (eq_true (made + call) (at + 1) (omega arith))
+      ∙ if_true (made + call == at + 1) (Stopped cut fill) Done (eq-eqb (made + call) (at + 1) (omega arith))
 
   outcome_after : (at i : ℕ) → at ≡ made + i → call ≤ i → outcome_at stop [] at ≡ Failed
   outcome_after at i is le = if_true (nat_le (made + call) at) Failed (inner at) (le_true (made + call) at (omega arith))
@@ -122,7 +116,7 @@ module _ (frames : List (List ℕ)) (gate : ℕ) (bytes : List ℕ) (is : IsAtRe
       eq_of n t = grind (arith, nat_tests)
 
       ne_of : (n : ℕ) → (n == 1) ≡ false → n ≢ 1
-      ne_of n f same = absurd (let t : (n == 1) ≡ true = eq_true n 1 same in let no : true ≡ false = sym t ∙ f in cc)
+      ne_of n f same = absurd (let t : (n == 1) ≡ true = eq-eqb n 1 same in let no : true ≡ false = sym t ∙ f in cc)
 
 -- which of four calls was the one that failed
 cut_cases : {G : Type 0} → (a b c d : DeviceCall) (did : List DeviceCall) (next : DeviceCall) (rest : List DeviceCall) → a ∷ b ∷ c ∷ d ∷ [] ≡ did ++ next ∷ rest

@@ -14,6 +14,7 @@ use Rattle.shards.specs.Kept.{AreTakenOnce, came_of, chunks_of, is_known, part_o
 use Rattle.shards.specs.declared.pieces.KeptChunk.{KeptChunk}
 use Rattle.cw_types.proofs.Same.{same_commitment-true}
 use Rattle.cw_rules.proofs.Lists.{all_both}
+use Rattle.cw_rules.proofs.Codewords.{apart_more}
 
 -- the rows of a commitment that came are the chunks that were kept of it
 pub rows_kept : (c : Commitment) (kept : List KeptChunk) → filter_map (row_of c) (map part_of kept) ≡ chunks_of c kept
@@ -49,10 +50,6 @@ chunks_more c (k ∷ ks) d x = go (same_commitment c k.commitment) refl (chunks_
     go true e more = rw e (ap (λ xs. k.chunk ∷ xs) more)
     go false e more = rw e more
 
-apart_push : (xs : List Chunk) (x : Chunk) → AreApart xs → AllByRecursion (λ (y : Chunk). y.index ≢ x.index) xs → AreApart (xs ++ x ∷ [])
-apart_push [] x a b = (tt, tt)
-apart_push (y ∷ ys) x a b = (all_both (λ (d : Chunk). y.index ≢ d.index) ys (x ∷ []) a.0 (b.0, tt), apart_push ys x a.1 b.1)
-
 -- a chunk that isn't known has another index than those kept of its commitment
 pub unknown_apart : (c : Commitment) (x : Chunk) (kept : List KeptChunk) → is_known kept c x ≡ false → AllByRecursion (λ (y : Chunk). y.index ≢ x.index) (chunks_of c kept)
 unknown_apart c x [] h = tt
@@ -76,5 +73,5 @@ keep_more r kept c x are new taken = record { taken = λ d. rw (chunks_more d ke
     take_in d (inr e) = rw e (rw append-nil (are.taken d))
 
     apart_in : (d : Commitment) → (same_commitment d c ≡ true) ⊎ (same_commitment d c ≡ false) → AreApart (chunks_of d kept ++ (if same_commitment d c then x ∷ [] else []))
-    apart_in d (inl e) = rw e (apart_push (chunks_of d kept) x (are.apart d) (subst (λ e. AllByRecursion (λ (y : Chunk). y.index ≢ x.index) (chunks_of e kept)) (sym (same_commitment-true d c e)) (unknown_apart c x kept new)))
+    apart_in d (inl e) = rw e (apart_more (chunks_of d kept) x (are.apart d) (subst (λ e. AllByRecursion (λ (y : Chunk). y.index ≢ x.index) (chunks_of e kept)) (sym (same_commitment-true d c e)) (unknown_apart c x kept new)))
     apart_in d (inr e) = rw e (rw append-nil (are.apart d))

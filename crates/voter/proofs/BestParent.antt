@@ -1,8 +1,7 @@
 -- The best parent of the rules, by the parents that a tally gives.
-use Rattle.std.proofs.Common.{◌≡◌, ◌+◌, ◌-◌, ◌<◌, ◌≤◌, ◌==◌, ◌⊎◌, inl, inr, ℕ, zero, suc, Bool, true, false, if◌then◌else◌, min, nat_lt, List, Option, Some, None, option_map, refl, sym, ◌∙◌, ap, subst, arith, eqb-true, ltb-true, ltb-false}
-use Rattle.std.specs.List.{list_all, range_with_len}
+use Rattle.std.proofs.Common.{◌≡◌, ◌+◌, ◌-◌, ◌<◌, ◌≤◌, ◌==◌, ◌⊎◌, inl, inr, ℕ, zero, suc, Bool, true, false, if◌then◌else◌, min, nat_lt, List, Option, Some, None, option_map, refl, sym, ◌∙◌, ap, arith, eqb-true, ltb-true, ltb-false}
 use Rattle.std.specs.Option.{option_or}
-use Rattle.std.proofs.lemmas.Bool.{and_from, and_parts, cases_Bool}
+use Rattle.std.proofs.lemmas.Bool.{cases_Bool}
 use Rattle.std.proofs.lemmas.Bool.Decides.{nat_tests}
 use Rattle.std.proofs.lemmas.Option.{same_Some}
 use Rattle.cw_types.specs.Block.{Block}
@@ -13,33 +12,13 @@ use Rattle.cw_rules.specs.Held.{held}
 use Rattle.cw_rules.specs.Notes.{nullified, settled, view_of}
 use Rattle.cw_rules.specs.Owed.{all_nullified}
 use Rattle.cw_rules.specs.Rules.{Rules, genesis_commitment}
+use Rattle.cw_rules.proofs.Lists.{all_range, one_test, range_all}
 use Rattle.voter.specs.Owing.{parent_below, parent_over}
 use Rattle.voter.specs.Standing.{best_from}
-
--- a test of each number of a range
-range_all : (p : ℕ → Bool) (low len : ℕ) → ((w : ℕ) → low ≤ w → w < low + len → p w ≡ true) → list_all p (range_with_len low len) ≡ true
-range_all p low zero h = refl
-range_all p low (suc len) h = and_from (p low) (list_all p (range_with_len (low + 1) len)) (h low (omega arith) (omega arith)) (range_all p (low + 1) len (λ w a b. h w (omega arith) (omega arith)))
-
-range_at : (p : ℕ → Bool) (low len : ℕ) → list_all p (range_with_len low len) ≡ true → (w : ℕ) → low ≤ w → w < low + len → p w ≡ true
-range_at p low zero h w a b = absurd (omega arith)
-range_at p low (suc len) h w a b =
-    let q = and_parts (p low) (list_all p (range_with_len (low + 1) len)) h in
-    go (cases_Bool (low == w)) q.0 (range_at p (low + 1) len q.1 w)
-  where
-    go : ((low == w) ≡ true) ⊎ ((low == w) ≡ false) → p low ≡ true → (low + 1 ≤ w → w < low + 1 + len → p w ≡ true) → p w ≡ true
-    go (inl e) here more = subst (λ v. p v ≡ true) (eqb-true low w e) here
-    go (inr e) here more = let over : low + 1 ≤ w = grind (arith, nat_tests) in more over (omega arith)
 
 both_false : {X : Type 0} (b : Bool) → ◌≡◌ {A = Option X} (if b then None else None) None
 both_false true = refl
 both_false false = refl
-
-same_test : (a b : Bool) → (a ≡ true → b ≡ true) → (b ≡ true → a ≡ true) → a ≡ b
-same_test true true f g = refl
-same_test true false f g = sym (f refl)
-same_test false true f g = g refl
-same_test false false f g = refl
 
 -- v, settled as c, is the greatest settled view below top, above which all are nullified
 pub record Below (r : Rules) (notes : List Note) (epoch top v : ℕ) (c : Commitment) : Type 0 where
@@ -100,23 +79,23 @@ module _ (r : Rules) (notes : List Note) (epoch : ℕ) where
 
   -- the views from v on are nullified exactly where v is
   all_from : (top v view : ℕ) (c : Commitment) → Below r notes epoch top v c → top ≤ view → 0 < v → all_nullified notes epoch (top - 1) view ≡ true → all_nullified notes epoch (v - 1) view ≡ nullified notes epoch v
-  all_from top v view c b le pos all = same_test (all_nullified notes epoch (v - 1) view) (nullified notes epoch v) first each
+  all_from top v view c b le pos all = one_test (all_nullified notes epoch (v - 1) view) (nullified notes epoch v) first each
     where
       low : v < top
       low = b.low
 
       first : all_nullified notes epoch (v - 1) view ≡ true → nullified notes epoch v ≡ true
-      first h = range_at (nullified notes epoch) (v - 1 + 1) (view - (v - 1) - 1) h v (omega (arith, low)) (omega (arith, low))
+      first h = range_all (nullified notes epoch) (v - 1 + 1) (view - (v - 1) - 1) h v (omega (arith, low)) (omega (arith, low))
 
       each : nullified notes epoch v ≡ true → all_nullified notes epoch (v - 1) view ≡ true
-      each h = range_all (nullified notes epoch) (v - 1 + 1) (view - (v - 1) - 1) (λ w l u. at w (omega (arith, l)) (omega (arith, u, l, low)) (cases_Bool (w == v)) (cases_Bool (nat_lt w top)))
+      each h = all_range (nullified notes epoch) (v - 1 + 1) (view - (v - 1) - 1) (λ w l u. at w (omega (arith, l)) (omega (arith, u, l, low)) (cases_Bool (w == v)) (cases_Bool (nat_lt w top)))
         where
           at : (w : ℕ) → v ≤ w → w < view → ((w == v) ≡ true) ⊎ ((w == v) ≡ false) → ((nat_lt w top) ≡ true) ⊎ ((nat_lt w top) ≡ false) → nullified notes epoch w ≡ true
           at w l u (inl e) o = ap (nullified notes epoch) (eqb-true w v e) ∙ h
           at w l u (inr e) (inl o) = let over : v < w = grind (arith, nat_tests) in b.between w over (ltb-true w top o)
           at w l u (inr e) (inr o) =
               let past : top ≤ w = omega (arith, ltb-false w top o) in
-              range_at (nullified notes epoch) (top - 1 + 1) (view - (top - 1) - 1) all w (omega (arith, low, past)) (omega (arith, low, past, u))
+              range_all (nullified notes epoch) (top - 1 + 1) (view - (top - 1) - 1) all w (omega (arith, low, past)) (omega (arith, low, past, u))
 
   -- the best parent from v on, where that one isn't held
   next : (top v view : ℕ) (c : Commitment) → Below r notes epoch top v c → top ≤ view → all_nullified notes epoch (top - 1) view ≡ true
@@ -138,7 +117,7 @@ module _ (r : Rules) (notes : List Note) (epoch : ℕ) where
       go : (view : ℕ) → best_parent r notes epoch view ≡ (if all_nullified notes epoch (min view view - 1) view then best_parent r notes epoch (min view view) else None)
       go view =
           let same : min view view ≡ view = omega arith in
-          let all : all_nullified notes epoch (view - 1) view ≡ true = range_all (nullified notes epoch) (view - 1 + 1) (view - (view - 1) - 1) (λ w l u. absurd (omega (arith, l, u))) in
+          let all : all_nullified notes epoch (view - 1) view ≡ true = all_range (nullified notes epoch) (view - 1 + 1) (view - (view - 1) - 1) (λ w l u. absurd (omega (arith, l, u))) in
           rw (same, all) refl
 
   pub best_none : (below : ℕ) → parent_over (genesis_commitment r) notes epoch below ≡ None → best_from r notes epoch below ≡ None

@@ -1,6 +1,6 @@
 use Rattle.std.proofs.Common.{◌≡◌, ◌∙◌, ap, true}
 use Rattle.std.specs.Prelude.{not}
-use Rattle.node.proofs.Working.{not_live}
+use Rattle.std.proofs.lemmas.Bool.{not-true}
 use Rattle.node.specs.State.{NodeState}
 use Rattle.node.specs.Store.{Store}
 use Rattle.node.proofs.node.Node.marshal.Goals as goal
@@ -14,7 +14,7 @@ returns g c =
     record {
       value = λ alive.
           let live : not c.self.inside.failed ≡ true = ap (λ (n : NodeState g.row.D.Denot g.row.A.Denot). n.member.live) e ∙ alive in
-          let ready = c.self.invariant (not_live c.self.inside.failed live) in
+          let ready = c.self.invariant (not-true c.self.inside.failed live) in
           record {
             epochs = ap (λ (s : Store). s.epochs) store ∙ (ready.stands.epochs ∙ ap (λ (n : NodeState g.row.D.Denot g.row.A.Denot). n.epochs) e);
             backlog = ap (λ (s : Store). s.backlog) store ∙ (ready.stands.backlog ∙ ap (λ (n : NodeState g.row.D.Denot g.row.A.Denot). n.backlog) e);
