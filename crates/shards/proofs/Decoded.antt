@@ -89,7 +89,7 @@ all_in_order P k cs e h =
 module _ (hash : List ℕ → Digest32) (epochs : Epochs) (c : Commitment) where
   -- ---- from what is decoded
 
-  rows_of_text : (text : List ℕ) (chunks : List Chunk) → total_of c.config ≤ 65535 → AreUnder hash c chunks
+  pub rows_of_text : (text : List ℕ) (chunks : List Chunk) → total_of c.config ≤ 65535 → AreUnder hash c chunks
       → AllByRecursion (λ (y : Checked Digest32). y.shard ≡ row_at c.config.minimum text y.index) (map (checked_of hash c) chunks)
       → AllByRecursion (λ (x : Chunk). slice_get (code_rows text c.config.minimum c.config.extra) x.index ≡ Some x.shard) chunks
   rows_of_text text [] few u a = tt
@@ -112,7 +112,7 @@ module _ (hash : List ℕ → Digest32) (epochs : Epochs) (c : Commitment) where
 
   -- ---- from what is refused
 
-  chunks_of_text : (text : List ℕ) (chunks : List Chunk) → total_of c.config ≤ 65535 → AreUnder hash c chunks
+  pub chunks_of_text : (text : List ℕ) (chunks : List Chunk) → total_of c.config ≤ 65535 → AreUnder hash c chunks
       → AllByRecursion (λ (x : Chunk). slice_get (code_rows text c.config.minimum c.config.extra) x.index ≡ Some x.shard) chunks
       → AllByRecursion (IsChunkOf c.config text c.root) (map (checked_of hash c) chunks)
   chunks_of_text text [] few u a = tt
@@ -125,7 +125,7 @@ module _ (hash : List ℕ → Digest32) (epochs : Epochs) (c : Commitment) where
   elsewhere i (x ∷ xs) a zero l e = a.0 (sym e)
   elsewhere i (x ∷ xs) a (suc k) l e = elsewhere i xs a.1 k (omega arith) e
 
-  sound_indices : (chunks : List Chunk) → total_of c.config ≤ 65535 → AreUnder hash c chunks → AreApart chunks → AreSound (total_of c.config) (indices_of (map (checked_of hash c) chunks))
+  pub sound_indices : (chunks : List Chunk) → total_of c.config ≤ 65535 → AreUnder hash c chunks → AreApart chunks → AreSound (total_of c.config) (indices_of (map (checked_of hash c) chunks))
   sound_indices [] few u a = tt
   sound_indices (x ∷ xs) few u a =
       let stands = stands_under hash epochs c x few u.0 in
