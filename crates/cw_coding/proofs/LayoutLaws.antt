@@ -1,6 +1,6 @@
 -- The layout, and the rows that come of it.
-use Rattle.std.proofs.Common.{◌≡◌, ℕ, suc, zero, ◌+◌, ◌-◌, ◌*◌, ◌/◌, ◌%◌, ◌^◌, ◌<◌, ◌≤◌, List, [], ◌∷◌, ◌++◌, length, drop, take, get_or, replicate, refl, sym, ap, ◌∙◌, arith, append_assoc, add-zero, ⊎_elim}
-use Rattle.std.proofs.Math.Nat.{mul-le-mul_right, mul-le-mul, mul-div_cancel}
+use Rattle.std.proofs.Common.{◌≡◌, ℕ, suc, zero, ◌+◌, ◌-◌, ◌*◌, ◌/◌, ◌%◌, ◌<◌, ◌≤◌, List, [], ◌∷◌, ◌++◌, length, drop, take, get_or, replicate, refl, sym, ap, ◌∙◌, arith, append_assoc, add-zero, ⊎_elim}
+use Rattle.std.proofs.Math.Nat.{mul-le-mul_right, mul-div_cancel}
 use Rattle.std.proofs.lemmas.List.{length-append, length-replicate, drop_at, take_all, drop-append-le, take-append-le, length-drop, append-nil}
 use Rattle.std.proofs.lemmas.Bool.{cases_lt}
 use Rattle.cw_base.specs.Bytes.{be32}

@@ -8,7 +8,7 @@ ghost use Rattle.cw_coding.specs.Layout.{layout, row_at};
 
 use cw_base::{NoMemory, Strategy, put_be32, put_bytes};
 use cw_tree::canonical_shard_len;
-use rs_code::extend;
+use rs_code::add_recoveries;
 use rs_code::laws::prove_rows;
 use std::alloc::Global;
 use std::thread::Threads;
@@ -65,8 +65,7 @@ pub(crate) fn rows_of_text<R: Threads + Sync, S: Strategy>(
 {
     let width = canonical_shard_len(text.len(), k);
     let mut rows = lay_out(alloc, k, k + m, width, text)?;
-    let recovery = extend(rt, alloc, k, m, &rows, width, strategy)?;
+    add_recoveries(rt, alloc, k, m, &mut rows, width, strategy)?;
     prove_rows();
-    put_bytes(&mut rows, &recovery)?;
     Ok(rows)
 }

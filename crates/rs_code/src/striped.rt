@@ -1,10 +1,7 @@
 //! Rows by sums of given rows, one stripe of columns beside the other.
 
 ghost use Rattle.std.specs.Prelude.{◌≡◌, ℕ, ◌<◌, ◌≤◌, ◌+◌, ◌-◌, ◌*◌, ◌/◌, ◌%◌, ◌^◌, ◌++◌, take};
-ghost use Rattle.std.specs.Prelude.{drop, length, slice_index, slice_index_or, IfOk, OnOk, List};
-ghost use Rattle.std.specs.Prelude.{Result, Vec, Ok};
-ghost use Rattle.std.specs.declared.alloc.Global.{Global};
-ghost use Rattle.std.specs.declared.alloc.AllocError.{AllocError};
+ghost use Rattle.std.specs.Prelude.{length, slice_index, IfOk, OnOk, OnErr};
 ghost use Rattle.rs_code.specs.Codeword.{sum_below};
 ghost use Rattle.rs_code.specs.Coefficients.{lane, symbol_through};
 ghost use Rattle.rs_code.specs.Field.{times};
@@ -13,6 +10,7 @@ ghost use Rattle.rs_code.specs.Stripes.{stripe_start, stripe_bytes, AreStripes};
 
 use crate::basis::Basis;
 use crate::eights::fill_lane;
+use crate::joining::rows_of_stripes;
 use crate::lanes::{Eight, next_eight};
 use crate::narrow::group_sums;
 use crate::pairs::{fill_pair_lane, pair_sums};
@@ -47,6 +45,58 @@ pub fn rows_at<R: Threads + Sync, S: Strategy>(
     let pieces = run_stripes(rt, alloc, basis, rows, width, targets, count, strategy)?;
     let joined = rows_of_stripes(alloc, pieces, width, targets.len())?;
     Ok(joined)
+}
+
+/// Appends the rows at the targets to the rows at the points of a basis.
+///
+/// A width of one stripe is worked on where the rows stay.
+pub fn put_rows_at<R: Threads + Sync, S: Strategy>(
+    rt: &R,
+    alloc: Global,
+    basis: &Basis,
+    rows: &mut Vec<u8>,
+    width: usize,
+    targets: &[u16],
+    strategy: &S,
+) -> Result<(), NoMemory>
+    requires rows { length rows.old.items ≡ length basis.now * width }
+    requires even { width % 2 ≡ 0 }
+    requires room { length rows.old.items + length targets.now * width < 2 ^ 63 }
+    ensures ok { OnOk result (rows.new.items ≡ rows.old.items ++ joined (length targets.now)
+        (λ i. row_through (length basis.now) (λ s. slice_index basis.now s) rows.old.items width
+        (slice_index targets.now i))) }
+    ensures err { OnErr result (take (length rows.old.items) rows.new.items ≡ rows.old.items) }
+{
+    if stripe_count(width, strategy.pieces()) == 1 {
+        strategy.arrive(0);
+        return put_whole_rows(alloc, basis, rows, width, targets);
+    }
+    let more = rows_at(rt, alloc, basis, rows, width, targets, strategy)?;
+    rows.extend_from_slice(&more)?;
+    Ok(())
+}
+
+// The same for a width of one stripe.
+fn put_whole_rows(
+    alloc: Global,
+    basis: &Basis,
+    rows: &mut Vec<u8>,
+    width: usize,
+    targets: &[u16],
+) -> Result<(), NoMemory>
+    requires rows { length rows.old.items ≡ length basis.now * width }
+    requires even { width % 2 ≡ 0 }
+    requires room { length rows.old.items + length targets.now * width < 2 ^ 63 }
+    ensures ok { OnOk result (rows.new.items ≡ rows.old.items ++ joined (length targets.now)
+        (λ i. row_through (length basis.now) (λ s. slice_index basis.now s) rows.old.items width
+        (slice_index targets.now i))) }
+    ensures err { OnErr result (take (length rows.old.items) rows.new.items ≡ rows.old.items) }
+{
+    let size = rows.len();
+    rows.resize(size + targets.len() * width, 0)?;
+    let (given, out) = rows.split_at_mut(size);
+    fill_rows(alloc, out, basis, given, width, targets, 0, width)?;
+    Ok(())
 }
 
 // The stripes of the rows at the targets, as a strategy does them.
@@ -106,20 +156,53 @@ fn stripe_rows(
     let (first, last) = stripe(width, count, index);
     let wide = last - first;
     let mut out = vec![in alloc; 0u8; targets.len() * wide]?;
+    fill_rows(
+        alloc,
+        &mut out,
+        basis,
+        rows,
+        width,
+        targets,
+        first / 2,
+        wide,
+    )?;
+    Ok(out)
+}
+
+// Writes the rows of all targets: `wide` bytes of each, from the column `first` on.
+fn fill_rows(
+    alloc: Global,
+    out: &mut [u8],
+    basis: &Basis,
+    rows: &[u8],
+    width: usize,
+    targets: &[u16],
+    first: usize,
+    wide: usize,
+) -> Result<(), AllocError>
+    requires rows { length rows.now ≡ length basis.now * width }
+    requires columns { 2 * first + wide ≤ width }
+    requires even { wide % 2 ≡ 0 }
+    requires out { length out.old ≡ length targets.now * wide }
+    ensures count { length out.new ≡ length out.old }
+    ensures rows { OnOk result (out.new ≡ joined (length targets.now)
+        (λ i. symbol_bytes (wide / 2) (λ j. symbol_through basis.now rows.now width
+        (slice_index targets.now i) (first + j)))) }
+{
     for group in 0..targets.len().div_ceil(8) {
         fill_group(
             alloc,
-            &mut out,
+            out,
             basis,
             rows,
             width,
             targets,
             8 * group,
-            first / 2,
+            first,
             wide,
         )?;
     }
-    Ok(out)
+    Ok(())
 }
 
 // Writes the rows of the next eight targets, or of those that are left: `wide` bytes of each, from
@@ -270,100 +353,6 @@ fn fill_pairs(
     let sums = pair_sums(alloc, factors, rows, width, first + start, count)?;
     for place in 0..lanes {
         fill_pair_lane(out, wide, done + place, start, &sums, place);
-    }
-    Ok(())
-}
-
-// The rows whose stripes were done, each whole. A single stripe is all of them, and isn't copied.
-fn rows_of_stripes(
-    alloc: Global,
-    pieces: Vec<Result<Vec<u8>, AllocError>>,
-    width: usize,
-    targets: usize,
-) -> Result<Vec<u8>, NoMemory>
-    requires some { 1 ≤ length pieces.items }
-    requires even { width % 2 ≡ 0 }
-    requires long { (index : ℕ) (r : Result (Vec ℕ Global) AllocError)
-        → index < length pieces.items →
-        IfOk (slice_index_or pieces.items index r) (λ bytes. length bytes.items
-        ≡ targets *
-        (stripe_start width (length pieces.items) (index + 1) - stripe_start width
-        (length pieces.items) index)) }
-    ensures { (value : ℕ → ℕ → ℕ) → AreStripes width targets value pieces.items →
-        IfOk result
-        (λ v. v.items ≡ joined targets (λ i. symbol_bytes (width / 2) (λ j. value i j))) }
-{
-    if pieces.len() == 1 {
-        return only_piece(pieces);
-    }
-    rows_of_several(alloc, &pieces, width, targets)
-}
-
-// The piece of a list of one.
-fn only_piece(mut pieces: Vec<Result<Vec<u8>, AllocError>>) -> Result<Vec<u8>, NoMemory>
-    requires { length pieces.items ≡ 1 }
-    ensures { (r : Result (Vec ℕ Global) AllocError)
-        → IfOk result (λ v. slice_index_or pieces.items 0 r ≡ Ok v) }
-{
-    match pieces.pop() {
-        Some(Ok(bytes)) => Ok(bytes),
-        _ => Err(NoMemory),
-    }
-}
-
-// The rows whose stripes were done, each joined of its parts.
-fn rows_of_several(
-    alloc: Global,
-    pieces: &[Result<Vec<u8>, AllocError>],
-    width: usize,
-    targets: usize,
-) -> Result<Vec<u8>, NoMemory>
-    requires some { 1 ≤ length pieces.now }
-    requires even { width % 2 ≡ 0 }
-    requires long { (index : ℕ) (r : Result (Vec ℕ Global) AllocError) → index < length pieces.now →
-        IfOk (slice_index_or pieces.now index r) (λ bytes. length bytes.items
-        ≡ targets *
-        (stripe_start width (length pieces.now) (index + 1) - stripe_start width
-        (length pieces.now) index)) }
-    ensures { (value : ℕ → ℕ → ℕ) → AreStripes width targets value pieces.now →
-        IfOk result
-        (λ v. v.items ≡ joined targets (λ i. symbol_bytes (width / 2) (λ j. value i j))) }
-{
-    let mut out = Vec::with_capacity(alloc, targets.saturating_mul(width))?;
-    for place in 0..targets {
-        push_row(&mut out, pieces, width, place)?;
-    }
-    Ok(out)
-}
-
-// Appends one row: its part of each stripe.
-fn push_row(
-    out: &mut Vec<u8>,
-    pieces: &[Result<Vec<u8>, AllocError>],
-    width: usize,
-    place: usize,
-) -> Result<(), NoMemory>
-    requires { (index : ℕ) (r : Result (Vec ℕ Global) AllocError) → index < length pieces.now →
-        IfOk (slice_index_or pieces.now index r) (λ bytes. (place + 1)
-        * (stripe_start width (length pieces.now) (index + 1) - stripe_start width
-        (length pieces.now) index) ≤ length bytes.items) }
-    ensures { (part : ℕ → List ℕ) →
-        ((index : ℕ) (r : Result (Vec ℕ Global) AllocError) → index < length pieces.now →
-        IfOk (slice_index_or pieces.now index r) (λ bytes.
-        let wide = stripe_start width (length pieces.now) (index + 1) - stripe_start width
-        (length pieces.now) index in
-        take wide (drop (place * wide) bytes.items) ≡ part index)) →
-        OnOk result (out.new.items ≡ out.old.items ++ joined (length pieces.now) part) }
-{
-    for (index, piece) in pieces.iter().enumerate() {
-        match piece {
-            Ok(bytes) => {
-                let (first, last) = stripe(width, pieces.len(), index);
-                let wide = last - first;
-                out.extend_from_slice(&bytes[place * wide..][..wide])?;
-            }
-            Err(_) => return Err(NoMemory),
-        }
     }
     Ok(())
 }

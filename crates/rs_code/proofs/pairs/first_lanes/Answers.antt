@@ -1,4 +1,4 @@
-use Rattle.std.proofs.Common.{ℕ, get_or, rules, arith}
+use Rattle.std.proofs.Common.{rules, arith}
 use Rattle.rs_code.specs.Coefficients.{lane}
 use Rattle.rs_code.proofs.LaneLaws.{half_of_word, word_pushed}
 use Rattle.rs_code.proofs.pairs.first_lanes.Goals as goal

@@ -3,7 +3,7 @@ use Rattle.rs_code.specs.Rows.{joined, symbol_bytes}
 use Rattle.rs_code.specs.Stripes.{stripe_start, stripe_bytes}
 use Rattle.rs_code.proofs.RowBytes.{joined_none, push_joined}
 use Rattle.rs_code.proofs.StripeCuts.{stripes_whole, part_of_piece}
-use Rattle.rs_code.proofs.striped.rows_of_several.Goals as goal
+use Rattle.rs_code.proofs.joining.rows_of_several.Goals as goal
 
 -- what follows for each piece
 each_piece : {B E : Type 0} (r : Result B E) (P Q : B → Type 0) → IfOk r P → ((b : B) → P b → Q b) → IfOk r Q
