@@ -125,6 +125,31 @@ fn recoveries_are_those_of_the_plain_definition(rt: HostRuntime) -> Result<(), F
     Ok(())
 }
 
+#[test]
+fn recoveries_are_added_behind_the_originals(rt: HostRuntime) -> Result<(), Fail> {
+    for (k, m, width) in SHAPES {
+        assert!(rt; 1 <= k);
+        assert!(rt; 1 <= m);
+        assert!(rt; u32::from(k) + u32::from(m) <= 65535);
+        assert!(rt; 0 < width);
+        assert!(rt; width < 65536);
+        assert!(rt; width % 2 == 0);
+        let originals = bytes(rt.alloc(), usize::from(k) * width)?;
+        assert_eq!(rt; originals.len(), usize::from(k) * width);
+        let found = extend(&rt, rt.alloc(), k, m, &originals, width, &Sequential)?;
+        for pieces in [1, 4] {
+            let mut rows = bytes(rt.alloc(), usize::from(k) * width)?;
+            assert_eq!(rt; rows.len(), originals.len());
+            let threads = Threads::new(pieces, NoGate);
+            add_recoveries(&rt, rt.alloc(), k, m, &mut rows, width, &threads)?;
+            assert!(rt; rows.starts_with(&originals), "{k} and {m}, {width} bytes");
+            assert!(rt; rows.ends_with(&found), "{k} and {m}, {width} bytes");
+            assert!(rt; rows.len() == originals.len() + found.len());
+        }
+    }
+    Ok(())
+}
+
 // Three rows that are given, and targets: rows that are given among others.
 const GIVEN: [u16; 3] = [19, 2, 5];
 
