@@ -1,106 +1,87 @@
-//! Stripes of rows that were done beside each other, joined.
+//! Stripes of rows that were done beside each other, put where the rows stay.
 
-ghost use Rattle.std.specs.Prelude.{◌≡◌, ℕ, ◌<◌, ◌≤◌, ◌+◌, ◌-◌, ◌*◌, ◌/◌, ◌%◌, ◌++◌, take, drop};
-ghost use Rattle.std.specs.Prelude.{length, slice_index_or, IfOk, OnOk, List, Result, Vec, Ok};
+ghost use Rattle.std.specs.Prelude.{◌≡◌, ℕ, ◌<◌, ◌≤◌, ◌+◌, ◌-◌, ◌*◌, ◌/◌, ◌%◌, ◌^◌};
+ghost use Rattle.std.specs.Prelude.{length, map, IfOk, Vec, Ok};
 ghost use Rattle.std.specs.declared.alloc.Global.{Global};
-ghost use Rattle.std.specs.declared.alloc.AllocError.{AllocError};
-ghost use Rattle.rs_code.specs.Rows.{symbol_bytes, joined};
-ghost use Rattle.rs_code.specs.Stripes.{stripe_start, AreStripes};
+ghost use Rattle.rs_code.specs.Rows.{joined};
+ghost use Rattle.rs_code.specs.Stripes.{HaveRows, row_of_stripes};
 
-use crate::stripes::stripe;
+use crate::stripes::stripe_part;
 use cw_base::NoMemory;
 use std::alloc::{AllocError, Global};
+use std::thread;
+use std::thread::Threads;
 
-/// The rows whose stripes were done, each whole. A single stripe is all of them, and isn't copied.
-pub(crate) fn rows_of_stripes(
+/// The pieces of work that were done, where none lacks memory.
+pub(crate) fn all_done(
     alloc: Global,
     pieces: Vec<Result<Vec<u8>, AllocError>>,
-    width: usize,
-    targets: usize,
-) -> Result<Vec<u8>, NoMemory>
-    requires some { 1 ≤ length pieces.items }
-    requires even { width % 2 ≡ 0 }
-    requires long { (index : ℕ) (r : Result (Vec ℕ Global) AllocError)
-        → index < length pieces.items →
-        IfOk (slice_index_or pieces.items index r) (λ bytes. length bytes.items
-        ≡ targets *
-        (stripe_start width (length pieces.items) (index + 1) - stripe_start width
-        (length pieces.items) index)) }
-    ensures { (value : ℕ → ℕ → ℕ) → AreStripes width targets value pieces.items →
-        IfOk result
-        (λ v. v.items ≡ joined targets (λ i. symbol_bytes (width / 2) (λ j. value i j))) }
+) -> Result<Vec<Vec<u8>>, NoMemory>
+    ensures { IfOk result (λ done. map Ok done.items ≡ pieces.items) }
 {
-    if pieces.len() == 1 {
-        return only_piece(pieces);
+    let mut done = Vec::with_capacity(alloc, pieces.len())?;
+    for piece in pieces {
+        done.push(piece?)?;
     }
-    rows_of_several(alloc, &pieces, width, targets)
+    Ok(done)
 }
 
-// The piece of a list of one.
-fn only_piece(mut pieces: Vec<Result<Vec<u8>, AllocError>>) -> Result<Vec<u8>, NoMemory>
-    requires { length pieces.items ≡ 1 }
-    ensures { (r : Result (Vec ℕ Global) AllocError)
-        → IfOk result (λ v. slice_index_or pieces.items 0 r ≡ Ok v) }
+/// Writes the rows whose stripes were done, on as many threads as there are stripes: each thread
+/// writes a group of rows.
+pub(crate) fn put_rows<R: Threads + Sync>(
+    rt: &R,
+    stripes: &[Vec<u8>],
+    width: usize,
+    count: usize,
+    out: &mut [u8],
+)
+    requires some { 1 ≤ length stripes.now }
+    requires wide { 1 ≤ width }
+    requires out { length out.old ≡ count * width }
+    requires rows { HaveRows width count stripes.now }
+    ensures { (d : Vec ℕ Global) → out.new ≡ joined count (row_of_stripes width stripes.now d) }
 {
-    match pieces.pop() {
-        Some(Ok(bytes)) => Ok(bytes),
-        _ => Err(NoMemory),
+    let each = count.div_ceil(stripes.len()).max(1);
+    let put = |start: usize, group: &mut [u8]|
+        requires { (1 ≤ length stripes.now) × (1 ≤ width) × (length group.now % width ≡ 0)
+            × (start / width + length group.now / width < 2 ^ 64)
+            × HaveRows width (start / width + length group.now / width) stripes.now }
+        ensures { (d : Vec ℕ Global) → group.exit.now ≡ joined (length group.entry.now / width)
+            (λ i. row_of_stripes width stripes.entry.now d (start / width + i)) }
+    { put_group(group, stripes, width, start / width) };
+    thread::for_each_chunk_mut(rt, out, each * width, &put);
+}
+
+// Writes the rows of a group, the first of which is row `first`.
+fn put_group(group: &mut [u8], stripes: &[Vec<u8>], width: usize, first: usize)
+    requires some { 1 ≤ length stripes.now }
+    requires wide { 1 ≤ width }
+    requires whole { length group.old % width ≡ 0 }
+    requires fits { first + length group.old / width < 2 ^ 64 }
+    requires rows { HaveRows width (first + length group.old / width) stripes.now }
+    ensures { (d : Vec ℕ Global) → group.new ≡ joined (length group.old / width)
+        (λ i. row_of_stripes width stripes.now d (first + i)) }
+{
+    for place in 0..group.len() / width {
+        let start = place * width;
+        put_row(
+            &mut group[start..start + width],
+            stripes,
+            width,
+            first + place,
+        );
     }
 }
 
-// The rows whose stripes were done, each joined of its parts.
-fn rows_of_several(
-    alloc: Global,
-    pieces: &[Result<Vec<u8>, AllocError>],
-    width: usize,
-    targets: usize,
-) -> Result<Vec<u8>, NoMemory>
-    requires some { 1 ≤ length pieces.now }
-    requires even { width % 2 ≡ 0 }
-    requires long { (index : ℕ) (r : Result (Vec ℕ Global) AllocError) → index < length pieces.now →
-        IfOk (slice_index_or pieces.now index r) (λ bytes. length bytes.items
-        ≡ targets *
-        (stripe_start width (length pieces.now) (index + 1) - stripe_start width
-        (length pieces.now) index)) }
-    ensures { (value : ℕ → ℕ → ℕ) → AreStripes width targets value pieces.now →
-        IfOk result
-        (λ v. v.items ≡ joined targets (λ i. symbol_bytes (width / 2) (λ j. value i j))) }
+// Writes one row: its part of each stripe.
+fn put_row(out: &mut [u8], stripes: &[Vec<u8>], width: usize, place: usize)
+    requires some { 1 ≤ length stripes.now }
+    requires out { length out.old ≡ width }
+    requires rows { HaveRows width (place + 1) stripes.now }
+    ensures { (d : Vec ℕ Global) → out.new ≡ row_of_stripes width stripes.now d place }
 {
-    let mut out = Vec::with_capacity(alloc, targets.saturating_mul(width))?;
-    for place in 0..targets {
-        push_row(&mut out, pieces, width, place)?;
+    for index in 0..stripes.len() {
+        let (first, wide) = stripe_part(width, stripes.len(), index);
+        out[first..first + wide].copy_from_slice(&stripes[index][place * wide..][..wide]);
     }
-    Ok(out)
-}
-
-// Appends one row: its part of each stripe.
-fn push_row(
-    out: &mut Vec<u8>,
-    pieces: &[Result<Vec<u8>, AllocError>],
-    width: usize,
-    place: usize,
-) -> Result<(), NoMemory>
-    requires { (index : ℕ) (r : Result (Vec ℕ Global) AllocError) → index < length pieces.now →
-        IfOk (slice_index_or pieces.now index r) (λ bytes. (place + 1)
-        * (stripe_start width (length pieces.now) (index + 1) - stripe_start width
-        (length pieces.now) index) ≤ length bytes.items) }
-    ensures { (part : ℕ → List ℕ) →
-        ((index : ℕ) (r : Result (Vec ℕ Global) AllocError) → index < length pieces.now →
-        IfOk (slice_index_or pieces.now index r) (λ bytes.
-        let wide = stripe_start width (length pieces.now) (index + 1) - stripe_start width
-        (length pieces.now) index in
-        take wide (drop (place * wide) bytes.items) ≡ part index)) →
-        OnOk result (out.new.items ≡ out.old.items ++ joined (length pieces.now) part) }
-{
-    for (index, piece) in pieces.iter().enumerate() {
-        match piece {
-            Ok(bytes) => {
-                let (first, last) = stripe(width, pieces.len(), index);
-                let wide = last - first;
-                out.extend_from_slice(&bytes[place * wide..][..wide])?;
-            }
-            Err(_) => return Err(NoMemory),
-        }
-    }
-    Ok(())
 }

@@ -2,6 +2,7 @@
 
 ghost use Rattle.std.specs.Prelude.{◌≡◌, ℕ, ◌<◌, ◌≤◌, ◌+◌, ◌-◌, ◌*◌, ◌/◌, ◌%◌, ◌^◌, ◌++◌, take};
 ghost use Rattle.std.specs.Prelude.{length, slice_index, IfOk, OnOk, OnErr};
+ghost use Rattle.std.specs.Thread.{IsSync};
 ghost use Rattle.rs_code.specs.Codeword.{sum_below};
 ghost use Rattle.rs_code.specs.Coefficients.{lane, symbol_through};
 ghost use Rattle.rs_code.specs.Field.{times};
@@ -10,13 +11,14 @@ ghost use Rattle.rs_code.specs.Stripes.{stripe_start, stripe_bytes, AreStripes};
 
 use crate::basis::Basis;
 use crate::eights::fill_lane;
-use crate::joining::rows_of_stripes;
+use crate::joining::{all_done, put_rows};
 use crate::lanes::{Eight, next_eight};
 use crate::narrow::group_sums;
 use crate::pairs::{fill_pair_lane, pair_sums};
 use crate::stripes::{stripe, stripe_count};
 use cw_base::{NoMemory, Strategy};
 use std::alloc::{AllocError, Global};
+use std::thread;
 use std::thread::Threads;
 
 // How many columns are worked on at once: their sums stay in the caches near the processor.
@@ -42,9 +44,31 @@ pub fn rows_at<R: Threads + Sync, S: Strategy>(
         (slice_index targets.now i))) }
 {
     let count = stripe_count(width, strategy.pieces());
-    let pieces = run_stripes(rt, alloc, basis, rows, width, targets, count, strategy)?;
-    let joined = rows_of_stripes(alloc, pieces, width, targets.len())?;
-    Ok(joined)
+    if count == 1 {
+        strategy.arrive(0);
+        let whole = stripe_rows(alloc, basis, rows, width, targets, 1, 0)?;
+        return Ok(whole);
+    }
+    let size = targets.len() * width;
+    let (room, done) = thread::join(
+        rt,
+        || -> Result<Vec<u8>, AllocError>
+            requires { size < 2 ^ 63 }
+            ensures { IfOk result (λ v. length v.items ≡ size) }
+        { vec![in alloc; 0u8; size] },
+        || -> Result<Vec<Vec<u8>>, NoMemory>
+            requires { IsSync R.row
+                × (length rows.now ≡ length basis.now * width) × (width % 2 ≡ 0)
+                × (length targets.now * width < 2 ^ 63) × (1 ≤ count) }
+            ensures { IfOk result (λ v. (length v.items ≡ count)
+                × AreStripes width (length targets.entry.now)
+                (λ i j. symbol_through basis.entry.now rows.entry.now width
+                (slice_index targets.entry.now i) j) v.items) }
+        { run_stripes(rt, alloc, basis, rows, width, targets, count, strategy) },
+    );
+    let mut out = room?;
+    put_rows(rt, &done?, width, targets.len(), &mut out);
+    Ok(out)
 }
 
 /// Appends the rows at the targets to the rows at the points of a basis.
@@ -67,12 +91,16 @@ pub fn put_rows_at<R: Threads + Sync, S: Strategy>(
         (slice_index targets.now i))) }
     ensures err { OnErr result (take (length rows.old.items) rows.new.items ≡ rows.old.items) }
 {
-    if stripe_count(width, strategy.pieces()) == 1 {
+    let count = stripe_count(width, strategy.pieces());
+    if count == 1 {
         strategy.arrive(0);
         return put_whole_rows(alloc, basis, rows, width, targets);
     }
-    let more = rows_at(rt, alloc, basis, rows, width, targets, strategy)?;
-    rows.extend_from_slice(&more)?;
+    let stripes = run_stripes(rt, alloc, basis, rows, width, targets, count, strategy)?;
+    let size = rows.len();
+    rows.resize(size + targets.len() * width, 0)?;
+    let (_, out) = rows.split_at_mut(size);
+    put_rows(rt, &stripes, width, targets.len(), out);
     Ok(())
 }
 
@@ -109,7 +137,7 @@ fn run_stripes<R: Threads + Sync, S: Strategy>(
     targets: &[u16],
     count: usize,
     strategy: &S,
-) -> Result<Vec<Result<Vec<u8>, AllocError>>, NoMemory>
+) -> Result<Vec<Vec<u8>>, NoMemory>
     requires rows { length rows.now ≡ length basis.now * width }
     requires even { width % 2 ≡ 0 }
     requires room { length targets.now * width < 2 ^ 63 }
@@ -132,7 +160,8 @@ fn run_stripes<R: Threads + Sync, S: Strategy>(
             (slice_index targets.entry.now i) j))) }
     { stripe_rows(alloc, basis, rows, width, targets, count, *index) };
     let pieces = strategy.map(rt, alloc, &indices, &work)?;
-    Ok(pieces)
+    let done = all_done(alloc, pieces)?;
+    Ok(done)
 }
 
 // One stripe of the rows at the targets.

@@ -1,14 +1,9 @@
-use Rattle.std.proofs.Common.{◌≡◌, ℕ, ◌+◌, ◌*◌, ◌/◌, ◌++◌, ◌≤◌, List, length, get_or, take, take_at, take_all, length-append, ap, ◌∙◌, arith}
+use Rattle.std.proofs.Common.{◌≡◌, ℕ, ◌+◌, ◌*◌, ◌/◌, ◌++◌, List, length, get_or, take_at, length-append, ap, ◌∙◌, arith}
 use Rattle.rs_code.specs.Coefficients.{symbol_through}
 use Rattle.rs_code.specs.Rows.{joined, row_through}
 use Rattle.rs_code.proofs.RowBytes.{joined_same, symbol_bytes_same}
+use Rattle.rs_code.proofs.RowFronts.{front}
 use Rattle.rs_code.proofs.striped.put_whole_rows.Goals as goal
-
--- the front of a list that was made longer
-front : (old zeros items slice given : List ℕ) (size n : ℕ) → size ≡ length old → size ≤ n → given ≡ take size slice → slice ≡ items
-    → items ≡ take n old ++ zeros → given ≡ old
-front old zeros items slice given size n is more g s i =
-    g ∙ ap (take size) (s ∙ i) ∙ ap (λ xs. take size (xs ++ zeros)) (take_all n old (omega (arith, is, more))) ∙ take_at old zeros size (omega (arith, is))
 
 pub returns-clause-ok : goal.returns-clause-ok
 unfolding row_through symbol_through
