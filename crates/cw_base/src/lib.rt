@@ -28,10 +28,3 @@ pub use standard::{StdSink, StdSource};
 pub use strategy::{Sequential, Strategy, run_of};
 pub use stream::{Sink, Source};
 pub use threads::{Gate, NoGate, Threads};
-
-#[cfg(test)]
-mod reader_tests;
-#[cfg(test)]
-mod standard_tests;
-#[cfg(test)]
-mod tests;

@@ -4,13 +4,7 @@
 #[cfg(test)]
 mod archive_tests;
 #[cfg(test)]
-mod code;
-#[cfg(test)]
-mod coding;
-#[cfg(test)]
 mod disk_tests;
-#[cfg(test)]
-mod gate;
 #[cfg(test)]
 mod ledger_tests;
 #[cfg(test)]

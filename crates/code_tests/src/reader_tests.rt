@@ -1,4 +1,6 @@
-use super::*;
+//! Tests of cw_base's readers, and of rows that are hashed.
+
+use cw_base::{CodecError, Config, Digest32, Hasher, Reader, Sequential, Sha256, SumHasher};
 use std::test::Fail;
 
 #[test]

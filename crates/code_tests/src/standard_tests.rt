@@ -1,6 +1,6 @@
 //! Readers and writers that fail in mid-stream, write a part, and write nothing.
 
-use super::*;
+use cw_base::{Failed, MemorySink, MemorySource, Sink, Source, StdSink, StdSource};
 use std::io;
 use std::io::{ErrorKind, Read, Write};
 use std::test::Fail;

@@ -1,4 +1,10 @@
-use super::*;
+//! Tests of cw_base: hashers, numbers as bytes, sources and sinks, strategies.
+
+use cw_base::{
+    Digest, Digest32, Failed, Gate, Hasher, Items, MemorySink, MemorySource, NoGate, Sequential,
+    Sha256, Sink, Source, Strategy, SumHasher, Threads, put_be16, put_be32, put_be64, put_bytes,
+    put_u8, put_varint, run_of,
+};
 use std::sync::atomic::{AtomicU64, Ordering};
 use std::test::Fail;
 use std::thread;

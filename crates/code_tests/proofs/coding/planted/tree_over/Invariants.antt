@@ -1,5 +1,5 @@
 use Rattle.std.proofs.Common.{◌≡◌, length}
-use Rattle.cw_tests.proofs.coding.planted.tree_over.Given as goal
+use Rattle.code_tests.proofs.coding.planted.tree_over.Given as goal
 
 abbrev pub invariant-loop-shard : goal.invariant-loop-shard
 invariant-loop-shard l = length l.builder ≡ l.shard-index
