@@ -65,18 +65,26 @@ fn a_source_fails_in_the_calls_named(rt: HostRuntime) -> Result<(), Fail> {
     Ok(())
 }
 
+// What a sink is given, and how many bytes of it are taken.
+const PUTS: [(&[u8], Result<usize, Failed>); 5] = [
+    (&[7; 1020], Ok(1000)),
+    (&[5], Err(Failed)),
+    (&[5; 30], Ok(24)),
+    (&[5], Err(Failed)),
+    (&[], Ok(0)),
+];
+
 #[test]
 fn a_sink_takes_pieces_within_its_room(rt: HostRuntime) -> Result<(), Fail> {
     let failing = [2u64].to_vec(rt.alloc())?;
     let mut sink = MemorySink::new(rt.alloc(), 1000, failing)?;
-    assert_eq!(rt; sink.put(&[7; 1020]), Ok(1000));
-    assert_eq!(rt; sink.put(&[5]), Err(Failed));
-    assert_eq!(rt; sink.put(&[5; 30]), Ok(24));
-    assert_eq!(rt; sink.put(&[5]), Err(Failed));
-    assert_eq!(rt; sink.put(&[]), Ok(0));
+    for (bytes, taken) in PUTS {
+        assert_eq!(rt; sink.put(bytes), taken);
+    }
     sink.reserve(2)?;
-    assert_eq!(rt; sink.put(&[6, 7, 8]), Ok(2));
-    assert_eq!(rt; sink.put(&[8]), Err(Failed));
+    for (bytes, taken) in [([6, 7, 8].as_slice(), Ok(2)), (&[8], Err(Failed))] {
+        assert_eq!(rt; sink.put(bytes), taken);
+    }
     assert!(rt; sink.bytes().ends_with(&[5, 5, 6, 7]));
     assert_eq!(rt; sink.bytes().len(), 1026);
     Ok(())

@@ -1,5 +1,5 @@
-//! Tests of the public calls of the crates that the coding scheme stands on, and of its own: digests,
-//! numbers, readers and threads, the code over rows, and the chunks.
+//! Tests of the public calls of `cw_base` (three files), `rs_code` (`code`) and `cw_coding`
+//! (`coding`).
 #![tactic(auto)]
 
 #[cfg(test)]

@@ -41,38 +41,75 @@ fn varints_read_in_their_shortest_form_alone(rt: HostRuntime) {
     }
 }
 
+// A call of a reader.
+#[derive(Clone, Copy)]
+enum Call {
+    Byte,
+    Two,
+    Four,
+    Eight,
+    Varint,
+    Take(usize),
+    Finish,
+}
+
+// What a call reads: a number, of `take` how many bytes, and of `finish` 0.
+fn answer(reader: &mut Reader, call: Call) -> Result<u64, CodecError> {
+    match call {
+        Call::Byte => reader.u8().map(u64::from),
+        Call::Two => reader.be16().map(u64::from),
+        Call::Four => reader.be32().map(u64::from),
+        Call::Eight => reader.be64(),
+        Call::Varint => reader.varint().map(u64::from),
+        Call::Take(count) => reader.take(count).map(|bytes| bytes.len() as u64),
+        Call::Finish => reader.finish().map(|()| 0),
+    }
+}
+
+// Calls of one reader, and what they read.
+const CALLS: [(Call, Result<u64, CodecError>); 10] = [
+    (Call::Eight, Err(CodecError::EndOfBuffer)),
+    (Call::Byte, Ok(1)),
+    (Call::Four, Ok(0x0203_0405)),
+    (Call::Four, Err(CodecError::EndOfBuffer)),
+    (Call::Varint, Err(CodecError::InvalidVarint)),
+    (Call::Take(3), Err(CodecError::EndOfBuffer)),
+    (Call::Finish, Err(CodecError::Extra)),
+    (Call::Two, Ok(0x8000)),
+    (Call::Finish, Ok(0)),
+    (Call::Byte, Err(CodecError::EndOfBuffer)),
+];
+
 #[test]
 fn a_reader_that_refused_stands_where_it_stood(rt: HostRuntime) {
     let mut reader = Reader::new(&[1, 2, 3, 4, 5, 0x80, 0]);
-    assert_eq!(rt; reader.be64(), Err(CodecError::EndOfBuffer));
-    assert_eq!(rt; reader.u8(), Ok(1));
-    assert_eq!(rt; reader.be32(), Ok(0x0203_0405));
-    assert_eq!(rt; reader.be32(), Err(CodecError::EndOfBuffer));
-    assert_eq!(rt; reader.varint(), Err(CodecError::InvalidVarint));
-    assert_eq!(rt; reader.take(3).err(), Some(CodecError::EndOfBuffer));
-    assert_eq!(rt; reader.finish(), Err(CodecError::Extra));
-    assert_eq!(rt; reader.be16(), Ok(0x8000));
-    assert_eq!(rt; reader.finish(), Ok(()));
-    assert_eq!(rt; reader.u8(), Err(CodecError::EndOfBuffer));
+    for (call, want) in CALLS {
+        assert_eq!(rt; answer(&mut reader, call), want);
+    }
     assert_eq!(rt; Reader::new(&[0, 0, 0, 0, 0, 0, 1, 2]).be64(), Ok(258));
 }
 
+// What a config is read as, and the bytes behind it.
+fn config_and_rest(bytes: &[u8]) -> (Result<[u8; 4], CodecError>, &[u8]) {
+    let mut reader = Reader::new(bytes);
+    let config = Config::read(&mut reader).map(|config| config.write());
+    (config, reader.rest())
+}
+
 #[test]
-fn configs_are_read_without_zeros(rt: HostRuntime) -> Result<(), Fail> {
-    let mut reader = Reader::new(&[0, 2, 1, 0, 9]);
-    let config = Config::read(&mut reader)?;
-    assert_eq!(rt; config.write(), [0, 2, 1, 0]);
-    assert_eq!(rt; reader.u8(), Ok(9));
-    let mut first = Reader::new(&[0, 0, 0, 0]);
-    assert_eq!(rt; Config::read(&mut first), Err(CodecError::Invalid));
-    assert_eq!(rt; first.be16(), Ok(0));
-    let mut second = Reader::new(&[0, 1, 0, 0]);
-    assert_eq!(rt; Config::read(&mut second), Err(CodecError::Invalid));
-    assert_eq!(rt; second.finish(), Ok(()));
-    let mut cut = Reader::new(&[0, 1, 7]);
-    assert_eq!(rt; Config::read(&mut cut), Err(CodecError::EndOfBuffer));
-    assert_eq!(rt; cut.u8(), Ok(7));
-    Ok(())
+fn configs_are_read_without_zeros(rt: HostRuntime) {
+    let cases: [(&[u8], Result<[u8; 4], CodecError>, usize); 4] = [
+        (&[0, 2, 1, 0, 9], Ok([0, 2, 1, 0]), 1),
+        (&[0, 0, 0, 0], Err(CodecError::Invalid), 2),
+        (&[0, 1, 0, 0], Err(CodecError::Invalid), 0),
+        (&[0, 1, 7], Err(CodecError::EndOfBuffer), 1),
+    ];
+    for (bytes, want, left) in cases {
+        let (config, rest) = config_and_rest(bytes);
+        assert_eq!(rt; config, want);
+        assert!(rt; bytes.ends_with(rest));
+        assert_eq!(rt; rest.len(), left);
+    }
 }
 
 #[test]

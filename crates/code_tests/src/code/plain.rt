@@ -2,6 +2,7 @@
 //! rows that are given, factor by factor.
 
 use super::*;
+use cw_base::NoGate;
 
 // The value at `x` of the polynomial that is `values[s]` at `points[s]`.
 fn value_at(points: &[u16], values: &[u16], x: u16) -> u16 {
@@ -78,7 +79,7 @@ fn bytes(alloc: Global, count: usize) -> Result<Vec<u8>, AllocError> {
 }
 
 // The numbers from one on.
-fn numbers(alloc: Global, from: u16, count: u16) -> Result<Vec<u16>, AllocError> {
+pub fn numbers(alloc: Global, from: u16, count: u16) -> Result<Vec<u16>, AllocError> {
     let mut all = Vec::new(alloc);
     for i in 0..count {
         all.push(from.wrapping_add(i))?;
@@ -89,7 +90,7 @@ fn numbers(alloc: Global, from: u16, count: u16) -> Result<Vec<u16>, AllocError>
 // Originals, recoveries, and the width of a row: less than a block of columns, a block, one column
 // more, and three blocks and one column more; then the widest narrow row, one column more, and a
 // few columns.
-const SHAPES: [(u16, u16, usize); 9] = [
+const SHAPES: [(u16, u16, u16); 9] = [
     (1, 1, 2),
     (2, 2, 8190),
     (3, 5, 8192),
@@ -101,50 +102,89 @@ const SHAPES: [(u16, u16, usize); 9] = [
     (5, 4, 10),
 ];
 
+// So many rows.
+fn originals_of(alloc: Global, k: u16, width: u16) -> Result<Vec<u8>, AllocError> {
+    bytes(alloc, usize::from(k) * usize::from(width))
+}
+
+// Whether recoveries are those of the plain definition.
+fn are_plain_recoveries(
+    alloc: Global,
+    k: u16,
+    m: u16,
+    originals: &[u8],
+    found: &[u8],
+    width: u16,
+) -> Result<bool, AllocError> {
+    let points = numbers(alloc, 0, k)?;
+    let targets = numbers(alloc, k, m)?;
+    are_plain(
+        alloc,
+        &points,
+        originals,
+        &targets,
+        found,
+        usize::from(width),
+    )
+}
+
 #[test]
 fn recoveries_are_those_of_the_plain_definition(rt: HostRuntime) -> Result<(), Fail> {
     for (k, m, width) in SHAPES {
-        assert!(rt; 1 <= k);
-        assert!(rt; 1 <= m);
-        assert!(rt; u32::from(k) + u32::from(m) <= 65535);
-        assert!(rt; 0 < width);
-        assert!(rt; width < 65536);
-        assert!(rt; width % 2 == 0);
-        let originals = bytes(rt.alloc(), usize::from(k) * width)?;
-        assert_eq!(rt; originals.len(), usize::from(k) * width);
-        let found = extend(&rt, rt.alloc(), k, m, &originals, width, &Sequential)?;
-        let points = numbers(rt.alloc(), 0, k)?;
-        let targets = numbers(rt.alloc(), k, m)?;
-        let right = are_plain(rt.alloc(), &points, &originals, &targets, &found, width)?;
+        let originals = originals_of(rt.alloc(), k, width)?;
+        let found = recoveries(&rt, rt.alloc(), k, m, &originals, width, &Sequential)?;
+        let right = are_plain_recoveries(rt.alloc(), k, m, &originals, &found, width)?;
         assert!(rt; right, "{k} and {m}, {width} bytes");
-        if stripe_count(width, 4) > 1 {
-            let cut = extend(&rt, rt.alloc(), k, m, &originals, width, &Gate::new())?;
+        if stripe_count(usize::from(width), 4) > 1 {
+            let cut = recoveries(&rt, rt.alloc(), k, m, &originals, width, &Gate::new())?;
             assert!(rt; cut.as_slice() == found.as_slice());
         }
     }
     Ok(())
 }
 
+// Rows with their recoveries added behind them in so many pieces.
+fn with_recoveries<R: Threads + Sync>(
+    rt: &R,
+    alloc: Global,
+    k: u16,
+    m: u16,
+    originals: &[u8],
+    width: u16,
+    pieces: usize,
+) -> Result<Vec<u8>, Fail> {
+    let width = usize::from(width);
+    if k < 1 || m < 1 || u32::from(k) + u32::from(m) > 65535 {
+        return Err(Fail::from("no codeword"));
+    }
+    if pieces < 1 || pieces > 64 {
+        return Err(Fail::from("no threads"));
+    }
+    let mut rows = originals.to_vec(alloc)?;
+    if width < 1 || width % 2 != 0 || rows.len() != usize::from(k) * width {
+        return Err(Fail::from("no rows"));
+    }
+    let threads = cw_base::Threads::new(pieces, NoGate);
+    add_recoveries(rt, alloc, k, m, &mut rows, width, &threads)?;
+    Ok(rows)
+}
+
+// Whether rows are those of two lists, one behind the other.
+fn is_joined(rows: &[u8], front: &[u8], back: &[u8]) -> bool {
+    rows.starts_with(front) && rows.ends_with(back) && rows.len() == front.len() + back.len()
+}
+
 #[test]
 fn recoveries_are_added_behind_the_originals(rt: HostRuntime) -> Result<(), Fail> {
     for (k, m, width) in SHAPES {
-        assert!(rt; 1 <= k);
-        assert!(rt; 1 <= m);
-        assert!(rt; u32::from(k) + u32::from(m) <= 65535);
-        assert!(rt; 0 < width);
-        assert!(rt; width < 65536);
-        assert!(rt; width % 2 == 0);
-        let originals = bytes(rt.alloc(), usize::from(k) * width)?;
-        assert_eq!(rt; originals.len(), usize::from(k) * width);
-        let found = extend(&rt, rt.alloc(), k, m, &originals, width, &Sequential)?;
+        let originals = originals_of(rt.alloc(), k, width)?;
+        let found = recoveries(&rt, rt.alloc(), k, m, &originals, width, &Sequential)?;
         for pieces in [1, 4] {
-            let mut rows = bytes(rt.alloc(), usize::from(k) * width)?;
-            assert_eq!(rt; rows.len(), originals.len());
-            let threads = Threads::new(pieces, NoGate);
-            add_recoveries(&rt, rt.alloc(), k, m, &mut rows, width, &threads)?;
-            assert!(rt; rows.starts_with(&originals), "{k} and {m}, {width} bytes");
-            assert!(rt; rows.ends_with(&found), "{k} and {m}, {width} bytes");
-            assert!(rt; rows.len() == originals.len() + found.len());
+            let rows = with_recoveries(&rt, rt.alloc(), k, m, &originals, width, pieces)?;
+            assert!(rt;
+                is_joined(&rows, &originals, &found),
+                "{k} and {m}, {width} bytes"
+            );
         }
     }
     Ok(())
