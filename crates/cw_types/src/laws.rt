@@ -91,24 +91,12 @@ pub fn handoffs_map<C, D, E>()
 /// Each commitment reads back.
 pub fn commitment_fits(commitment: Commitment)
     ensures { IsCommitment commitment }
-{
-    let _block = commitment.block.0;
-    let _root = commitment.root.0;
-    let _context = commitment.context.0;
-    let _minimum = commitment.config.minimum_shards.get();
-    let _extra = commitment.config.extra_shards.get();
-}
+{}
 
 /// Each context reads back.
 pub fn context_fits(context: Context)
     ensures { IsContext context }
-{
-    let _epoch = context.epoch;
-    let _view = context.view;
-    let _leader = context.leader;
-    let _parent_view = context.parent_view;
-    commitment_fits(context.parent);
-}
+{}
 
 /// Each block reads back.
 pub fn block_fits(block: &ChainBlock)
@@ -130,26 +118,13 @@ pub fn blocks_are_bounded()
 /// Each vote reads back.
 pub fn vote_fits(vote: Vote)
     ensures { IsVote vote }
-{
-    match vote {
-        Vote::Notarize(proposal) => proposal_fits(proposal),
-        Vote::Nullify { epoch, view } => {
-            let _views = (epoch, view);
-        }
-        Vote::Finalize(proposal) => proposal_fits(proposal),
-    }
-}
+{}
 
 /// Each proposal reads back, of its epoch.
 pub fn proposal_fits(proposal: Proposal)
     ensures epoch { proposal.epoch < 2 ^ 64 }
     ensures fits { IsProposal proposal.epoch proposal }
-{
-    let _epoch = proposal.epoch;
-    let _view = proposal.view;
-    let _parent = proposal.parent;
-    commitment_fits(proposal.payload);
-}
+{}
 
 /// Each certificate of at most 65,535 signers reads back.
 pub fn cert_fits(cert: &Cert)
