@@ -14,3 +14,5 @@ mod gate;
 mod reader_tests;
 #[cfg(test)]
 mod standard_tests;
+#[cfg(test)]
+mod tables;
