@@ -1,5 +1,5 @@
-//! Tests of mailboxes, of a counter and of a node, over what both crates offer to their users. There
-//! is nothing here but that.
+//! Tests of mailboxes, of a counter and of a node, over what both crates offer to their users.
+//! There is nothing here but that.
 #![tactic(auto)]
 
 #[cfg(test)]
