@@ -7,6 +7,10 @@ mod damage_tests;
 #[cfg(test)]
 mod disks;
 #[cfg(test)]
+mod mailbox_tests;
+#[cfg(test)]
 mod marshal_tests;
 #[cfg(test)]
 mod node_tests;
+#[cfg(test)]
+mod sessions;

@@ -7,6 +7,8 @@ mod cases;
 #[cfg(test)]
 mod fuzzed_tests;
 #[cfg(test)]
+mod lanes_tests;
+#[cfg(test)]
 mod outside_tests;
 #[cfg(test)]
 mod runs;

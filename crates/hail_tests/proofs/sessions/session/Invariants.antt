@@ -1,5 +1,5 @@
 use Rattle.std.specs.Prelude.{Some}
-use Rattle.seat_tests.proofs.sessions.session.Given as goal
+use Rattle.hail_tests.proofs.sessions.session.Given as goal
 
 -- the session's ledger is that of the blank
 abbrev pub ghosts-acknowledged-L-Ledger : goal.ghosts-acknowledged-L-Ledger

@@ -1,5 +1,5 @@
 use Rattle.std.specs.Prelude.{Some}
-use Rattle.seat_tests.proofs.mailbox_tests.left_out.Given as goal
+use Rattle.hail_tests.proofs.mailbox_tests.left_out.Given as goal
 
 abbrev pub ghosts-one_left_out-L-Ledger : goal.ghosts-one_left_out-L-Ledger
 ghosts-one_left_out-L-Ledger g a = record { name = a.blank.name; parts = a.blank.parts }

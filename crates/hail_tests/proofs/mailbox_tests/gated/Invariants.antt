@@ -1,5 +1,5 @@
 use Rattle.std.specs.Prelude.{Some}
-use Rattle.seat_tests.proofs.mailbox_tests.gated.Given as goal
+use Rattle.hail_tests.proofs.mailbox_tests.gated.Given as goal
 
 abbrev pub ghosts-two_lanes-L-Ledger : goal.ghosts-two_lanes-L-Ledger
 ghosts-two_lanes-L-Ledger g a = record { name = a.blank.name; parts = a.blank.parts }
