@@ -33,42 +33,60 @@ fn cut<R: Threads + Sync>(
     Ok(cut_block::<Sha256, R, Sequential>(rt, alloc, &committees, &block(alloc)?, &Sequential)?)
 }
 
-// an archive to which the four were put in order, and the first once more: the answers
+// the answers of an archive to the four, put in order, and to the first once more
+fn put_all<R: Threads + Sync>(
+    rt: &R,
+    alloc: Global,
+    archive: &mut Archive<Sha256>,
+    commitment: &Commitment,
+    chunks: &[Chunk<Digest32>],
+) -> Result<Vec<Put>, Fail> {
+    let mut answers = Vec::new(alloc);
+    for at in [0usize, 1, 2, 3, 0] {
+        let Some(chunk) = chunks.get(at) else {
+            return Err("four chunks".into());
+        };
+        answers.push(archive.put(rt, commitment, chunk.copy(alloc)?, &Sequential)?)?;
+    }
+    Ok(answers)
+}
+
+// whether an archive gives the block
+fn gives<R: Threads + Sync>(
+    rt: &R,
+    alloc: Global,
+    archive: &Archive<Sha256>,
+    commitment: &Commitment,
+) -> Result<bool, Fail> {
+    let block = block(alloc)?;
+    Ok(archive.get(rt, alloc, commitment, &Sequential)? == Some(block))
+}
+
+// what an archive of that limit answers to the last of them, the bytes and the chunks that it has
+// then, and whether it gives the block
 fn filled<R: Threads + Sync>(
     rt: &R,
     alloc: Global,
     limit: u64,
-) -> Result<(Archive<Sha256>, Vec<Put>), Fail> {
+) -> Result<(Option<Put>, u64, usize, bool), Fail> {
     let (commitment, chunks) = cut(rt, alloc)?;
     let mut archive = Archive::<Sha256>::new(alloc, limit)?;
-    let mut answers = Vec::new(alloc);
-    let again = match chunks.as_slice() {
-        [first, ..] => first.copy(alloc)?,
-        [] => return Err("no chunks".into()),
-    };
-    for chunk in chunks {
-        answers.push(archive.put(rt, &commitment, chunk, &Sequential)?)?;
-    }
-    answers.push(archive.put(rt, &commitment, again, &Sequential)?)?;
-    Ok((archive, answers))
+    let answers = put_all(rt, alloc, &mut archive, &commitment, &chunks)?;
+    let found = gives(rt, alloc, &archive, &commitment)?;
+    let last = answers.last().copied();
+    Ok((last, archive.used(), archive.count(&commitment), found))
 }
 
 #[test]
 fn the_oldest_leave(rt: HostRuntime) -> Result<(), Fail> {
-    for (limit, last, count, used, found) in [
-        (87, Put::TooLarge, 0usize, 0, false),
-        (100, Put::Kept, 1, 88, false),
-        (200, Put::Kept, 2, 176, true),
-        (1000, Put::Known, 4, 352, true),
+    for (limit, last, used, count, found) in [
+        (87, Put::TooLarge, 0, 0, false),
+        (100, Put::Kept, 88, 1, false),
+        (200, Put::Kept, 176, 2, true),
+        (1000, Put::Known, 352, 4, true),
     ] {
-        let (archive, answers) = filled(&rt, rt.alloc(), limit)?;
-        let (commitment, _) = cut(&rt, rt.alloc())?;
-        let block = block(rt.alloc())?;
-        let given = archive.get(&rt, rt.alloc(), &commitment, &Sequential)?;
-        assert_eq!(rt; answers.last().copied(), Some(last), "limit {limit}");
-        assert_eq!(rt; archive.used(), used, "limit {limit}");
-        assert_eq!(rt; archive.count(&commitment), count, "limit {limit}");
-        assert_eq!(rt; given == Some(block), found, "limit {limit}");
+        let said = filled(&rt, rt.alloc(), limit)?;
+        assert_eq!(rt; said, (Some(last), used, count, found), "limit {limit}");
     }
     Ok(())
 }
@@ -76,14 +94,10 @@ fn the_oldest_leave(rt: HostRuntime) -> Result<(), Fail> {
 #[test]
 fn a_chunk_under_another_root_is_foreign(rt: HostRuntime) -> Result<(), Fail> {
     let (commitment, chunks) = cut(&rt, rt.alloc())?;
-    let other = Commitment {
-        root: Digest32([9; 32]),
-        ..commitment
-    };
+    let root = Digest32([9; 32]);
+    let other = Commitment { root, ..commitment };
     let mut archive = Archive::<Sha256>::new(rt.alloc(), 1000)?;
-    for chunk in chunks {
-        assert_eq!(rt; archive.put(&rt, &other, chunk, &Sequential)?, Put::Foreign);
-    }
-    assert_eq!(rt; archive.used(), 0);
+    let answers = put_all(&rt, rt.alloc(), &mut archive, &other, &chunks)?;
+    assert!(rt; answers.as_slice() == [Put::Foreign; 5].as_slice() && archive.used() == 0);
     Ok(())
 }

@@ -3,10 +3,12 @@
 
 mod book;
 
+use crate::disk_tests::disk_of;
+use crate::tables::case_in;
 use book::LedgerCall::{Balance, Bytes, Disarm, Empty, Height, Holdings, Pass, Restart, StopAt};
 use book::{Book, LedgerCall, transfer};
 use cw_ledger::{Replica, transfers_of};
-use node_disk::{Disk, MemoryDisk, StoreError};
+use node_disk::StoreError;
 use std::alloc::Global;
 use std::test::Fail;
 
@@ -31,8 +33,8 @@ fn first_wrong(
 // A replica with heights 0 and 1, the second of which gives 5 to account 7.
 fn two_heights(alloc: Global) -> Result<Book, Fail> {
     let mut book = Book::new(alloc)?;
-    let _first = book.answer(alloc, Empty(0))?;
-    let _second = book.answer(alloc, Pass(1, 0, 7, 5))?;
+    let _first = book.apply(alloc, 0, &[])?;
+    let _second = book.apply(alloc, 1, &transfer(0, 7, 5))?;
     Ok(book)
 }
 
@@ -113,7 +115,7 @@ fn a_transfer_passes_where_the_balance_is_there(rt: HostRuntime) -> Result<(), F
     Ok(())
 }
 
-// So many bytes of two transfers, and one byte more.
+// The bytes of two transfers, and one byte more.
 fn two_transfers(alloc: Global) -> Result<Vec<u8>, Fail> {
     let mut bytes = Vec::from_slice(alloc, &transfer(7, 8, 4))?;
     bytes.extend_from_slice(&transfer(8, 0, 3))?;
@@ -121,10 +123,17 @@ fn two_transfers(alloc: Global) -> Result<Vec<u8>, Fail> {
     Ok(bytes)
 }
 
+// How many transfers a part of those bytes holds, and what the accounts have after it.
+fn part(alloc: Global, length: usize) -> Result<(usize, (u64, u64, u64)), Fail> {
+    let bytes = two_transfers(alloc)?;
+    let Some(payload) = bytes.get(..length) else {
+        return Err("so many bytes".into());
+    };
+    Ok((transfers_of(alloc, payload)?.len(), after(alloc, payload)?))
+}
+
 #[test]
 fn a_payload_of_another_length_has_no_transfers(rt: HostRuntime) -> Result<(), Fail> {
-    let alloc = rt.alloc();
-    let bytes = two_transfers(alloc)?;
     for (length, count, want) in [
         (15, 0, (999_999_995, 5, 0)),
         (16, 1, (999_999_995, 1, 4)),
@@ -132,66 +141,52 @@ fn a_payload_of_another_length_has_no_transfers(rt: HostRuntime) -> Result<(), F
         (32, 2, (999_999_998, 1, 1)),
         (33, 0, (999_999_995, 5, 0)),
     ] {
-        let Some(payload) = bytes.get(..length) else {
-            return Err("so many bytes".into());
-        };
-        assert_eq!(rt; transfers_of(alloc, payload)?.len(), count);
-        assert_eq!(rt; after(alloc, payload)?, want);
+        assert_eq!(rt; part(rt.alloc(), length)?, (count, want), "{length}");
     }
     Ok(())
 }
 
-// A disk of frames.
-fn disk_of(alloc: Global, frames: &[&[u8]]) -> Result<MemoryDisk, Fail> {
-    let mut bytes: Vec<u8> = Vec::new(alloc);
-    for frame in frames {
-        bytes.push(1)?;
-        bytes.extend_from_slice(&(frame.len() as u64).to_be_bytes())?;
-        bytes.extend_from_slice(frame)?;
-    }
-    bytes.push(0)?;
-    let mut disk = MemoryDisk::new(alloc, Vec::new(alloc));
-    disk.write_at(0, &bytes)?;
-    disk.sync()?;
-    Ok(disk)
-}
-
-// What a start finds on these frames.
-fn found(alloc: Global, frames: &[&[u8]]) -> Result<Result<Option<u64>, StoreError>, Fail> {
-    match Replica::start(alloc, disk_of(alloc, frames)?) {
+// What a start finds on a disk of these bytes.
+fn found(alloc: Global, bytes: &[u8]) -> Result<Result<Option<u64>, StoreError>, Fail> {
+    match Replica::start(alloc, disk_of(alloc, bytes)?) {
         Ok(replica) => Ok(Ok(replica.height())),
         Err((_, error)) => Ok(Err(error)),
     }
 }
 
-const SHORT: &[u8] = &[0; 7];
+// Whether that is found on a disk of a line of the table.
+fn is_found(alloc: Global, line: &str) -> Result<bool, Fail> {
+    let case = case_in(alloc, line)?;
+    let found = book::text(alloc, found(alloc, &case.bytes)?)?;
+    Ok(found.as_str() == case.want)
+}
 
-const ZERO: &[u8] = &[0; 8];
-
-const ONE: &[u8] = &[0, 0, 0, 0, 0, 0, 0, 1, 9];
-
-const TWO: &[u8] = &[0, 0, 0, 0, 0, 0, 0, 2];
+// Each frame stands behind a 1 and its length, and begins with a height.
+const FOUND: &str = "\
+heights 0 and 1: 1 0*7 8 0*8 1 0*7 9 0*7 1 9 0: Ok(Some(1))
+a short frame: 1 0*7 7 0*7 0: Err(Foreign(0))
+height 0 and a short frame: 1 0*7 8 0*8 1 0*7 7 0*7 0: Err(Foreign(17))
+height 1: 1 0*7 9 0*7 1 9 0: Err(Foreign(0))
+heights 0 and 2: 1 0*7 8 0*8 1 0*7 8 0*7 2 0: Err(Foreign(17))
+heights 0, 1 and 1: 1 0*7 8 0*8 1 0*7 9 0*7 1 9 1 0*7 9 0*7 1 9 0: Err(Foreign(35))
+";
 
 #[test]
 fn a_start_names_the_first_frame_that_is_none_of_its_own(rt: HostRuntime) -> Result<(), Fail> {
-    for (frames, want) in [
-        ([ZERO, ONE].as_slice(), Ok(Some(1))),
-        (&[SHORT], Err(StoreError::Foreign(0))),
-        (&[ZERO, SHORT], Err(StoreError::Foreign(17))),
-        (&[ONE], Err(StoreError::Foreign(0))),
-        (&[ZERO, TWO], Err(StoreError::Foreign(17))),
-        (&[ZERO, ONE, ONE], Err(StoreError::Foreign(35))),
-    ] {
-        assert_eq!(rt; found(rt.alloc(), frames)?, want);
+    let mut count = 0u8;
+    for line in FOUND.lines() {
+        assert!(rt; is_found(rt.alloc(), line)?, "{line}");
+        count = count.wrapping_add(1);
     }
+    assert_eq!(rt; count, 6);
     Ok(())
 }
 
 // Stops an apply at a device call, and gives what account 7 has before the restart and after it.
 fn stopped(alloc: Global, call: u64, cut: u64) -> Result<(u64, u64), Fail> {
     let mut book = two_heights(alloc)?;
-    let _stop = book.answer(alloc, StopAt(call, cut))?;
-    let _answer = book.answer(alloc, Pass(2, 0, 7, 1))?;
+    book.stop_at(call, cut);
+    let _answer = book.apply(alloc, 2, &transfer(0, 7, 1))?;
     let (_, before, _) = book.balances();
     let (_, found, _) = book.restart(alloc)?.balances();
     Ok((before, found))

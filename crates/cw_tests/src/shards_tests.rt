@@ -1,4 +1,4 @@
-ghost use Rattle.std.specs.Prelude.{◌≡◌, ◌<◌, IfOk, length};
+ghost use Rattle.std.specs.Prelude.{◌≡◌, IfOk, length};
 
 use bytes::Bytes;
 use cw_base::{Config, Digest32, Hasher, Items, Sequential, Sha256, SumHasher};
@@ -26,12 +26,13 @@ fn tree(alloc: Global) -> Result<Tree<Sha256>, Fail>
 }
 
 // the row of that place, with its way up
-fn row(alloc: Global, tree: &Tree<Sha256>, at: u16) -> Result<Chunk<Digest32>, Fail>
-    requires four { length tree.now ≡ 4 }
-    requires within { at < 4 }
-{
+fn row(alloc: Global, at: u16) -> Result<Chunk<Digest32>, Fail> {
+    if at >= 4 {
+        return Err("a place of four".into());
+    }
+    let proof = tree(alloc)?.proof(alloc, u32::from(at))?;
     let shard = Bytes::copy_from_slice(alloc, &ROWS[usize::from(at)])?;
-    Ok(Chunk::new(shard, at, tree.proof(alloc, u32::from(at))?))
+    Ok(Chunk::new(shard, at, proof))
 }
 
 // what a commitment with that root names, where blocks are cut in two and two
@@ -64,37 +65,53 @@ fn four<H: Hasher<Digest = Digest32>>(alloc: Global) -> Result<Shards<H>, Fail> 
     Ok(Shards::new(alloc, Committees::single(alloc, 4)?))
 }
 
+// the verdict on the row of that place
+fn told<R: Threads + Sync>(
+    rt: &R,
+    alloc: Global,
+    shards: &mut Shards<Sha256>,
+    commitment: &Commitment,
+    at: u16,
+) -> Result<String, Fail> {
+    let row = row(alloc, at)?;
+    let verdict = shards.take(rt, commitment, row, &Sequential)?;
+    Ok(format!(in alloc; "{verdict:?} ")?)
+}
+
+// the verdicts on the rows of these places
+fn verdicts<R: Threads + Sync>(
+    rt: &R,
+    alloc: Global,
+    commitment: &Commitment,
+    places: &[u16],
+) -> Result<String, Fail> {
+    let mut shards = four::<Sha256>(alloc)?;
+    let mut text = String::new(alloc);
+    for at in places {
+        text.push_str(&told(rt, alloc, &mut shards, commitment, *at)?)?;
+    }
+    Ok(text)
+}
+
 #[test]
 fn rows_that_are_no_codeword_show_no_block(rt: HostRuntime) -> Result<(), Fail> {
-    let tree = tree(rt.alloc())?;
-    let commitment = under(tree.root(), NonZeroU16::MIN.saturating_add(1));
-    let mut shards = four::<Sha256>(rt.alloc())?;
-    for (at, want) in [
-        (0u16, Verdict::Kept),
-        (1, Verdict::Garbage),
-        (2, Verdict::Kept),
-        (0, Verdict::Known),
-    ] {
-        let row = row(rt.alloc(), &tree, at)?;
-        assert!(rt;
-            gives(&rt, &mut shards, &commitment, row, &want)?,
-            "at {at}"
-        );
-    }
+    let two = NonZeroU16::MIN.saturating_add(1);
+    let commitment = under(tree(rt.alloc())?.root(), two);
+    let said = verdicts(&rt, rt.alloc(), &commitment, &[0, 1, 2, 0])?;
+    assert_eq!(rt; said.as_str(), "Kept Garbage Kept Known ");
     Ok(())
 }
 
 #[test]
 fn a_chunk_of_another_config_or_root_is_foreign(rt: HostRuntime) -> Result<(), Fail> {
-    let tree = tree(rt.alloc())?;
-    let two = NonZeroU16::MIN.saturating_add(1);
-    let mut shards = four::<Sha256>(rt.alloc())?;
+    let one = NonZeroU16::MIN;
+    let root = tree(rt.alloc())?.root();
     for commitment in [
-        under(tree.root(), NonZeroU16::MIN),
-        under(Digest32([9; 32]), two),
+        under(root, one),
+        under(Digest32([9; 32]), one.saturating_add(1)),
     ] {
-        let row = row(rt.alloc(), &tree, 0)?;
-        assert!(rt; gives(&rt, &mut shards, &commitment, row, &Verdict::Foreign)?);
+        let said = verdicts(&rt, rt.alloc(), &commitment, &[0])?;
+        assert_eq!(rt; said.as_str(), "Foreign ");
     }
     Ok(())
 }

@@ -58,6 +58,29 @@ fn take_note(tally: &mut Tally<SumHasher>, note: Note) -> Result<(), Fail> {
     Ok(())
 }
 
+// a member to which a note came
+fn with_note(tally: Tally<SumHasher>, note: Note) -> Result<Tally<SumHasher>, Fail> {
+    let mut tally = tally;
+    take_note(&mut tally, note)?;
+    Ok(tally)
+}
+
+// a member to which a vote of another came
+fn with_vote(tally: Tally<SumHasher>, signer: u16, vote: Vote) -> Result<Tally<SumHasher>, Fail> {
+    let mut tally = tally;
+    take_vote(&mut tally, signer, &vote)?;
+    Ok(tally)
+}
+
+// a member to which the nullifications of these members came
+fn with_votes(tally: Tally<SumHasher>, signers: &[u16]) -> Result<Tally<SumHasher>, Fail> {
+    let mut tally = tally;
+    for signer in signers {
+        take_vote(&mut tally, *signer, &NULLIFY)?;
+    }
+    Ok(tally)
+}
+
 fn cert(alloc: Global, vote: Vote, signers: &[u16]) -> Result<Cert, Fail>
     ensures { IfOk result (λ cert. cert ≡ record { vote = vote; signers = signers.now }) }
 {
@@ -65,19 +88,17 @@ fn cert(alloc: Global, vote: Vote, signers: &[u16]) -> Result<Cert, Fail>
     Ok(Cert { vote, signers })
 }
 
-fn cert_note(alloc: Global, vote: Vote) -> Result<Note, Fail> {
-    Ok(Note::Cert(cert(alloc, vote, &[0, 1, 2])?))
+// a member that noted a certificate of the members 0 to 2
+fn with_cert(alloc: Global, tally: Tally<SumHasher>, vote: Vote) -> Result<Tally<SumHasher>, Fail> {
+    with_note(tally, Note::Cert(cert(alloc, vote, &[0, 1, 2])?))
 }
 
 // whether member 2 owes a certificate with these signers, none where there are none, after these
 // members voted so
 fn owes(alloc: Global, signers: &[u16], own: bool, want: &[u16]) -> Result<bool, Fail> {
-    let mut tally = tally(alloc, 2)?;
-    for signer in signers {
-        take_vote(&mut tally, *signer, &NULLIFY)?;
-    }
+    let mut tally = with_votes(tally(alloc, 2)?, signers)?;
     if own {
-        take_note(&mut tally, Note::Vote(NULLIFY))?;
+        tally = with_note(tally, Note::Vote(NULLIFY))?;
     }
     has_signers(alloc, &tally, want)
 }
@@ -104,21 +125,17 @@ fn three_members_owe_a_certificate_and_two_owe_none(rt: HostRuntime) -> Result<(
     Ok(())
 }
 
-// a certificate came, and then three votes of the same
-fn with_certificate(alloc: Global) -> Result<Tally<SumHasher>, Fail> {
+// whether a certificate that came is owed after three votes of the same, and a vote is not counted
+fn is_kept(alloc: Global) -> Result<bool, Fail> {
     let mut tally = tally(alloc, 0)?;
     take_cert(&mut tally, &cert(alloc, NULLIFY, &[1, 2, 3])?)?;
-    for signer in 0..3u16 {
-        take_vote(&mut tally, signer, &NULLIFY)?;
-    }
-    Ok(tally)
+    let mut tally = with_votes(tally, &[0, 1, 2])?;
+    Ok(has_signers(alloc, &tally, &[1, 2, 3])? && !take_vote(&mut tally, 1, &NULLIFY)?)
 }
 
 #[test]
 fn a_certificate_that_came_goes_before_what_is_known(rt: HostRuntime) -> Result<(), Fail> {
-    let mut tally = with_certificate(rt.alloc())?;
-    assert!(rt; has_signers(rt.alloc(), &tally, &[1, 2, 3])?);
-    assert!(rt; !take_vote(&mut tally, 1, &NULLIFY)?);
+    assert!(rt; is_kept(rt.alloc())?);
     Ok(())
 }
 
@@ -156,9 +173,8 @@ fn second() -> Proposal {
 // the vote that member 0 owes when a certificate of this vote was noted, the leader of view 2
 // proposed, and the chunk at place 0 came
 fn vote_after(alloc: Global, vote: Vote) -> Result<Option<Vote>, Fail> {
-    let mut tally = tally(alloc, 0)?;
-    take_note(&mut tally, cert_note(alloc, vote)?)?;
-    take_vote(&mut tally, 2, &Vote::Notarize(second()))?;
+    let tally = with_cert(alloc, tally(alloc, 0)?, vote)?;
+    let mut tally = with_vote(tally, 2, Vote::Notarize(second()))?;
     tally.take_own_chunk(&second().payload, 0)?;
     Ok(tally.owed_vote())
 }
@@ -168,17 +184,18 @@ fn a_proposal_over_a_view_that_is_not_nullified_is_not_voted_for(
     rt: HostRuntime,
 ) -> Result<(), Fail> {
     let nullified = vote_after(rt.alloc(), NULLIFY)?;
-    assert!(rt; nullified == Some(Vote::Notarize(second())));
     let skipped = vote_after(rt.alloc(), Vote::Finalize(first()))?;
-    assert!(rt; skipped.is_none());
+    assert_eq!(rt;
+        (nullified, skipped),
+        (Some(Vote::Notarize(second())), None)
+    );
     Ok(())
 }
 
 // the vote that member 0 owes after it voted so and then certified the proposal of view 1
 fn vote_after_own(alloc: Global, own: Vote) -> Result<Option<Vote>, Fail> {
-    let mut tally = tally(alloc, 0)?;
-    take_note(&mut tally, Note::Vote(own))?;
-    take_note(&mut tally, Note::Certified(first()))?;
+    let tally = with_note(tally(alloc, 0)?, Note::Vote(own))?;
+    let tally = with_note(tally, Note::Certified(first()))?;
     Ok(tally.owed_vote())
 }
 
@@ -187,54 +204,47 @@ fn a_certified_proposal_is_finalized_in_a_view_that_is_not_closed(
     rt: HostRuntime,
 ) -> Result<(), Fail> {
     let voted = vote_after_own(rt.alloc(), Vote::Notarize(first()))?;
-    assert!(rt; voted == Some(Vote::Finalize(first())));
-    assert!(rt; vote_after_own(rt.alloc(), NULLIFY)?.is_none());
+    let closed = vote_after_own(rt.alloc(), NULLIFY)?;
+    assert_eq!(rt; (voted, closed), (Some(Vote::Finalize(first())), None));
     Ok(())
 }
 
-// two notarizations, of which the second one's proposal was named first
-fn notarized(alloc: Global) -> Result<Tally<SumHasher>, Fail> {
-    let mut tally = tally(alloc, 0)?;
-    take_note(&mut tally, cert_note(alloc, Vote::Notarize(first()))?)?;
-    take_note(&mut tally, cert_note(alloc, Vote::Notarize(second()))?)?;
-    take_vote(&mut tally, 3, &Vote::Notarize(second()))?;
-    Ok(tally)
+// the proposals of two notarizations, of which the second one's was named first
+fn uncertified(alloc: Global) -> Result<[Option<Proposal>; 3], Fail> {
+    let tally = with_cert(alloc, tally(alloc, 0)?, Vote::Notarize(first()))?;
+    let tally = with_cert(alloc, tally, Vote::Notarize(second()))?;
+    let tally = with_vote(tally, 3, Vote::Notarize(second()))?;
+    let (begin, next) = (tally.uncertified(0).copied(), tally.uncertified(1).copied());
+    Ok([begin, next, tally.uncertified(2).copied()])
 }
 
 #[test]
 fn notarized_proposals_are_given_once(rt: HostRuntime) -> Result<(), Fail> {
-    let tally = notarized(rt.alloc())?;
-    assert!(rt; tally.uncertified(0).copied() == Some(second()));
-    assert!(rt; tally.uncertified(1).copied() == Some(first()));
-    assert!(rt; tally.uncertified(2).is_none());
+    let want = [Some(second()), Some(first()), None];
+    assert!(rt; uncertified(rt.alloc())? == want);
     Ok(())
 }
 
-// view 1 is finalized, and view 2 is nullified
-fn in_third_view(alloc: Global) -> Result<Tally<SumHasher>, Fail> {
-    let mut tally = tally(alloc, 0)?;
-    take_note(&mut tally, cert_note(alloc, Vote::Finalize(first()))?)?;
-    let nullify = Vote::Nullify { epoch: 0, view: 2 };
-    take_note(&mut tally, cert_note(alloc, nullify)?)?;
-    Ok(tally)
+// where view 1 is finalized and view 2 is nullified: what is settled, and what is nullified in
+// both; the view, and whether the payload of view 1 is the parent in view 3 and none is in view 1
+fn third_view(alloc: Global) -> Result<([bool; 2], [bool; 2], u64, [bool; 2]), Fail> {
+    let tally = with_cert(alloc, tally(alloc, 0)?, Vote::Finalize(first()))?;
+    let tally = with_cert(alloc, tally, Vote::Nullify { epoch: 0, view: 2 })?;
+    let payload = first().payload;
+    let settled = [
+        tally.settled(0, 1) == Some(payload),
+        tally.settled(0, 2).is_some(),
+    ];
+    let nullified = [tally.nullified(0, 1), tally.nullified(0, 2)];
+    let parent = tally.propose_parent(0, 3) == Some((1, payload));
+    let none = tally.propose_parent(0, 1).is_none();
+    Ok((settled, nullified, tally.view(0), [parent, none]))
 }
 
 #[test]
 fn a_parent_is_settled_and_followed_by_nullified_views(rt: HostRuntime) -> Result<(), Fail> {
-    let tally = in_third_view(rt.alloc())?;
-    assert!(rt; tally.view(0) == 3);
-    assert!(rt; tally.propose_parent(0, 3) == Some((1, first().payload)));
-    assert!(rt; tally.propose_parent(0, 1).is_none());
-    Ok(())
-}
-
-#[test]
-fn a_view_is_settled_or_nullified(rt: HostRuntime) -> Result<(), Fail> {
-    let tally = in_third_view(rt.alloc())?;
-    assert!(rt; tally.settled(0, 1) == Some(first().payload));
-    assert!(rt; tally.settled(0, 2).is_none());
-    assert!(rt; tally.nullified(0, 2));
-    assert!(rt; !tally.nullified(0, 1));
+    let want = ([true, false], [false, true], 3, [true, true]);
+    assert_eq!(rt; third_view(rt.alloc())?, want);
     Ok(())
 }
 
@@ -275,46 +285,36 @@ fn again() -> Proposal {
 fn vote_again(alloc: Global, height: u64) -> Result<Option<Vote>, Fail>
     requires { height < 2 ^ 64 - 1 }
 {
-    let mut tally = in_two_committees(alloc, 0)?;
-    take_note(
-        &mut tally,
-        Note::Block(second().payload, block(alloc, height)),
-    )?;
-    take_note(&mut tally, Note::Certified(proposal(1, second().payload)))?;
-    take_vote(&mut tally, 2, &Vote::Notarize(again()))?;
+    let tally = in_two_committees(alloc, 0)?;
+    let tally = with_note(tally, Note::Block(second().payload, block(alloc, height)))?;
+    let tally = with_note(tally, Note::Certified(proposal(1, second().payload)))?;
+    let tally = with_vote(tally, 2, Vote::Notarize(again()))?;
     Ok(tally.owed_vote())
 }
 
 #[test]
 fn the_last_block_of_an_epoch_is_voted_for_again(rt: HostRuntime) -> Result<(), Fail> {
     let last = vote_again(rt.alloc(), 1)?;
-    assert!(rt; last == Some(Vote::Notarize(again())));
     let past = vote_again(rt.alloc(), 2)?;
-    assert!(rt; past == Some(Vote::Finalize(proposal(1, second().payload))));
+    let finalize = Vote::Finalize(proposal(1, second().payload));
+    assert_eq!(rt;
+        (last, past),
+        (Some(Vote::Notarize(again())), Some(finalize))
+    );
     Ok(())
 }
 
-// a member of two committees is in epoch 1, where a proposal is certified
-fn in_second_epoch(alloc: Global, id: u16) -> Result<Tally<SumHasher>, Fail>
-    requires { id < 5 }
-{
-    let mut tally = in_two_committees(alloc, id)?;
-    take_note(&mut tally, Note::Epoch(1, second().payload))?;
-    take_note(
-        &mut tally,
-        Note::Certified(Proposal {
-            epoch: 1,
-            ..first()
-        }),
-    )?;
-    Ok(tally)
-}
-
-// whether it is there, and owes a vote
+// whether a member of two committees, in epoch 1 where a proposal is certified, owes a vote
 fn votes_in_second_epoch(alloc: Global, id: u16) -> Result<bool, Fail>
     requires { id < 5 }
 {
-    let tally = in_second_epoch(alloc, id)?;
+    let tally = in_two_committees(alloc, id)?;
+    let tally = with_note(tally, Note::Epoch(1, second().payload))?;
+    let certified = Proposal {
+        epoch: 1,
+        ..first()
+    };
+    let tally = with_note(tally, Note::Certified(certified))?;
     if tally.epoch() != 1 {
         return Err("an epoch that is entered".into());
     }
@@ -323,7 +323,7 @@ fn votes_in_second_epoch(alloc: Global, id: u16) -> Result<bool, Fail>
 
 #[test]
 fn only_members_of_an_epoch_vote_in_it(rt: HostRuntime) -> Result<(), Fail> {
-    assert!(rt; !votes_in_second_epoch(rt.alloc(), 0)?);
-    assert!(rt; votes_in_second_epoch(rt.alloc(), 4)?);
+    let outside = votes_in_second_epoch(rt.alloc(), 0)?;
+    assert!(rt; !outside && votes_in_second_epoch(rt.alloc(), 4)?);
     Ok(())
 }

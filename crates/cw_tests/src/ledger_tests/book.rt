@@ -82,7 +82,8 @@ impl Book {
         Ok(self.replica.apply(alloc, &block))
     }
 
-    fn stop_at(&mut self, call: u64, cut: u64) {
+    /// Its disk stops at a device call from now, behind so many bytes.
+    pub(crate) fn stop_at(&mut self, call: u64, cut: u64) {
         self.replica.stop_at(call, cut, 0);
     }
 
@@ -115,7 +116,8 @@ impl Book {
     }
 }
 
-fn text<D: Debug + Drop>(alloc: Global, answer: D) -> Result<String, Fail> {
+/// An answer as text.
+pub(crate) fn text<D: Debug + Drop>(alloc: Global, answer: D) -> Result<String, Fail> {
     Ok(format!(in alloc; "{answer:?}")?)
 }
 

@@ -83,13 +83,16 @@ fn is_made_ready<A: CertifiableAutomaton<Context = u64, Digest = u64>>(automaton
 fn an_automaton_waits_and_certifies_unless_it_says_otherwise(rt: HostRuntime) -> Result<(), Fail> {
     let mut counter = Counter { last: 0 };
     assert_eq!(rt; counter.propose(rt.alloc(), 7)?, Some(7));
-    assert_eq!(rt; counter.last, 7);
-    assert!(rt; counter.verify(7, 8));
-    assert!(rt; counter.prepare(7) == Handoff::Wait);
-    assert!(rt; counter.certify(Round::zero(), 7));
-    assert!(rt; !is_made_ready(&mut counter));
-    assert!(rt; is_made_ready(&mut Stager));
-    assert!(rt; AcceptAll.prepare().is_wait());
+    let verified = counter.verify(7, 8);
+    let prepared = counter.prepare(7);
+    let certified = counter.certify(Round::zero(), 7);
+    let seen = (counter.last, verified, prepared, certified);
+    assert_eq!(rt; seen, (7, true, Handoff::Wait, true));
+    let ready = (is_made_ready(&mut counter), is_made_ready(&mut Stager));
+    assert_eq!(rt;
+        (ready, AcceptAll.prepare().is_wait()),
+        ((false, true), true)
+    );
     Ok(())
 }
 
@@ -154,8 +157,8 @@ fn told<R: Relay<Digest = u64, Plan = To> + Reporter<Activity = Vote>>(
 #[test]
 fn what_is_handed_over_is_taken_until_the_end(rt: HostRuntime) {
     let mut inbox = Inbox { room: 1, taken: 0 };
-    assert!(rt; told(&mut inbox) == [Feedback::Ok, Feedback::Closed]);
-    assert_eq!(rt; inbox.subscribe(), 1);
+    let told = told(&mut inbox);
+    assert!(rt; told == [Feedback::Ok, Feedback::Closed] && inbox.subscribe() == 1);
 }
 
 #[test]
