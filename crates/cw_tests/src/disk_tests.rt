@@ -37,6 +37,11 @@ fn log_of(alloc: Global, frames: &[&[u8]]) -> Result<Log<MemoryDisk>, Fail> {
     Ok(log)
 }
 
+// The frames and the bytes of a log of these frames.
+fn told_of(alloc: Global, frames: &[&[u8]]) -> Result<String, Fail> {
+    told(alloc, &log_of(alloc, frames)?)
+}
+
 // The frames that are found after a note and [9], before which a stop was armed and dropped.
 fn disarmed(alloc: Global) -> Result<String, Fail> {
     let mut log = log_of(alloc, &[&[], &NOTE])?;
@@ -56,7 +61,7 @@ fn a_note_takes_twenty_bytes(rt: HostRuntime) -> Result<(), Fail> {
     let note = "1 [1, 0, 0, 0, 0, 0, 0, 0, 10, 3, 1, 0, 0, 0, 0, 0, 0, 0, 1, 0]";
     let cases: [(&[&[u8]], &str); 3] = [(&[], "0 [0]"), (&[&[]], "0 [0]"), (&[&[], &NOTE], note)];
     for (frames, want) in cases {
-        assert_eq!(rt; told(alloc, &log_of(alloc, frames)?)?.as_str(), want);
+        assert_eq!(rt; told_of(alloc, frames)?.as_str(), want);
     }
     assert_eq!(rt;
         disarmed(alloc)?.as_str(),

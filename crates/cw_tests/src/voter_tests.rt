@@ -125,11 +125,16 @@ fn three_members_owe_a_certificate_and_two_owe_none(rt: HostRuntime) -> Result<(
     Ok(())
 }
 
-// whether a certificate that came is owed after three votes of the same, and a vote is not counted
-fn is_kept(alloc: Global) -> Result<bool, Fail> {
+// a certificate came, and then three votes of the same
+fn with_certificate(alloc: Global) -> Result<Tally<SumHasher>, Fail> {
     let mut tally = tally(alloc, 0)?;
     take_cert(&mut tally, &cert(alloc, NULLIFY, &[1, 2, 3])?)?;
-    let mut tally = with_votes(tally, &[0, 1, 2])?;
+    with_votes(tally, &[0, 1, 2])
+}
+
+// whether it is owed then, and one more vote of the same is not counted
+fn is_kept(alloc: Global) -> Result<bool, Fail> {
+    let mut tally = with_certificate(alloc)?;
     Ok(has_signers(alloc, &tally, &[1, 2, 3])? && !take_vote(&mut tally, 1, &NULLIFY)?)
 }
 
