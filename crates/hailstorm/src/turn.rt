@@ -14,6 +14,7 @@ ghost use Rattle.hail_script.specs.Grammar.{is_later, names_oversize};
 ghost use Rattle.hailstorm.specs.Places.{DiskHolds, SitsAs, WorksBy, IsPutOut, Makes, did, did_cut};
 ghost use Rattle.hailstorm.specs.Places.{over, rules_of, starts_again, table, turned_by};
 ghost use Rattle.hailstorm.specs.Places as places;
+ghost use Rattle.hailstorm.specs.declared.place.Place.TheVariants.{Live};
 ghost use Rattle.hailstorm.specs.Pool.{sent_in};
 ghost use Rattle.hailstorm.specs.Seats.{HasStepped, Works, out_of, rules_by};
 
@@ -106,7 +107,10 @@ fn cut_event<H: Hasher<Digest = Digest32>, R: Threads + Sync, S: Strategy>(
     match step(rt, alloc, &mut node, event, votes, strategy) {
         Ok(out) => Ok((stopped(alloc, node)?, out)),
         Err(StoreError::Disk) => Ok((stopped(alloc, node)?, nothing(alloc))),
-        Err(StoreError::NoMemory) => Err(NoMemory),
+        Err(StoreError::NoMemory) => {
+            drop(node);
+            Err(NoMemory)
+        }
         Err(_) => unreachable!(),
     }
 }
@@ -135,6 +139,69 @@ pub(crate) fn restart<H: Hasher<Digest = Digest32>, R: Threads + Sync, S: Strate
     Ok((Place::Live(seat), out))
 }
 
+// A member that runs takes the event that it was asked for.
+fn event_taken<H: Hasher<Digest = Digest32>, R: Threads + Sync, S: Strategy>(
+    rt: &R,
+    alloc: Global,
+    votes: &Table<'_>,
+    seat: Seat<H>,
+    event: &Event,
+    strategy: &S,
+) -> Result<(Seat<H>, StepOut), NoMemory>
+    requires works { Works seat }
+    requires calm { is_calm seat.log.disk ≡ true }
+    ensures steps { IfOk result
+        (λ made. HasStepped (rules_by H.digest_of seat)
+        (table votes.now.faulty.now (sent_in votes.now.pool.now)) event.now seat made.0 made.1) }
+    ensures calm { IfOk result (λ made. is_calm made.0.log.disk ≡ true) }
+{
+    let Seat { mut node } = seat;
+    match take_event(rt, alloc, votes, &mut node, event, strategy) {
+        Ok(out) => Ok((Seat { node }, out)),
+        Err(error) => {
+            drop(node);
+            Err(error)
+        }
+    }
+}
+
+// A member that runs, and is asked for something.
+fn asked_live<H: Hasher<Digest = Digest32>, R: Threads + Sync, S: Strategy>(
+    rt: &R,
+    alloc: Global,
+    script: &Script,
+    votes: &Table<'_>,
+    id: u16,
+    seat: Seat<H>,
+    ask: &Ask,
+    strategy: &S,
+) -> Result<(Place<Seat<H>>, Option<StepOut>), NoMemory>
+    requires sound { WorksBy (rules_of H.digest_of script.now) id (Live seat) }
+    requires short { asks_oversize ask.now ≡ false }
+    ensures makes { (o : Option Member) → SitsAs (Live seat) o
+        → let signed = table votes.now.faulty.now (sent_in votes.now.pool.now) in
+        IfOk result
+        (λ made. Makes o
+        (option_and_then
+        (did (rules_of H.digest_of script.now) signed (over (sent_in votes.now.pool.now)) id
+        (ask_of ask.now)) o) made.0 made.1) }
+    ensures sound { IfOk result (λ made. WorksBy (rules_of H.digest_of script.now) id made.0) }
+{
+    match event_for(alloc, votes.pool, id, ask) {
+        Ok(None) => Ok((Place::Live(seat), None)),
+        Ok(Some(event)) => {
+            let made = event_taken(rt, alloc, votes, seat, &event, strategy);
+            drop(event);
+            let (seat, out) = made?;
+            Ok((Place::Live(seat), Some(out)))
+        }
+        Err(error) => {
+            drop(seat);
+            Err(error)
+        }
+    }
+}
+
 // A member that is asked for something.
 fn asked<H: Hasher<Digest = Digest32>, R: Threads + Sync, S: Strategy>(
     rt: &R,
@@ -158,15 +225,49 @@ fn asked<H: Hasher<Digest = Digest32>, R: Threads + Sync, S: Strategy>(
     ensures sound { IfOk result (λ made. WorksBy (rules_of H.digest_of script.now) id made.0) }
 {
     match place {
-        Place::Live(seat) => match event_for(alloc, votes.pool, id, ask)? {
-            None => Ok((Place::Live(seat), None)),
-            Some(event) => {
-                let Seat { mut node } = seat;
-                let out = take_event(rt, alloc, votes, &mut node, &event, strategy)?;
-                Ok((Place::Live(Seat { node }), Some(out)))
-            }
-        },
+        Place::Live(seat) => asked_live(rt, alloc, script, votes, id, seat, ask, strategy),
         other => Ok((other, None)),
+    }
+}
+
+// A member that runs, and is asked for something, with a stop.
+fn cut_live<H: Hasher<Digest = Digest32>, R: Threads + Sync, S: Strategy>(
+    rt: &R,
+    alloc: Global,
+    script: &Script,
+    votes: &Table<'_>,
+    id: u16,
+    seat: Seat<H>,
+    stop: Stop,
+    ask: &Ask,
+    strategy: &S,
+) -> Result<(Place<Seat<H>>, Option<StepOut>), NoMemory>
+    requires sound { WorksBy (rules_of H.digest_of script.now) id (Live seat) }
+    requires short { asks_oversize ask.now ≡ false }
+    requires later { 0 < stop.call }
+    ensures makes { (o : Option Member) → SitsAs (Live seat) o
+        → let signed = table votes.now.faulty.now (sent_in votes.now.pool.now) in
+        IfOk result
+        (λ made. Makes o
+        (option_and_then
+        (did_cut (rules_of H.digest_of script.now) signed
+        (over (sent_in votes.now.pool.now)) id stop.call stop.cut stop.fill
+        (ask_of ask.now)) o) made.0 made.1) }
+    ensures sound { IfOk result (λ made. WorksBy (rules_of H.digest_of script.now) id made.0) }
+{
+    match event_for(alloc, votes.pool, id, ask) {
+        Ok(None) => Ok((Place::Live(seat), None)),
+        Ok(Some(event)) => {
+            let Seat { node } = seat;
+            let made = cut_event(rt, alloc, votes, node, stop, &event, strategy);
+            drop(event);
+            let (place, out) = made?;
+            Ok((place, Some(out)))
+        }
+        Err(error) => {
+            drop(seat);
+            Err(error)
+        }
     }
 }
 
@@ -196,14 +297,7 @@ fn cut<H: Hasher<Digest = Digest32>, R: Threads + Sync, S: Strategy>(
     ensures sound { IfOk result (λ made. WorksBy (rules_of H.digest_of script.now) id made.0) }
 {
     match place {
-        Place::Live(seat) => match event_for(alloc, votes.pool, id, ask)? {
-            None => Ok((Place::Live(seat), None)),
-            Some(event) => {
-                let Seat { node } = seat;
-                let (place, out) = cut_event(rt, alloc, votes, node, stop, &event, strategy)?;
-                Ok((place, Some(out)))
-            }
-        },
+        Place::Live(seat) => cut_live(rt, alloc, script, votes, id, seat, stop, ask, strategy),
         other => Ok((other, None)),
     }
 }

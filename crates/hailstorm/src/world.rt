@@ -361,11 +361,13 @@ fn push_closed<H: Hasher<Digest = Digest32>>(
 {
     match closed {
         None => Ok(()),
-        Some((bytes, node)) => {
-            disks.push(bytes)?;
-            nodes.push(node)?;
-            Ok(())
-        }
+        Some((bytes, node)) => match disks.push(bytes) {
+            Ok(()) => nodes.push(node),
+            Err(error) => {
+                drop(node);
+                Err(error)
+            }
+        },
     }
 }
 
@@ -378,10 +380,13 @@ fn close<H: Hasher<Digest = Digest32>>(
 {
     match place {
         Place::Faulty => Ok(None),
-        Place::Live(Seat { node }) => {
-            let bytes = copy_bytes(alloc, node.bytes())?;
-            Ok(Some((bytes, Some(node))))
-        }
+        Place::Live(Seat { node }) => match copy_bytes(alloc, node.bytes()) {
+            Ok(bytes) => Ok(Some((bytes, Some(node)))),
+            Err(error) => {
+                drop(node);
+                Err(error)
+            }
+        },
         Place::Stopped(disk, _) => Ok(Some((copy_bytes(alloc, disk.bytes())?, None))),
     }
 }
