@@ -1,12 +1,13 @@
 //! Tests of messages that are changed on their way, as a fuzzer would.
 
-use crate::cases::{cases, two};
+use crate::cases::{Case, cases, two};
 use crate::runs::{Ended, run};
 use crate::tables::WORKED;
 use cw_types::Message;
 use hailstorm::Entry;
 use std::alloc::Global;
 use std::test::Fail;
+use std::thread::Threads;
 
 // How the run ends, changed messages or not.
 const END: &str = "live acked none notes 5
@@ -23,18 +24,41 @@ done 352
 fn changed_messages_change_nothing(rt: HostRuntime) -> Result<(), Fail> {
     let alloc = rt.alloc();
     let script = third_script(alloc)?;
-    let clean = run(&rt, alloc, &script)?;
-    let fuzzed = fuzzed(alloc, &script, &clean)?;
-    let ended = run(&rt, alloc, &fuzzed)?;
-    assert_eq!(rt; empty_ones(&ended)?, 274);
-    let (_, end) = two(&ended.text, "member 0 ")?;
-    assert_eq!(rt; end, END);
+    let script = changed(&rt, alloc, &script)?;
+    let (empty, end) = idle_and_end(&rt, alloc, &script)?;
+    assert_eq!(rt; (empty, end.as_str()), (274, END));
     Ok(())
+}
+
+// A script, and lines by which each message of its run comes in each form.
+fn changed<R: Threads + Sync>(rt: &R, alloc: Global, script: &str) -> Result<String, Fail> {
+    let clean = run(rt, alloc, script)?;
+    fuzzed(alloc, script, &clean)
+}
+
+// In how many entries of a script's run nothing was sent or handed out, and how its text ends.
+fn idle_and_end<R: Threads + Sync>(
+    rt: &R,
+    alloc: Global,
+    script: &str,
+) -> Result<(u64, String), Fail> {
+    let ended = run(rt, alloc, script)?;
+    empty_and_end(alloc, &ended)
+}
+
+fn empty_and_end(alloc: Global, ended: &Ended) -> Result<(u64, String), Fail> {
+    let (_, end) = two(&ended.text, "member 0 ")?;
+    Ok((empty_ones(ended)?, String::from_str(alloc, end)?))
 }
 
 // The script of the run in which a block is handed out.
 fn third_script(alloc: Global) -> Result<String, Fail> {
-    match cases(alloc, WORKED)?.get(2) {
+    let cases = cases(alloc, WORKED)?;
+    script_of(alloc, cases.get(2))
+}
+
+fn script_of(alloc: Global, case: Option<&Case>) -> Result<String, Fail> {
+    match case {
         Some(case) => Ok(String::from_str(alloc, case.script)?),
         None => Err("a third run".into()),
     }

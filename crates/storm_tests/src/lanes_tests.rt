@@ -62,35 +62,51 @@ fn are_steps(report: &Report<SumHasher>, plain: &Report<SumHasher>, lines: &[u64
     true
 }
 
+// Whether two runs did and left the same, the second under other numbers of lines.
+fn is_same_run(report: &Report<SumHasher>, plain: &Report<SumHasher>, lines: &[u64]) -> bool {
+    are_steps(report, plain, lines)
+        && report.opening == plain.opening
+        && report.acked == plain.acked
+        && report.disks == plain.disks
+}
+
+// Whether a report is that of the plain script in which the lanes have that order.
+fn is_run_in<R: Threads + Sync>(
+    rt: &R,
+    alloc: Global,
+    order: &[u64],
+    report: &Report<SumHasher>,
+) -> Result<bool, Fail> {
+    let (plain, lines) = match order {
+        [0, 1] => (FIRST_BEFORE, [3u64, 5]),
+        [1, 0] => (SECOND_BEFORE, [5u64, 3]),
+        _ => return Err("each lane once".into()),
+    };
+    match World::run::<SumHasher, _, _>(rt, alloc, plain, &Sequential) {
+        Ok(other) => Ok(is_same_run(report, &other, &lines)),
+        Err(_) => Err("a plain report".into()),
+    }
+}
+
+// Whether two lanes behind a gate are played as the plain script in the order that is told.
+fn two_lanes<R: Threads + Wait + Sync>(rt: &R, alloc: Global, door: &Door) -> Result<bool, Fail> {
+    match World::run_lanes::<SumHasher, _, _, _>(rt, alloc, TWO, &Sequential, door) {
+        Ok((order, report)) => is_run_in(rt, alloc, order.as_slice(), &report),
+        Err(_) => Err("a report".into()),
+    }
+}
+
 // Lane 0 waits at the gate until lane 1 is there.
 #[test]
 fn two_lanes_run_beside_each_other_and_have_their_turns_in_one_order(
     rt: HostRuntime,
 ) -> Result<(), Fail> {
-    let alloc = rt.alloc();
     let door = Door {
         open: AtomicU64::new(0),
         late: AtomicU64::new(0),
     };
-    let run = World::run_lanes::<SumHasher, _, _, _>(&rt, alloc, TWO, &Sequential, &door);
-    let (order, report) = match run {
-        Ok(done) => done,
-        Err(_) => Err("a report")?,
-    };
+    assert!(rt; two_lanes(&rt, rt.alloc(), &door)?);
     assert_eq!(rt; door.late.load(Ordering::SeqCst), 0);
-    let (plain, lines) = match order.as_slice() {
-        [0, 1] => (FIRST_BEFORE, [3u64, 5]),
-        [1, 0] => (SECOND_BEFORE, [5u64, 3]),
-        _ => Err("each lane once")?,
-    };
-    let other = match World::run::<SumHasher, _, _>(&rt, alloc, plain, &Sequential) {
-        Ok(other) => other,
-        Err(_) => Err("a plain report")?,
-    };
-    assert!(rt; are_steps(&report, &other, &lines));
-    assert!(rt; report.opening == other.opening);
-    assert!(rt; report.acked == other.acked);
-    assert!(rt; report.disks == other.disks);
     Ok(())
 }
 

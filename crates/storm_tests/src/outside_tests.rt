@@ -1,6 +1,6 @@
 //! Tests of what comes from outside: words, sources and sinks that fail, and sizes.
 
-use crate::runs::{run_from, run_into, source_of};
+use crate::runs::{source_of, told_from, told_into};
 use cw_base::{MemorySink, MemorySource};
 use std::alloc::Global;
 use std::test::Fail;
@@ -39,12 +39,8 @@ fn words_ask_for_a_storm_or_are_told_the_usage(rt: HostRuntime) -> Result<(), Fa
         ("storm 7", 0, STORM),
     ] {
         let words = words_of(alloc, text)?;
-        let ended = run_from(&rt, alloc, &words, source_of(alloc, "")?)?;
-        assert_eq!(rt;
-            (ended.exit.status(), ended.text.as_str()),
-            (status, want),
-            "at {text}"
-        );
+        let (found, written) = told_from(&rt, alloc, &words, source_of(alloc, "")?)?;
+        assert_eq!(rt; (found, written.as_str()), (status, want), "at {text}");
     }
     Ok(())
 }
@@ -58,12 +54,8 @@ fn a_source_that_fails_ends_the_run_with_nothing_written(rt: HostRuntime) -> Res
         assert!(rt; 1 <= piece);
         let bytes = HEADER.as_bytes().to_vec(alloc)?;
         let source = MemorySource::new(bytes, piece, vec![in alloc; call]?);
-        let ended = run_from(&rt, alloc, &[], source)?;
-        assert_eq!(rt;
-            (ended.exit.status(), ended.text.as_str()),
-            (5, ""),
-            "at {call}"
-        );
+        let (status, text) = told_from(&rt, alloc, &[], source)?;
+        assert_eq!(rt; (status, text.as_str()), (5, ""), "at {call}");
     }
     Ok(())
 }
@@ -73,12 +65,8 @@ fn a_sink_that_fails_has_a_front_of_the_text(rt: HostRuntime) -> Result<(), Fail
     let alloc = rt.alloc();
     for (call, want) in [(1u64, ""), (2, "open 0\nhan"), (3, "open 0\nhand 0 0 0202")] {
         let sink = MemorySink::new(alloc, 10, vec![in alloc; call]?)?;
-        let ended = run_into(&rt, alloc, &[], source_of(alloc, HEADER)?, sink)?;
-        assert_eq!(rt;
-            (ended.exit.status(), ended.text.as_str()),
-            (6, want),
-            "at {call}"
-        );
+        let (status, text) = told_into(&rt, alloc, &[], source_of(alloc, HEADER)?, sink)?;
+        assert_eq!(rt; (status, text.as_str()), (6, want), "at {call}");
     }
     Ok(())
 }
@@ -99,8 +87,8 @@ fn what_is_too_large_is_told(rt: HostRuntime) -> Result<(), Fail> {
         let mut bytes = front.as_bytes().to_vec(alloc)?;
         bytes.resize(size, b'0')?;
         let source = MemorySource::new(bytes, 65_536, Vec::new(alloc));
-        let ended = run_from(&rt, alloc, &[], source)?;
-        assert_eq!(rt; (ended.exit.status(), ended.text.as_str()), (3, want));
+        let (status, text) = told_from(&rt, alloc, &[], source)?;
+        assert_eq!(rt; (status, text.as_str()), (3, want));
     }
     Ok(())
 }

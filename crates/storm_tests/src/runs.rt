@@ -15,11 +15,6 @@ pub(crate) struct Ended {
 }
 
 impl Ended {
-    /// The exit status.
-    pub(crate) fn status(&self, alloc: Global) -> Result<String, Fail> {
-        Ok(format!(in alloc; "{}", self.exit.status())?)
-    }
-
     /// The report of a run that is done.
     pub(crate) fn report(&self) -> Result<&Report<SumHasher>, Fail> {
         match &self.exit {
@@ -42,7 +37,17 @@ impl Ended {
 /// Runs a script.
 pub(crate) fn run<R: Threads + Sync>(rt: &R, alloc: Global, script: &str) -> Result<Ended, Fail> {
     let source = source_of(alloc, script)?;
-    run_from(rt, alloc, &[], source)
+    run_into(rt, alloc, &[], source, sink_of(alloc)?)
+}
+
+/// The exit status of a script's run, and what it wrote.
+pub(crate) fn told<R: Threads + Sync>(
+    rt: &R,
+    alloc: Global,
+    script: &str,
+) -> Result<(u8, String), Fail> {
+    let source = source_of(alloc, script)?;
+    told_from(rt, alloc, &[], source)
 }
 
 /// A source of that text.
@@ -51,19 +56,36 @@ pub(crate) fn source_of(alloc: Global, text: &str) -> Result<MemorySource, Fail>
     Ok(MemorySource::new(bytes, 4096, Vec::new(alloc)))
 }
 
-/// Runs the program on words and a source, over a sink that takes 65,536 bytes.
-pub(crate) fn run_from<R: Threads + Sync>(
+// A sink that takes 65,536 bytes.
+fn sink_of(alloc: Global) -> Result<MemorySink, Fail> {
+    Ok(MemorySink::new(alloc, 4096, Vec::new(alloc))?)
+}
+
+/// The exit status of the program on words and a source, and what it wrote.
+pub(crate) fn told_from<R: Threads + Sync>(
     rt: &R,
     alloc: Global,
     words: &[String],
     source: MemorySource,
-) -> Result<Ended, Fail> {
-    let sink = MemorySink::new(alloc, 4096, Vec::new(alloc))?;
-    run_into(rt, alloc, words, source, sink)
+) -> Result<(u8, String), Fail> {
+    let sink = sink_of(alloc)?;
+    told_into(rt, alloc, words, source, sink)
 }
 
-/// Runs the program on words, a source and a sink.
-pub(crate) fn run_into<R: Threads + Sync>(
+/// The same on words, a source and a sink.
+pub(crate) fn told_into<R: Threads + Sync>(
+    rt: &R,
+    alloc: Global,
+    words: &[String],
+    source: MemorySource,
+    sink: MemorySink,
+) -> Result<(u8, String), Fail> {
+    let Ended { exit, text } = run_into(rt, alloc, words, source, sink)?;
+    Ok((exit.status(), text))
+}
+
+// Runs the program on words, a source and a sink.
+fn run_into<R: Threads + Sync>(
     rt: &R,
     alloc: Global,
     words: &[String],
@@ -81,6 +103,15 @@ pub(crate) fn run_into<R: Threads + Sync>(
         &mut sink,
         &Sequential,
     );
+    with_text(alloc, exit, &sink)
+}
+
+// A run that ended so, and wrote into that sink.
+fn with_text(
+    alloc: Global,
+    exit: Exit<Report<SumHasher>>,
+    sink: &MemorySink,
+) -> Result<Ended, Fail> {
     let text = String::from_utf8_lossy(alloc, sink.bytes())?;
     Ok(Ended { exit, text })
 }

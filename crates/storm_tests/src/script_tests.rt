@@ -173,25 +173,41 @@ const REFUSED_LANES: [(&[u8], RunError); 8] = [
 ];
 
 #[test]
-fn lanes_are_counted(rt: HostRuntime) -> Result<(), Fail> {
-    let alloc = rt.alloc();
+fn texts_without_lanes_are_refused(rt: HostRuntime) {
     for (text, cause) in &REFUSED_LANES {
-        assert!(rt; has_no_lanes(alloc, text, cause));
+        assert!(rt; has_no_lanes(rt.alloc(), text, cause));
     }
-    let script = match LaneScript::parse(alloc, b"cluster 4 3\nack 0\nlane\nack 1\nlane\nack 2") {
-        Ok(script) => script,
-        Err(_) => Err("refused")?,
-    };
-    assert_eq!(rt; script.script().events(), 3);
-    assert!(rt; script.numbers() == [2, 4, 6].as_slice());
-    assert!(rt; script.sizes() == [1, 1].as_slice());
+}
+
+// How many events a script with lanes has, the numbers of their lines, and how many each lane has.
+fn counts(alloc: Global, script: &LaneScript) -> Result<String, Fail> {
+    let events = script.script().events();
+    Ok(format!(in alloc; "{events} {:?} {:?}", script.numbers(), script.sizes())?)
+}
+
+fn counted(alloc: Global, text: &[u8]) -> Result<String, Fail> {
+    match LaneScript::parse(alloc, text) {
+        Ok(script) => counts(alloc, &script),
+        Err(_) => Err("a script with lanes".into()),
+    }
+}
+
+// A script of so many empty lanes.
+fn empty_lanes(alloc: Global, count: usize) -> Result<Vec<u8>, Fail> {
     let mut text = Vec::from_slice(alloc, b"cluster 4 3\n")?;
-    for _lane in 0..64 {
+    for _lane in 0..count {
         text.extend_from_slice(b"lane\n")?;
     }
-    assert!(rt; LaneScript::parse(alloc, &text).is_ok());
-    text.extend_from_slice(b"lane\n")?;
-    assert!(rt; has_no_lanes(alloc, &text, &RunError::Syntax(66)));
+    Ok(text)
+}
+
+#[test]
+fn lanes_are_counted(rt: HostRuntime) -> Result<(), Fail> {
+    let alloc = rt.alloc();
+    let text = b"cluster 4 3\nack 0\nlane\nack 1\nlane\nack 2";
+    assert_eq!(rt; counted(alloc, text)?.as_str(), "3 [2, 4, 6] [1, 1]");
+    assert!(rt; !counted(alloc, &empty_lanes(alloc, 64)?)?.is_empty());
+    assert!(rt; has_no_lanes(alloc, &empty_lanes(alloc, 65)?, &RunError::Syntax(66)));
     Ok(())
 }
 

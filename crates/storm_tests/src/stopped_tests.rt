@@ -1,7 +1,7 @@
 //! Tests of a step that is stopped.
 
 use crate::cases::{cases, two};
-use crate::runs::run;
+use crate::runs::told;
 use crate::tables::STOPPED;
 use std::test::Fail;
 
@@ -13,8 +13,8 @@ fn a_stopped_step_is_kept_whole_or_lost_whole(rt: HostRuntime) -> Result<(), Fai
         let (front, back) = two(case.script, "STOP")?;
         for stop in case.name.split(",") {
             let script = format!(in alloc; "{front}{stop}{back}")?;
-            let ended = run(&rt, alloc, &script)?;
-            assert_eq!(rt; ended.text, case.text, "at {stop}");
+            let (_, text) = told(&rt, alloc, &script)?;
+            assert_eq!(rt; text, case.text, "at {stop}");
             count = count.saturating_add(1);
         }
     }

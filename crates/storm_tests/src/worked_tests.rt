@@ -1,7 +1,7 @@
 //! Tests of runs whose texts are known.
 
-use crate::cases::cases;
-use crate::runs::run;
+use crate::cases::{Case, cases};
+use crate::runs::{run, told};
 use crate::tables::{BOUNDARY, REFUSED, REPEATED, WORKED};
 use std::alloc::Global;
 use std::test::Fail;
@@ -19,15 +19,30 @@ fn runs_end_with_the_texts_of_the_tables(rt: HostRuntime) -> Result<(), Fail> {
 // The name of the first run of a table that ends otherwise, and what it wrote; empty where all end
 // so.
 fn first_wrong<R: Threads + Sync>(rt: &R, alloc: Global, table: &str) -> Result<String, Fail> {
-    for case in cases(alloc, table)? {
-        let ended = run(rt, alloc, case.script)?;
-        if ended.status(alloc)?.as_str() != case.status || ended.text != case.text {
-            let name = case.name;
-            let text = ended.text;
-            return Ok(format!(in alloc; "{name}:\n{text}")?);
+    let cases = cases(alloc, table)?;
+    wrong_of(rt, alloc, &cases)
+}
+
+fn wrong_of<R: Threads + Sync>(rt: &R, alloc: Global, cases: &[Case]) -> Result<String, Fail> {
+    for case in cases {
+        let wrong = wrong_text(rt, alloc, case)?;
+        if !wrong.is_empty() {
+            return Ok(wrong);
         }
     }
     Ok(String::new(alloc))
+}
+
+// The same of one run.
+fn wrong_text<R: Threads + Sync>(rt: &R, alloc: Global, case: &Case) -> Result<String, Fail> {
+    let (status, text) = told(rt, alloc, case.script)?;
+    let name = case.name;
+    let found = format!(in alloc; "{status} {name}:\n{text}")?;
+    let want = format!(in alloc; "{} {name}:\n{}", case.status, case.text)?;
+    if found == want {
+        return Ok(String::new(alloc));
+    }
+    Ok(found)
 }
 
 // Scripts, and the disk of member 0 after their runs.
@@ -43,12 +58,17 @@ cut 1 3 255 timeout 0 1
 00000000ffffffffffffffffffffffffffffffff
 ";
 
+// The disk of member 0 after a script's run.
+fn disk_after<R: Threads + Sync>(rt: &R, alloc: Global, script: &str) -> Result<String, Fail> {
+    let ended = run(rt, alloc, script)?;
+    ended.first_disk(alloc)
+}
+
 #[test]
 fn disks_hold_what_was_written(rt: HostRuntime) -> Result<(), Fail> {
     let alloc = rt.alloc();
     for case in cases(alloc, DISKS)? {
-        let ended = run(&rt, alloc, case.script)?;
-        let disk = ended.first_disk(alloc)?;
+        let disk = disk_after(&rt, alloc, case.script)?;
         assert_eq!(rt; disk, case.text, "at {}", case.name);
     }
     Ok(())
