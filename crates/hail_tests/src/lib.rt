@@ -14,3 +14,5 @@ mod marshal_tests;
 mod node_tests;
 #[cfg(test)]
 mod sessions;
+#[cfg(test)]
+mod tables;

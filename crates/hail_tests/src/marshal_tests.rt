@@ -3,22 +3,19 @@
 mod blocks;
 mod calls;
 mod store;
+mod tables;
 
 use crate::disks::disk_of;
-use blocks::{block_in, chain, rivals};
-use calls::StoreCall::{
-    Acknowledge, Ancestry, At, Cancel, Certify, CountAt, Deliver, DeliverRun, Final, Finalization,
-    Floor, Has, Latest, Of, Process, Prune, Report, ReportTo, Restart, SetFloor, Tickets, Verify,
-    VerifyTo, WatchCommitment, WatchDigest,
-};
+use crate::tables::{count_of, head_and_rest};
 use calls::first_wrong;
 use cw_base::SumHasher;
-use cw_types::{Note, Vote, genesis_commitment};
-use marshal::{MarshalError, notes_on};
+use cw_types::{Note, Vote};
+use marshal::{Marshal, MarshalError, notes_on};
 use node_disk::{MemoryDisk, StoreError};
 use std::alloc::Global;
 use std::test::Fail;
 use store::open;
+use tables::STORES;
 
 // The disk after a step that notes a Nullify vote of view 1.
 const ONE_NOTE: [u8; 20] = [1, 0, 0, 0, 0, 0, 0, 0, 10, 3, 1, 0, 0, 0, 0, 0, 0, 0, 1, 0];
@@ -41,19 +38,39 @@ fn found(alloc: Global, bytes: &[u8]) -> Result<Result<usize, MarshalError>, Fai
     Ok(started)
 }
 
-#[test]
-fn a_staged_note_takes_twenty_bytes(rt: HostRuntime) -> Result<(), Fail> {
-    let alloc = rt.alloc();
-    let Ok(mut marshal) = open(alloc, 3, MemoryDisk::new(alloc, Vec::new(alloc)))? else {
-        return Err("a store on a new disk".into());
-    };
+// How many notes a store has, how many of them its last frame has, and the bytes of its disk.
+fn told(alloc: Global, marshal: &Marshal<SumHasher, MemoryDisk>) -> Result<String, Fail> {
+    let notes = marshal.notes().len();
+    let last = marshal.last_frame().len();
+    Ok(format!(in alloc; "{notes} {last} {:?}\n", marshal.bytes())?)
+}
+
+// That of a store that stages a note, and behind each of two commits.
+fn stage_and_commit(
+    alloc: Global,
+    marshal: &mut Marshal<SumHasher, MemoryDisk>,
+) -> Result<String, Fail> {
     marshal.stage(NULLIFY)?;
-    assert_eq!(rt; (marshal.notes().len(), marshal.last_frame().len()), (1, 0));
+    let mut text = told(alloc, marshal)?;
     for _ in 0..2 {
         marshal.commit()?;
-        assert_eq!(rt; marshal.bytes(), ONE_NOTE.as_slice());
-        assert_eq!(rt; (marshal.notes().len(), marshal.last_frame().len()), (1, 1));
+        text.push_str(&told(alloc, marshal)?)?;
     }
+    Ok(text)
+}
+
+fn committed_twice(alloc: Global) -> Result<String, Fail> {
+    match open(alloc, 3, MemoryDisk::new(alloc, Vec::new(alloc)))? {
+        Ok(mut marshal) => stage_and_commit(alloc, &mut marshal),
+        Err(error) => Err(Fail::from(error)),
+    }
+}
+
+#[test]
+fn a_staged_note_takes_twenty_bytes(rt: HostRuntime) -> Result<(), Fail> {
+    let note = format!(in rt.alloc(); "1 1 {ONE_NOTE:?}\n")?;
+    let want = format!(in rt.alloc(); "1 0 [0]\n{note}{note}")?;
+    assert_eq!(rt; committed_twice(rt.alloc())?, want);
     Ok(())
 }
 
@@ -107,24 +124,37 @@ fn a_log_is_cut_at_every_byte(rt: HostRuntime) -> Result<(), Fail> {
     Ok(())
 }
 
-// What a start answers, and what its first commit does, where the device call of this number fails;
+// How many notes a start finds on a disk.
+fn found_on(alloc: Global, disk: MemoryDisk) -> Result<usize, Fail> {
+    match open(alloc, 3, disk)? {
+        Ok(marshal) => Ok(marshal.notes().len()),
+        Err(error) => Err(Fail::from(error)),
+    }
+}
+
+// What two commits do where the device call of this number fails, or what a start answers, twice;
 // and how many notes a start finds afterwards.
 fn with_failing(
     alloc: Global,
     call: u64,
 ) -> Result<(Result<(), MarshalError>, Result<(), MarshalError>, usize), Fail> {
     let disk = MemoryDisk::new(alloc, vec![in alloc; call]?);
-    let mut marshal = match open(alloc, 3, disk)? {
-        Ok(marshal) => marshal,
-        Err(error) => return Ok((Err(error), Err(error), 0)),
-    };
+    match open(alloc, 3, disk)? {
+        Ok(mut marshal) => {
+            let (first, second) = commit_twice(&mut marshal)?;
+            let notes = found_on(alloc, marshal.into_disk().reopen())?;
+            Ok((first, second, notes))
+        }
+        Err(error) => Ok((Err(error), Err(error), 0)),
+    }
+}
+
+fn commit_twice(
+    marshal: &mut Marshal<SumHasher, MemoryDisk>,
+) -> Result<(Result<(), MarshalError>, Result<(), MarshalError>), Fail> {
     marshal.stage(NULLIFY)?;
     let first = marshal.commit();
-    let second = marshal.commit();
-    match open(alloc, 3, marshal.into_disk().reopen())? {
-        Ok(again) => Ok((first, second, again.notes().len())),
-        Err(error) => Err(Fail::from(error)),
-    }
+    Ok((first, marshal.commit()))
 }
 
 #[test]
@@ -158,16 +188,24 @@ fn with_stop(
     cut: u64,
     fill: u8,
 ) -> Result<(Result<(), MarshalError>, usize), Fail> {
-    let Ok(mut marshal) = open(alloc, 3, MemoryDisk::new(alloc, Vec::new(alloc)))? else {
-        return Err("a store on a new disk".into());
-    };
-    marshal.stage(NULLIFY)?;
-    marshal.stop_at(call, cut, fill);
-    let first = marshal.commit();
-    match open(alloc, 3, marshal.into_disk().reopen())? {
-        Ok(again) => Ok((first, again.notes().len())),
+    match open(alloc, 3, MemoryDisk::new(alloc, Vec::new(alloc)))? {
+        Ok(mut marshal) => {
+            let first = commit_stopped(&mut marshal, call, cut, fill)?;
+            Ok((first, found_on(alloc, marshal.into_disk().reopen())?))
+        }
         Err(error) => Err(Fail::from(error)),
     }
+}
+
+fn commit_stopped(
+    marshal: &mut Marshal<SumHasher, MemoryDisk>,
+    call: u64,
+    cut: u64,
+    fill: u8,
+) -> Result<Result<(), MarshalError>, Fail> {
+    marshal.stage(NULLIFY)?;
+    marshal.stop_at(call, cut, fill);
+    Ok(marshal.commit())
 }
 
 #[test]
@@ -189,359 +227,12 @@ fn a_stop_leaves_the_frame_or_none(rt: HostRuntime) -> Result<(), Fail> {
 }
 
 #[test]
-fn proposed_success_implies_recoverable_after_restart(rt: HostRuntime) -> Result<(), Fail> {
+fn stores_answer_by_the_tables(rt: HostRuntime) -> Result<(), Fail> {
     let alloc = rt.alloc();
-    let blocks = chain(&rt, alloc, 1, 1)?;
-    let table = [
-        (Has(1), "false"),
-        (Verify(1), "true"),
-        (Has(1), "true"),
-        (Restart, "None"),
-        (Has(1), "true"),
-    ];
-    assert_eq!(rt; first_wrong(&rt, alloc, 3, &blocks, &table)?, None);
-    Ok(())
-}
-
-#[test]
-fn verified_success_implies_recoverable_after_restart(rt: HostRuntime) -> Result<(), Fail> {
-    let alloc = rt.alloc();
-    let blocks = chain(&rt, alloc, 1, 3)?;
-    let table = [
-        (Verify(1), "true"),
-        (Restart, "None"),
-        (Has(1), "true"),
-        (Verify(2), "true"),
-        (Restart, "None"),
-        (Has(2), "true"),
-        (Verify(3), "true"),
-        (Restart, "None"),
-        (Has(3), "true"),
-    ];
-    assert_eq!(rt; first_wrong(&rt, alloc, 3, &blocks, &table)?, None);
-    Ok(())
-}
-
-#[test]
-fn certified_success_implies_recoverable_after_restart(rt: HostRuntime) -> Result<(), Fail> {
-    let alloc = rt.alloc();
-    let blocks = chain(&rt, alloc, 1, 3)?;
-    let table = [
-        (Certify(1, 5), "true"),
-        (Restart, "None"),
-        (Has(1), "true"),
-        (Certify(2, 5), "true"),
-        (Restart, "None"),
-        (Has(2), "true"),
-        (Certify(3, 5), "true"),
-        (Restart, "None"),
-        (Has(3), "true"),
-    ];
-    assert_eq!(rt; first_wrong(&rt, alloc, 3, &blocks, &table)?, None);
-    Ok(())
-}
-
-#[test]
-fn verified_after_restart_reverify_same_round_implies_recoverable(
-    rt: HostRuntime,
-) -> Result<(), Fail> {
-    let alloc = rt.alloc();
-    let blocks = rivals(&rt, alloc)?;
-    let table = [
-        (Verify(1), "true"),
-        (Restart, "None"),
-        (Has(1), "true"),
-        (Verify(2), "true"),
-        (Restart, "None"),
-        (Has(2), "true"),
-        (Has(1), "true"),
-        (Verify(1), "true"),
-        (Restart, "None"),
-        (Has(1), "true"),
-        (Has(2), "true"),
-    ];
-    assert_eq!(rt; first_wrong(&rt, alloc, 3, &blocks, &table)?, None);
-    Ok(())
-}
-
-#[test]
-fn certify_after_restart_reverify_same_round_implies_recoverable(
-    rt: HostRuntime,
-) -> Result<(), Fail> {
-    let alloc = rt.alloc();
-    let blocks = rivals(&rt, alloc)?;
-    let table = [
-        (Verify(1), "true"),
-        (Restart, "None"),
-        (Certify(2, 1), "true"),
-        (Restart, "None"),
-        (Has(1), "true"),
-        (Has(2), "true"),
-    ];
-    assert_eq!(rt; first_wrong(&rt, alloc, 3, &blocks, &table)?, None);
-    Ok(())
-}
-
-#[test]
-fn delivery_visibility_implies_recoverable_after_restart(rt: HostRuntime) -> Result<(), Fail> {
-    let alloc = rt.alloc();
-    let blocks = chain(&rt, alloc, 1, 5)?;
-    let table = [
-        (VerifyTo(5), "5"),
-        (ReportTo(5), "5"),
-        (Deliver, "[0, 1, 2, 3, 4, 5]"),
-        (Restart, "None"),
-        (Final, "5"),
-    ];
-    assert_eq!(rt; first_wrong(&rt, alloc, 10, &blocks, &table)?, None);
-    Ok(())
-}
-
-#[test]
-fn ack_pipeline_backlog_persists_on_restart(rt: HostRuntime) -> Result<(), Fail> {
-    let alloc = rt.alloc();
-    let blocks = chain(&rt, alloc, 1, 5)?;
-    let table = [
-        (Deliver, "[0]"),
-        (Acknowledge, "Some(0)"),
-        (VerifyTo(5), "5"),
-        (ReportTo(5), "5"),
-        (Deliver, "[1, 2, 3]"),
-        (Acknowledge, "Some(1)"),
-        (Deliver, "[4]"),
-        (Acknowledge, "Some(2)"),
-        (Deliver, "[5]"),
-        (Acknowledge, "Some(3)"),
-        (Restart, "Some(3)"),
-        (Deliver, "[4, 5]"),
-        (Acknowledge, "Some(4)"),
-        (Deliver, "[]"),
-        (Acknowledge, "Some(5)"),
-        (Acknowledge, "None"),
-    ];
-    assert_eq!(rt; first_wrong(&rt, alloc, 3, &blocks, &table)?, None);
-    Ok(())
-}
-
-#[test]
-fn get_info_basic_queries_present_and_missing(rt: HostRuntime) -> Result<(), Fail> {
-    let alloc = rt.alloc();
-    let blocks = chain(&rt, alloc, 1, 1)?;
-    let table = [
-        (Latest, "None"),
-        (At(0), "Some(0)"),
-        (Of(0), "Some(0)"),
-        (At(1), "None"),
-        (Of(1), "None"),
-        (Verify(1), "true"),
-        (Of(1), "Some(1)"),
-        (At(1), "None"),
-        (Report(1, 1), "true"),
-        (At(1), "Some(1)"),
-    ];
-    assert_eq!(rt; first_wrong(&rt, alloc, 3, &blocks, &table)?, None);
-    Ok(())
-}
-
-#[test]
-fn get_info_latest_progression_multiple_finalizations(rt: HostRuntime) -> Result<(), Fail> {
-    let alloc = rt.alloc();
-    let blocks = chain(&rt, alloc, 1, 4)?;
-    let table = [
-        (Verify(1), "true"),
-        (Report(1, 1), "true"),
-        (Latest, "Some(1)"),
-        (Verify(2), "true"),
-        (Report(2, 2), "true"),
-        (Latest, "Some(2)"),
-        (Verify(3), "true"),
-        (Report(3, 3), "true"),
-        (Latest, "Some(3)"),
-        (Verify(4), "true"),
-        (Report(4, 4), "true"),
-        (Latest, "Some(4)"),
-    ];
-    assert_eq!(rt; first_wrong(&rt, alloc, 3, &blocks, &table)?, None);
-    Ok(())
-}
-
-#[test]
-fn get_block_by_height_and_latest(rt: HostRuntime) -> Result<(), Fail> {
-    let alloc = rt.alloc();
-    let blocks = chain(&rt, alloc, 1, 3)?;
-    let table = [
-        (Latest, "None"),
-        (At(0), "Some(0)"),
-        (VerifyTo(3), "3"),
-        (ReportTo(3), "3"),
-        (At(1), "Some(1)"),
-        (At(2), "Some(2)"),
-        (At(3), "Some(3)"),
-        (At(4), "None"),
-        (Latest, "Some(3)"),
-    ];
-    assert_eq!(rt; first_wrong(&rt, alloc, 3, &blocks, &table)?, None);
-    Ok(())
-}
-
-#[test]
-fn get_block_by_commitment_from_sources_and_missing(rt: HostRuntime) -> Result<(), Fail> {
-    let alloc = rt.alloc();
-    let blocks = chain(&rt, alloc, 1, 3)?;
-    let table = [
-        (Verify(1), "true"),
-        (Certify(2, 2), "true"),
-        (Has(1), "true"),
-        (Has(2), "true"),
-        (Has(3), "false"),
-    ];
-    assert_eq!(rt; first_wrong(&rt, alloc, 3, &blocks, &table)?, None);
-    Ok(())
-}
-
-// Of two finalizations of one block the first stays.
-#[test]
-fn a_round_has_a_verified_and_a_certified_block(rt: HostRuntime) -> Result<(), Fail> {
-    let alloc = rt.alloc();
-    let blocks = rivals(&rt, alloc)?;
-    let table = [
-        (Verify(1), "true"),
-        (Certify(2, 1), "true"),
-        (Has(1), "true"),
-        (Has(2), "true"),
-        (Report(1, 1), "true"),
-        (Report(1, 2), "true"),
-        (Report(1, 2), "false"),
-        (Finalization(1), "Some(1)"),
-    ];
-    assert_eq!(rt; first_wrong(&rt, alloc, 3, &blocks, &table)?, None);
-    Ok(())
-}
-
-// Behind the chain from height 100 to 160 stands a block of height 5.
-#[test]
-fn a_floor_jumps_over_heights(rt: HostRuntime) -> Result<(), Fail> {
-    let alloc = rt.alloc();
-    let mut blocks = chain(&rt, alloc, 100, 160)?;
-    blocks.push(block_in(&rt, alloc, 5, 5, &genesis_commitment::<SumHasher>(), 7)?)?;
-    let table = [
-        (Deliver, "[0]"),
-        (SetFloor(1, 100), "false"),
-        (Floor, "None"),
-        (Report(61, 160), "true"),
-        (VerifyTo(61), "61"),
-        (Floor, "Some(100)"),
-        (DeliverRun, "Some((100, 160, 61))"),
-        (CountAt(1, 99), "0"),
-        (CountAt(100, 160), "61"),
-        (At(100), "Some(1)"),
-        (Verify(62), "false"),
-        (Has(62), "false"),
-    ];
-    assert_eq!(rt; first_wrong(&rt, alloc, 100, &blocks, &table)?, None);
-    Ok(())
-}
-
-#[test]
-fn pruned_blocks_are_gone(rt: HostRuntime) -> Result<(), Fail> {
-    let alloc = rt.alloc();
-    let blocks = chain(&rt, alloc, 1, 20)?;
-    let table = [
-        (VerifyTo(20), "20"),
-        (ReportTo(20), "20"),
-        (Process, "21"),
-        (Prune(25), "false"),
-        (Final, "20"),
-        (Prune(10), "true"),
-        (Final, "11"),
-        (Prune(10), "false"),
-        (Final, "11"),
-        (Prune(20), "true"),
-        (Final, "1"),
-        (Restart, "Some(20)"),
-        (Final, "1"),
-        (At(20), "Some(20)"),
-    ];
-    assert_eq!(rt; first_wrong(&rt, alloc, 4, &blocks, &table)?, None);
-    Ok(())
-}
-
-#[test]
-fn ancestry_goes_down_to_genesis(rt: HostRuntime) -> Result<(), Fail> {
-    let alloc = rt.alloc();
-    let blocks = chain(&rt, alloc, 1, 5)?;
-    let table = [
-        (Ancestry(5), "[]"),
-        (VerifyTo(5), "5"),
-        (ReportTo(5), "5"),
-        (Ancestry(5), "[5, 4, 3, 2, 1, 0]"),
-    ];
-    assert_eq!(rt; first_wrong(&rt, alloc, 3, &blocks, &table)?, None);
-    Ok(())
-}
-
-#[test]
-fn subscribe_basic_block_delivery(rt: HostRuntime) -> Result<(), Fail> {
-    let alloc = rt.alloc();
-    let blocks = chain(&rt, alloc, 1, 1)?;
-    let table = [
-        (WatchDigest(1), "0"),
-        (Tickets, "[]"),
-        (Verify(1), "true"),
-        (Tickets, "[(0, 1)]"),
-        (Tickets, "[]"),
-    ];
-    assert_eq!(rt; first_wrong(&rt, alloc, 3, &blocks, &table)?, None);
-    Ok(())
-}
-
-#[test]
-fn subscribe_multiple_subscriptions(rt: HostRuntime) -> Result<(), Fail> {
-    let alloc = rt.alloc();
-    let blocks = chain(&rt, alloc, 1, 2)?;
-    let table = [
-        (WatchDigest(1), "0"),
-        (WatchDigest(2), "1"),
-        (WatchCommitment(1), "2"),
-        (Verify(1), "true"),
-        (Tickets, "[(0, 1), (2, 1)]"),
-        (Verify(2), "true"),
-        (Tickets, "[(1, 2)]"),
-    ];
-    assert_eq!(rt; first_wrong(&rt, alloc, 3, &blocks, &table)?, None);
-    Ok(())
-}
-
-#[test]
-fn subscribe_canceled_subscriptions(rt: HostRuntime) -> Result<(), Fail> {
-    let alloc = rt.alloc();
-    let blocks = chain(&rt, alloc, 1, 2)?;
-    let table = [
-        (WatchDigest(1), "0"),
-        (WatchDigest(2), "1"),
-        (Cancel(1), "true"),
-        (Cancel(1), "false"),
-        (VerifyTo(2), "2"),
-        (ReportTo(2), "2"),
-        (Tickets, "[(0, 1)]"),
-        (Cancel(0), "false"),
-    ];
-    assert_eq!(rt; first_wrong(&rt, alloc, 3, &blocks, &table)?, None);
-    Ok(())
-}
-
-#[test]
-fn subscribe_blocks_from_different_sources(rt: HostRuntime) -> Result<(), Fail> {
-    let alloc = rt.alloc();
-    let blocks = chain(&rt, alloc, 1, 3)?;
-    let table = [
-        (WatchCommitment(1), "0"),
-        (WatchCommitment(2), "1"),
-        (WatchCommitment(3), "2"),
-        (Verify(1), "true"),
-        (Certify(3, 3), "true"),
-        (Tickets, "[(0, 1), (2, 3)]"),
-    ];
-    assert_eq!(rt; first_wrong(&rt, alloc, 3, &blocks, &table)?, None);
+    for part in STORES.split("== ").skip(1) {
+        let (name, table) = head_and_rest(part)?;
+        assert_eq!(rt; first_wrong(&rt, alloc, table)?, None, "{name}");
+    }
+    assert_eq!(rt; count_of(STORES), 19);
     Ok(())
 }

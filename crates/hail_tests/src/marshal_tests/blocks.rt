@@ -17,7 +17,7 @@ pub(crate) struct Made {
 }
 
 /// The block of a height, in a view, over another, whose payload is one byte 97 times.
-pub(crate) fn block_in<R: Threads + Sync>(
+fn block_in<R: Threads + Sync>(
     rt: &R,
     alloc: Global,
     height: u64,
@@ -59,6 +59,18 @@ pub(crate) fn chain<R: Threads + Sync>(
         below = made.commitment;
         blocks.push(made)?;
     }
+    Ok(blocks)
+}
+
+/// The same, and a block of height 5 and view 5 over the first block behind them.
+pub(crate) fn chain_and_one<R: Threads + Sync>(
+    rt: &R,
+    alloc: Global,
+    first: u64,
+    last: u64,
+) -> Result<Vec<Made>, Fail> {
+    let mut blocks = chain(rt, alloc, first, last)?;
+    blocks.push(block_in(rt, alloc, 5, 5, &genesis_commitment::<SumHasher>(), 7)?)?;
     Ok(blocks)
 }
 

@@ -1,7 +1,8 @@
 //! Calls of a store on blocks by their places in a list, and what each answers, as text.
 
-use super::blocks::{Made, at, finalization};
+use super::blocks::{Made, at, chain, chain_and_one, finalization, rivals};
 use super::store::Store;
+use crate::tables::{Call, call_and_answer, call_in, head_and_rest, two};
 use cw_base::Digest32;
 use cw_types::{ChainBlock, Commitment, Height};
 use marshal::Identifier;
@@ -65,26 +66,92 @@ pub(crate) enum StoreCall {
     Ancestry(usize),
 }
 
-/// The place of the first call of a table that answers otherwise on a new store; none where all
-/// answer so.
+/// The number of the first call of a table that answers otherwise on a new store, and its answer;
+/// none where all answer so.
 pub(crate) fn first_wrong<R: Threads + Sync>(
     rt: &R,
     alloc: Global,
-    backlog: u64,
+    table: &str,
+) -> Result<Option<(usize, String)>, Fail> {
+    let (head, lines) = head_and_rest(table)?;
+    let (backlog, list) = two(head, " ")?;
+    let blocks = blocks_of(rt, alloc, call_in(list)?)?;
+    let mut store = Store::new(alloc, backlog.parse::<u64>()?)?;
+    let wrong = play(rt, alloc, &mut store, &blocks, lines);
+    drop(store);
+    wrong
+}
+
+// The number of the first of these calls that answers otherwise, and its answer.
+fn play<R: Threads + Sync>(
+    rt: &R,
+    alloc: Global,
+    store: &mut Store,
     blocks: &[Made],
-    table: &[(StoreCall, &str)],
-) -> Result<Option<usize>, Fail> {
-    let mut store = Store::new(alloc, backlog)?;
-    for (place, (call, want)) in table.iter().enumerate() {
-        if matches!(call, StoreCall::Restart) {
-            store = store.restart(alloc, backlog)?;
-        }
-        let said = answer(rt, alloc, &mut store, blocks, *call)?;
-        if said.as_str() != *want {
-            return Ok(Some(place));
+    lines: &str,
+) -> Result<Option<(usize, String)>, Fail> {
+    for (number, line) in lines.lines().enumerate() {
+        let (call, want) = call_and_answer(line)?;
+        let said = answer(rt, alloc, store, blocks, call_of(call)?)?;
+        if said.as_str() != want {
+            return Ok(Some((number, said)));
         }
     }
     Ok(None)
+}
+
+// The blocks that a table is about.
+fn blocks_of<R: Threads + Sync>(rt: &R, alloc: Global, list: Call) -> Result<Vec<Made>, Fail> {
+    let (first, last, _) = list.numbers;
+    match list.name {
+        "chain" => chain(rt, alloc, first, last),
+        "rivals" => rivals(rt, alloc),
+        "behind" => chain_and_one(rt, alloc, first, last),
+        _ => Err("a list of blocks".into()),
+    }
+}
+
+// The call of that name.
+fn call_of(call: Call) -> Result<StoreCall, Fail> {
+    let (first, second, _) = call.numbers;
+    let place = first as usize;
+    Ok(match call.name {
+        "verify" => StoreCall::Verify(place),
+        "verify_to" => StoreCall::VerifyTo(place),
+        "certify" => StoreCall::Certify(place, second),
+        "report" => StoreCall::Report(place, second),
+        "report_to" => StoreCall::ReportTo(place),
+        "set_floor" => StoreCall::SetFloor(place, second),
+        "acknowledge" => StoreCall::Acknowledge,
+        "process" => StoreCall::Process,
+        "prune" => StoreCall::Prune(first),
+        "deliver" => StoreCall::Deliver,
+        "deliver_run" => StoreCall::DeliverRun,
+        _ => return asking(call),
+    })
+}
+
+// The call of that name, where it changes nothing that is noted or handed out.
+fn asking(call: Call) -> Result<StoreCall, Fail> {
+    let (first, second, _) = call.numbers;
+    let place = first as usize;
+    Ok(match call.name {
+        "watch_digest" => StoreCall::WatchDigest(place),
+        "watch_commitment" => StoreCall::WatchCommitment(place),
+        "cancel" => StoreCall::Cancel(first),
+        "tickets" => StoreCall::Tickets,
+        "restart" => StoreCall::Restart,
+        "latest" => StoreCall::Latest,
+        "at" => StoreCall::At(first),
+        "count_at" => StoreCall::CountAt(first, second),
+        "of" => StoreCall::Of(place),
+        "has" => StoreCall::Has(place),
+        "final" => StoreCall::Final,
+        "finalization" => StoreCall::Finalization(first),
+        "floor" => StoreCall::Floor,
+        "ancestry" => StoreCall::Ancestry(place),
+        _ => return Err("a call of a store".into()),
+    })
 }
 
 // What a call answers.
@@ -114,6 +181,10 @@ fn answer<R: Threads + Sync>(
         StoreCall::Acknowledge => text(alloc, store.acknowledge()?),
         StoreCall::Process => text(alloc, process(alloc, store)?),
         StoreCall::Prune(height) => text(alloc, store.prune(height)?),
+        StoreCall::Restart => {
+            store.restart(alloc)?;
+            text(alloc, store.processed())
+        }
         _ => given(alloc, store, blocks, call),
     }
 }
@@ -139,7 +210,7 @@ fn given(
     }
 }
 
-// What it answers where it only reads, and a store that was just started.
+// What it answers where it only reads.
 fn known(alloc: Global, store: &Store, blocks: &[Made], call: StoreCall) -> Result<String, Fail> {
     match call {
         StoreCall::Latest => text(alloc, block_found(store, blocks, Identifier::Latest)?),
@@ -157,7 +228,7 @@ fn known(alloc: Global, store: &Store, blocks: &[Made], call: StoreCall) -> Resu
         StoreCall::Finalization(height) => text(alloc, store.finalized_in(height)),
         StoreCall::Floor => text(alloc, store.floor()),
         StoreCall::Ancestry(place) => text(alloc, heights_down(alloc, store, at(blocks, place)?)?),
-        _ => text(alloc, store.processed()),
+        _ => Err("a call of a store".into()),
     }
 }
 

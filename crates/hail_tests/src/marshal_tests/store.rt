@@ -10,12 +10,14 @@ use cw_types::{Cert, Commitment, Committees, Epoch, Height, Round, View, Vote, w
 use marshal::{Identifier, Marshal, MarshalError};
 use node_disk::MemoryDisk;
 use std::alloc::Global;
+use std::mem;
 use std::test::Fail;
 use std::thread::Threads;
 
 /// A store of a member of four, with nothing staged.
 #[derive(Drop)]
 pub(crate) struct Store {
+    backlog: u64,
     marshal: Marshal<SumHasher, MemoryDisk>,
     ghost quiet: { marshal.staged ≡ [] },
 }
@@ -23,21 +25,16 @@ pub(crate) struct Store {
 impl Store {
     /// On a new disk.
     pub(crate) fn new(alloc: Global, backlog: u64) -> Result<Store, Fail> {
-        Store::on(alloc, backlog, MemoryDisk::new(alloc, Vec::new(alloc)))
+        let marshal = opened(alloc, backlog, MemoryDisk::new(alloc, Vec::new(alloc)))?;
+        Ok(Store { backlog, marshal })
     }
 
-    /// On a disk.
-    pub(crate) fn on(alloc: Global, backlog: u64, disk: MemoryDisk) -> Result<Store, Fail> {
-        match open(alloc, backlog, disk)? {
-            Ok(marshal) => Ok(Store { marshal }),
-            Err(error) => Err(Fail::from(error)),
-        }
-    }
-
-    /// Started again on its disk.
-    pub(crate) fn restart(self, alloc: Global, backlog: u64) -> Result<Store, Fail> {
-        let Store { marshal } = self;
-        Store::on(alloc, backlog, marshal.into_disk().reopen())
+    /// Starts it again on its disk. Another stands in its place meanwhile.
+    pub(crate) fn restart(&mut self, alloc: Global) -> Result<(), Fail> {
+        let other = opened(alloc, self.backlog, MemoryDisk::new(alloc, Vec::new(alloc)))?;
+        let disk = mem::replace(&mut self.marshal, other).into_disk();
+        self.marshal = opened(alloc, self.backlog, disk.reopen())?;
+        Ok(())
     }
 
     /// The store itself.
@@ -182,6 +179,20 @@ fn is_storable(cert: &Cert) -> bool
     ensures { result ≡ values.is_storable (Note.Cert cert.now) }
 {
     well_formed(&cert.vote) && cert.signers.len() < 65536
+}
+
+// A store on a disk.
+fn opened(
+    alloc: Global,
+    backlog: u64,
+    disk: MemoryDisk,
+) -> Result<Marshal<SumHasher, MemoryDisk>, Fail>
+    ensures { IfOk result (λ marshal. marshal.staged ≡ []) }
+{
+    match open(alloc, backlog, disk)? {
+        Ok(marshal) => Ok(marshal),
+        Err(error) => Err(Fail::from(error)),
+    }
 }
 
 /// What a start answers on a disk.

@@ -1,6 +1,7 @@
 //! What happens to a member, about blocks by their places in a list.
 
 use super::blocks::{Scene, certificate};
+use crate::tables::{Call, call_and_answer};
 use cw_types::{Cert, Event, Message, Vote};
 use std::alloc::Global;
 use std::test::Fail;
@@ -50,6 +51,52 @@ pub(crate) enum NodeCall {
     Notes,
     /// The bytes that a read of its disk gives.
     Disk,
+}
+
+/// The call that a line of a table tells, and its answer.
+pub(crate) fn told_by<'a>(line: &'a str) -> Result<(NodeCall, &'a str), Fail> {
+    let (call, answer) = call_and_answer(line)?;
+    Ok((call_of(call)?, answer))
+}
+
+// The call of that name.
+fn call_of(call: Call) -> Result<NodeCall, Fail> {
+    let (first, second, third) = call.numbers;
+    let place = first as usize;
+    let member = (first % 65536) as u16;
+    Ok(match call.name {
+        "shard" => NodeCall::Shard(place, second as usize),
+        "notarize" => NodeCall::Notarize(member, second as usize, third),
+        "finalize" => NodeCall::Finalize(member, second as usize, third),
+        "notarization" => NodeCall::Notarization(place, second),
+        "finalization" => NodeCall::Finalization(place, second),
+        "block" => NodeCall::Block(place),
+        "ask" => NodeCall::Ask(member, second as usize),
+        "ask_height" => NodeCall::AskHeight(member, second),
+        "stop_at" => NodeCall::StopAt(first, second, (third % 256) as u8),
+        "restart" => NodeCall::Restart,
+        "notes" => NodeCall::Notes,
+        "disk" => NodeCall::Disk,
+        _ => return own_event(call),
+    })
+}
+
+// The call of that name, where it is no message and asks no question.
+fn own_event(call: Call) -> Result<NodeCall, Fail> {
+    let (first, second, _) = call.numbers;
+    let place = first as usize;
+    Ok(match call.name {
+        "propose" => NodeCall::Propose(place),
+        "timeout" => NodeCall::Timeout(first),
+        "ack" => NodeCall::Ack,
+        "prune" => NodeCall::Prune(first),
+        "floor" => NodeCall::Floor(place, second),
+        "hint" => NodeCall::Hint(first),
+        "watch_digest" => NodeCall::WatchDigest(place),
+        "watch_commitment" => NodeCall::WatchCommitment(place),
+        "cancel" => NodeCall::Cancel(first),
+        _ => return Err("what happens to a member".into()),
+    })
 }
 
 /// The event that the member takes.

@@ -3,13 +3,14 @@
 use super::blocks::Scene;
 use super::calls::{NodeCall, event_of};
 use super::said::text_of;
-use crate::disks::start;
+use crate::disks::{Started, start};
 use cw_base::{Sequential, SumHasher};
 use cw_types::{AcceptAll, StepOut};
 use node::{Node, NodeError};
 use node_disk::MemoryDisk;
 use std::alloc::Global;
 use std::marker::Model;
+use std::mem;
 use std::test::Fail;
 use std::thread::Threads;
 
@@ -28,6 +29,20 @@ impl Model for Member {
     ghost view = { λ _. tt };
 }
 
+// What a start of a member gives.
+fn started<R: Threads + Sync>(
+    rt: &R,
+    alloc: Global,
+    scene: &Scene,
+    id: u16,
+    disk: MemoryDisk,
+) -> Result<Started<SumHasher>, Fail> {
+    match start(rt, alloc, id, scene.committees(alloc)?, disk)? {
+        Ok(started) => Ok(started),
+        Err((_, error)) => Err(Fail::from(error)),
+    }
+}
+
 impl Member {
     /// Started on a new disk.
     pub(crate) fn new<R: Threads + Sync>(
@@ -37,35 +52,25 @@ impl Member {
         id: u16,
     ) -> Result<Member, Fail> {
         let disk = MemoryDisk::new(alloc, Vec::new(alloc));
-        Member::on(rt, alloc, scene, id, disk)
+        let (node, opening) = started(rt, alloc, scene, id, disk)?;
+        Ok(Member { id, node, opening })
     }
 
-    fn on<R: Threads + Sync>(
-        rt: &R,
-        alloc: Global,
-        scene: &Scene,
-        id: u16,
-        disk: MemoryDisk,
-    ) -> Result<Member, Fail> {
-        match start(rt, alloc, id, scene.committees(alloc)?, disk)? {
-            Ok((node, opening)) => Ok(Member { id, node, opening }),
-            Err((_, error)) => Err(Fail::from(error)),
-        }
-    }
-
-    // Started again on its disk.
+    // Starts it again on its disk. Another node stands in its place meanwhile.
     fn restart<R: Threads + Sync>(
-        self,
+        &mut self,
         rt: &R,
         alloc: Global,
         scene: &Scene,
-    ) -> Result<Member, Fail> {
-        let Member {
-            id,
-            node,
-            opening: _,
-        } = self;
-        Member::on(rt, alloc, scene, id, node.into_disk().reopen())
+    ) -> Result<(), Fail> {
+        let new_disk = MemoryDisk::new(alloc, Vec::new(alloc));
+        let (other, opening) = started(rt, alloc, scene, self.id, new_disk)?;
+        drop(opening);
+        let disk = mem::replace(&mut self.node, other).into_disk().reopen();
+        let (node, opening) = started(rt, alloc, scene, self.id, disk)?;
+        drop(mem::replace(&mut self.node, node));
+        drop(mem::replace(&mut self.opening, opening));
+        Ok(())
     }
 
     /// How many notes it has.
@@ -106,8 +111,8 @@ impl Member {
         }
     }
 
-    // What it answers, where it isn't started again.
-    fn told<R: Threads + Sync>(
+    /// What it answers to a call.
+    pub(crate) fn answer<R: Threads + Sync>(
         &mut self,
         rt: &R,
         alloc: Global,
@@ -119,26 +124,13 @@ impl Member {
                 self.stop_at(device_call, cut, fill);
                 Ok(String::new(alloc))
             }
+            NodeCall::Restart => {
+                self.restart(rt, alloc, scene)?;
+                text_of(alloc, scene, &self.opening)
+            }
             NodeCall::Notes => Ok(format!(in alloc; "{}", self.notes())?),
             NodeCall::Disk => Ok(format!(in alloc; "{:?}", self.node.bytes())?),
             _ => self.said(rt, alloc, scene, call),
         }
-    }
-
-    /// The member after a call, and what it answers.
-    pub(crate) fn answer<R: Threads + Sync>(
-        mut self,
-        rt: &R,
-        alloc: Global,
-        scene: &Scene,
-        call: NodeCall,
-    ) -> Result<(Member, String), Fail> {
-        if matches!(call, NodeCall::Restart) {
-            let member = self.restart(rt, alloc, scene)?;
-            let said = text_of(alloc, scene, &member.opening)?;
-            return Ok((member, said));
-        }
-        let said = self.told(rt, alloc, scene, call)?;
-        Ok((self, said))
     }
 }

@@ -1,11 +1,14 @@
 //! Tables of what happens to a member, each with what it answers, played one call after another.
 
 use super::blocks::Scene;
-use super::calls::NodeCall;
+use super::calls::{NodeCall, told_by};
 use super::member::Member;
 use std::alloc::Global;
 use std::test::Fail;
 use std::thread::Threads;
+
+/// A table, and how many of its lines are played.
+type Front<'a> = (&'a str, usize);
 
 // The first call of a table that the member answers otherwise, with that answer; none where it
 // answers all so.
@@ -13,17 +16,31 @@ fn play<R: Threads + Sync>(
     rt: &R,
     alloc: Global,
     scene: &Scene,
-    mut member: Member,
-    table: &[(NodeCall, &str)],
-) -> Result<(Member, Option<(usize, String)>), Fail> {
-    for (place, (call, want)) in table.iter().enumerate() {
-        let (next, said) = member.answer(rt, alloc, scene, *call)?;
-        member = next;
-        if said.as_str() != *want {
-            return Ok((member, Some((place, said))));
+    member: &mut Member,
+    (table, count): Front,
+) -> Result<Option<(usize, String)>, Fail> {
+    for (place, line) in table.lines().take(count).enumerate() {
+        let (call, want) = told_by(line)?;
+        let said = member.answer(rt, alloc, scene, call)?;
+        if said.as_str() != want {
+            return Ok(Some((place, said)));
         }
     }
-    Ok((member, None))
+    Ok(None)
+}
+
+// Plays a table, and wants all answered as it says.
+fn play_rightly<R: Threads + Sync>(
+    rt: &R,
+    alloc: Global,
+    scene: &Scene,
+    member: &mut Member,
+    table: Front,
+) -> Result<(), Fail> {
+    match play(rt, alloc, scene, member, table)? {
+        None => Ok(()),
+        Some(_) => Err("the answers of the table".into()),
+    }
 }
 
 /// A new member that has played a table, and answered all as it says.
@@ -32,12 +49,15 @@ pub(crate) fn after<R: Threads + Sync>(
     alloc: Global,
     scene: &Scene,
     id: u16,
-    table: &[(NodeCall, &str)],
+    table: Front,
 ) -> Result<Member, Fail> {
-    let member = Member::new(rt, alloc, scene, id)?;
-    match play(rt, alloc, scene, member, table)? {
-        (member, None) => Ok(member),
-        _ => Err("the answers of the table".into()),
+    let mut member = Member::new(rt, alloc, scene, id)?;
+    match play_rightly(rt, alloc, scene, &mut member, table) {
+        Ok(()) => Ok(member),
+        Err(error) => {
+            drop(member);
+            Err(error)
+        }
     }
 }
 
@@ -48,12 +68,13 @@ pub(crate) fn first_wrong<R: Threads + Sync>(
     alloc: Global,
     scene: &Scene,
     id: u16,
-    before: &[(NodeCall, &str)],
-    table: &[(NodeCall, &str)],
+    before: Front,
+    table: &str,
 ) -> Result<Option<(usize, String)>, Fail> {
-    let member = after(rt, alloc, scene, id, before)?;
-    let (_, wrong) = play(rt, alloc, scene, member, table)?;
-    Ok(wrong)
+    let mut member = after(rt, alloc, scene, id, before)?;
+    let wrong = play(rt, alloc, scene, &mut member, (table, usize::MAX));
+    drop(member);
+    wrong
 }
 
 // How many bytes of a write reach the disk, and what fills the rest.
@@ -75,66 +96,61 @@ pub(crate) fn found_after<R: Threads + Sync>(
     rt: &R,
     alloc: Global,
     scene: &Scene,
-    before: &[(NodeCall, &str)],
+    before: Front,
     call: u64,
 ) -> Result<Vec<usize>, Fail> {
     let mut found = Vec::new(alloc);
     for (cut, fill) in STOPS {
-        let member = after(rt, alloc, scene, 2, before)?;
-        found.push(found_by(rt, alloc, scene, member, (call, cut, fill))?)?;
+        let stop = NodeCall::StopAt(call, cut, fill);
+        found.push(found_with(rt, alloc, scene, before, stop)?)?;
     }
     Ok(found)
 }
 
+fn found_with<R: Threads + Sync>(
+    rt: &R,
+    alloc: Global,
+    scene: &Scene,
+    before: Front,
+    stop: NodeCall,
+) -> Result<usize, Fail> {
+    let mut member = after(rt, alloc, scene, 2, before)?;
+    let found = found_by(rt, alloc, scene, &mut member, stop);
+    drop(member);
+    found
+}
+
+// How many notes a start finds behind the stopped vote.
 fn found_by<R: Threads + Sync>(
     rt: &R,
     alloc: Global,
     scene: &Scene,
-    member: Member,
-    (call, cut, fill): (u64, u64, u8),
+    member: &mut Member,
+    stop: NodeCall,
 ) -> Result<usize, Fail> {
-    let (member, _) = member.answer(rt, alloc, scene, NodeCall::StopAt(call, cut, fill))?;
-    let (member, _) = member.answer(rt, alloc, scene, NodeCall::Finalize(1, 1, 1))?;
-    let (member, _) = member.answer(rt, alloc, scene, NodeCall::Restart)?;
+    for call in [stop, NodeCall::Finalize(1, 1, 1), NodeCall::Restart] {
+        let _said = member.answer(rt, alloc, scene, call)?;
+    }
     Ok(member.notes())
 }
 
-// The member after an event that comes twice; whether the first time is answered so, and the second
-// by nothing and with no note.
-fn twice<R: Threads + Sync>(
+// Whether an event that comes twice is answered so the first time, and the second time by nothing
+// and with no note.
+fn is_idle_again<R: Threads + Sync>(
     rt: &R,
     alloc: Global,
     scene: &Scene,
-    member: Member,
+    member: &mut Member,
     call: NodeCall,
     want: &str,
-) -> Result<(Member, bool), Fail> {
-    let (member, said) = member.answer(rt, alloc, scene, call)?;
-    let notes = member.notes();
-    let (member, again) = match call {
-        NodeCall::Notes => (member, String::new(alloc)),
-        _ => member.answer(rt, alloc, scene, call)?,
-    };
-    let is_same = said.as_str() == want && again.is_empty() && member.notes() == notes;
-    Ok((member, is_same))
-}
-
-// The first event of a table at which the member does something else where each comes twice.
-fn changed_at<R: Threads + Sync>(
-    rt: &R,
-    alloc: Global,
-    scene: &Scene,
-    mut member: Member,
-    table: &[(NodeCall, &str)],
-) -> Result<(Member, Option<usize>), Fail> {
-    for (place, (call, want)) in table.iter().enumerate() {
-        let (next, is_same) = twice(rt, alloc, scene, member, *call, want)?;
-        member = next;
-        if !is_same {
-            return Ok((member, Some(place)));
-        }
+) -> Result<bool, Fail> {
+    let said = member.answer(rt, alloc, scene, call)?;
+    if said.as_str() != want || matches!(call, NodeCall::Notes) {
+        return Ok(said.as_str() == want);
     }
-    Ok((member, None))
+    let notes = member.notes();
+    let again = member.answer(rt, alloc, scene, call)?;
+    Ok(again.is_empty() && member.notes() == notes)
 }
 
 /// The place of the first event of a table at which a new member does something else where each
@@ -144,9 +160,26 @@ pub(crate) fn first_changed<R: Threads + Sync>(
     alloc: Global,
     scene: &Scene,
     id: u16,
-    table: &[(NodeCall, &str)],
+    table: &str,
 ) -> Result<Option<usize>, Fail> {
-    let member = Member::new(rt, alloc, scene, id)?;
-    let (_, place) = changed_at(rt, alloc, scene, member, table)?;
-    Ok(place)
+    let mut member = Member::new(rt, alloc, scene, id)?;
+    let place = changed_at(rt, alloc, scene, &mut member, table);
+    drop(member);
+    place
+}
+
+fn changed_at<R: Threads + Sync>(
+    rt: &R,
+    alloc: Global,
+    scene: &Scene,
+    member: &mut Member,
+    table: &str,
+) -> Result<Option<usize>, Fail> {
+    for (place, line) in table.lines().enumerate() {
+        let (call, want) = told_by(line)?;
+        if !is_idle_again(rt, alloc, scene, member, call, want)? {
+            return Ok(Some(place));
+        }
+    }
+    Ok(None)
 }

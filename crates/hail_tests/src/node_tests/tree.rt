@@ -112,17 +112,18 @@ impl First {
     }
 }
 
+// How many messages it sends at each of these events, and how many notes it has at the end.
 fn all_sent<R: Threads + Sync>(
     rt: &R,
     alloc: Global,
     member: &mut First,
     events: &[Event],
-) -> Result<Vec<usize>, Fail> {
+) -> Result<(Vec<usize>, usize), Fail> {
     let mut sent = Vec::new(alloc);
     for event in events {
         sent.push(member.count_sent(rt, alloc, event)?)?;
     }
-    Ok(sent)
+    Ok((sent, member.notes()))
 }
 
 /// How many messages member 0 of four sends as each of these rows comes, and how many notes it has
@@ -134,6 +135,7 @@ pub(crate) fn sent_for_rows<R: Threads + Sync>(
 ) -> Result<(Vec<usize>, usize), Fail> {
     let events = all_coming(alloc, rows)?;
     let mut member = First::new(rt, alloc)?;
-    let sent = all_sent(rt, alloc, &mut member, &events)?;
-    Ok((sent, member.notes()))
+    let sent = all_sent(rt, alloc, &mut member, &events);
+    drop(member);
+    sent
 }
