@@ -16,18 +16,27 @@ use Rattle.cw_archive.specs.Archived.{checks}
 use Rattle.cw_archive.specs.Showing.{AreChecked, AreSufficient}
 
 module _ (hash : List ℕ → Digest32) (c : Commitment) where
-  pub check_taken : (x : Chunk) → IsUnder hash digest_bytes c.config c.root x.index x → checks hash c x ≡ true
-  check_taken x u = and_from (nat_le (total_of c.config) 65535) (is_under_root hash c x) (le-leb (total_of c.config) 65535 u.total) (under_stands hash no_committees c x u)
+  pub check_taken : (x : Chunk) → IsUnder hash digest_bytes c.config c.root x.index x
+      → checks hash c x ≡ true
+  check_taken x u =
+      and_from (nat_le (total_of c.config) 65535) (is_under_root hash c x)
+      (le-leb (total_of c.config) 65535 u.total) (under_stands hash no_committees c x u)
 
-  pub check_refused : (x : Chunk) (e : ReedSolomonError) → e ≢ NoMemory → IsCheckRefusal hash digest_bytes c.config c.root x.index x e → checks hash c x ≡ false
+  pub check_refused : (x : Chunk) (e : ReedSolomonError) → e ≢ NoMemory
+      → IsCheckRefusal hash digest_bytes c.config c.root x.index x e → checks hash c x ≡ false
   check_refused x e ne r = go (cases_Bool (nat_le (total_of c.config) 65535))
     where
-      go : (nat_le (total_of c.config) 65535 ≡ true) ⊎ (nat_le (total_of c.config) 65535 ≡ false) → checks hash c x ≡ false
-      go (inl t) = rw t (refused_under hash no_committees c x e (leb-true (total_of c.config) 65535 t) ne r)
+      go : (nat_le (total_of c.config) 65535 ≡ true) ⊎ (nat_le (total_of c.config) 65535 ≡ false)
+          → checks hash c x ≡ false
+      go (inl t) =
+          rw t (refused_under hash no_committees c x e (leb-true (total_of c.config) 65535 t) ne r)
       go (inr f) = rw f refl
 
-  pub check_parts : (x : Chunk) → checks hash c x ≡ true → (total_of c.config ≤ 65535) × (is_under_root hash c x ≡ true)
-  check_parts x h = let p = and_parts (nat_le (total_of c.config) 65535) (is_under_root hash c x) h in (leb-true (total_of c.config) 65535 p.0, p.1)
+  pub check_parts : (x : Chunk) → checks hash c x ≡ true
+      → (total_of c.config ≤ 65535) × (is_under_root hash c x ≡ true)
+  check_parts x h =
+      let p = and_parts (nat_le (total_of c.config) 65535) (is_under_root hash c x) h in
+      (leb-true (total_of c.config) 65535 p.0, p.1)
 
   -- a chunk that checks is of an index that its config has
   pub check_within : (x : Chunk) → checks hash c x ≡ true → x.index < total_of c.config

@@ -22,19 +22,30 @@ use Rattle.cw_archive.specs.declared.key.ChunkKey.{ChunkKey}
 
 pub same_key-true : (a b : ChunkKey) → same_key a b ≡ true → a ≡ b
 same_key-true a b h =
-    let p = and_parts (same_commitment (commitment_of a) (commitment_of b)) (a.index == b.index) h in
+    let p =
+    and_parts (same_commitment (commitment_of a) (commitment_of b)) (a.index == b.index) h in
     let e = same_commitment-true (commitment_of a) (commitment_of b) p.0 in
     let f = eqb-true a.index b.index p.1 in
-    λ i. record { block = (e i).block; root = (e i).root; context = (e i).context; minimum = (e i).config.minimum; extra = (e i).config.extra; index = f i }
+    λ i. record {
+      block = (e i).block;
+      root = (e i).root;
+      context = (e i).context;
+      minimum = (e i).config.minimum;
+      extra = (e i).config.extra;
+      index = f i;
+    }
 
 pub same_key_self : (a : ChunkKey) → same_key a a ≡ true
-same_key_self a = and_from (same_commitment (commitment_of a) (commitment_of a)) (a.index == a.index) (same_commitment_self (commitment_of a)) (eq-eqb a.index a.index refl)
+same_key_self a =
+    and_from (same_commitment (commitment_of a) (commitment_of a)) (a.index == a.index)
+    (same_commitment_self (commitment_of a)) (eq-eqb a.index a.index refl)
 
 pub same_key_symm : (a b : ChunkKey) → same_key a b ≡ same_key b a
 same_key_symm a b = one_test (same_key a b) (same_key b a) (λ h. turn a b h) (λ h. turn b a h)
   where
     turn : (x y : ChunkKey) → same_key x y ≡ true → same_key y x ≡ true
-    turn x y h = subst (λ (z : ChunkKey). same_key z x ≡ true) (same_key-true x y h) (same_key_self x)
+    turn x y h =
+        subst (λ (z : ChunkKey). same_key z x ≡ true) (same_key-true x y h) (same_key_self x)
 
 pub same_key_equiv : IsEquivalence same_key
 same_key_equiv = record {
@@ -80,21 +91,41 @@ key_cmp-true a b h =
     let e3 = exact_unsigned a.minimum b.minimum p3.0 in
     let e4 = exact_unsigned a.extra b.extra p4.0 in
     let e5 = exact_unsigned a.index b.index (equal_from (nat_cmp a.index b.index) p4.1) in
-    λ i. record { block = e0 i; root = e1 i; context = e2 i; minimum = e3 i; extra = e4 i; index = e5 i }
+    λ i. record {
+      block = e0 i;
+      root = e1 i;
+      context = e2 i;
+      minimum = e3 i;
+      extra = e4 i;
+      index = e5 i;
+    }
 
 key_cmp_self : (a : ChunkKey) → is_eq (key_cmp a a) ≡ true
 key_cmp_self a =
     let bytes = tied_itself nat_list_cmp_total in
     let numbers = tied_itself nat_cmp_total in
-    rw (bytes a.block.0, bytes a.root.0, bytes a.context.0, numbers a.minimum, numbers a.extra, numbers a.index) refl
+    rw (
+      bytes a.block.0,
+      bytes a.root.0,
+      bytes a.context.0,
+      numbers a.minimum,
+      numbers a.extra,
+      numbers a.index,
+    )
+    refl
 
 -- keys are compared equal where they are the same
 pub key_tests : (a b : ChunkKey) → is_eq (key_cmp a b) ≡ same_key a b
 key_tests a b = one_test (is_eq (key_cmp a b)) (same_key a b)
     (λ h. subst (λ (z : ChunkKey). same_key a z ≡ true) (key_cmp-true a b h) (same_key_self a))
-    (λ h. subst (λ (z : ChunkKey). is_eq (key_cmp a z) ≡ true) (same_key-true a b h) (key_cmp_self a))
+    (λ h. subst (λ (z : ChunkKey). is_eq (key_cmp a z) ≡ true) (same_key-true a b h)
+    (key_cmp_self a))
 
 -- what a look-up by the order finds
-pub at_key_found : (es : List (ChunkKey × Chunk)) (q : ChunkKey) → lookup (λ (k : ChunkKey). is_eq (key_cmp q k)) es ≡ at_key es q
+pub at_key_found : (es : List (ChunkKey × Chunk)) (q : ChunkKey)
+    → lookup (λ (k : ChunkKey). is_eq (key_cmp q k)) es ≡ at_key es q
 at_key_found [] q = refl
-at_key_found (e ∷ es) q = ap (λ b. cond b (Some e.1) (lookup (λ (k : ChunkKey). is_eq (key_cmp q k)) es)) (key_tests q e.0) ∙ ap (λ o. cond (same_key q e.0) (Some e.1) o) (at_key_found es q)
+at_key_found (e ∷ es) q =
+    ap (λ b. cond b (Some e.1) (lookup (λ (k : ChunkKey). is_eq (key_cmp q k)) es))
+    (key_tests q e.0)
+    ∙ ap (λ o. cond (same_key q e.0) (Some e.1) o) (at_key_found es q)

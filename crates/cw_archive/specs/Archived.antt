@@ -17,7 +17,8 @@ use Rattle.shards.specs.declared.pieces.KeptChunk.{KeptChunk}
 use Rattle.cw_archive.specs.declared.put.Put.{Put}
 use Rattle.cw_archive.specs.declared.put.Put.TheVariants.{Foreign, Kept, Known, TooLarge}
 
--- the most bytes that all shards may have, and the chunks, the oldest first, each with its commitment
+-- the most bytes that all shards may have, and the chunks, the oldest first, each with its
+-- commitment
 pub record Archived : Type 0 where
   pub limit : ℕ
   pub kept : List KeptChunk
@@ -36,16 +37,20 @@ checks hash c x = nat_le (total_of c.config) 65535 && is_under_root hash c x
 abbrev pub put_answer : (List ℕ → Digest32) → Archived → Commitment → Chunk → Put
 put_answer hash a c x =
     if is_known a.kept c x then Known
-    else if checks hash c x then (if nat_lt a.limit (length x.shard) then TooLarge else Kept) else Foreign
+    else if checks hash c x then (if nat_lt a.limit (length x.shard) then TooLarge else Kept)
+    else Foreign
 
 -- what stays of chunks where the oldest leave as long as all shards have more bytes than the limit
 abbrev pub within_limit : ℕ → List KeptChunk → List KeptChunk
 within_limit limit [] = []
-within_limit limit (k ∷ ks) = if nat_lt limit (used_of (k ∷ ks)) then within_limit limit ks else k ∷ ks
+within_limit limit (k ∷ ks) =
+    if nat_lt limit (used_of (k ∷ ks)) then within_limit limit ks else k ∷ ks
 
--- what an answer leaves: a chunk that is kept goes last, and the oldest leave; no other answer changes anything
+-- what an answer leaves: a chunk that is kept goes last, and the oldest leave; no other answer
+-- changes anything
 abbrev pub after_answer : Put → Archived → Commitment → Chunk → Archived
-after_answer Kept a c x = record { limit = a.limit; kept = within_limit a.limit (with_chunk a.kept c x) }
+after_answer Kept a c x =
+    record { limit = a.limit; kept = within_limit a.limit (with_chunk a.kept c x) }
 after_answer _ a c x = a
 
 -- the archive after a put
@@ -66,11 +71,13 @@ by_index c kept = filter_map (chunk_at c kept) (range_with_len 0 (total_of c.con
 abbrev pub least_chunks : Commitment → List KeptChunk → List Chunk
 least_chunks c kept = take c.config.minimum (by_index c kept)
 
--- what names a block that is cut by this config, whatever its epoch: the hash of its bytes, the root of their codeword, the hash of its context's bytes, and the config
+-- what names a block that is cut by this config, whatever its epoch: the hash of its bytes, the
+-- root of their codeword, the hash of its context's bytes, and the config
 abbrev pub name_of : (List ℕ → Digest32) → Counts → Block → Commitment
 name_of hash config b = record {
   block = hash (block_bytes b);
-  root = root_over hash (map hash (rows_under (rules_of hash no_committees) config (block_bytes b)));
+  root =
+      root_over hash (map hash (rows_under (rules_of hash no_committees) config (block_bytes b)));
   context = hash (context_bytes b.context);
   config = config;
 }
@@ -81,7 +88,8 @@ if_named hash c b = if same_commitment (name_of hash c.config b) c then Some b e
 
 -- the block of whose bytes' codeword these chunks are k rows, where the commitment names it
 abbrev pub shown_by : (List ℕ → Digest32) → Commitment → List Chunk → Option Block
-shown_by hash c chunks = option_and_then (if_named hash c) (block_of (rules_of hash no_committees) c.config chunks)
+shown_by hash c chunks =
+    option_and_then (if_named hash c) (block_of (rules_of hash no_committees) c.config chunks)
 
 -- the block that the kept chunks of a commitment give back: that of the k of least index
 abbrev pub given_back : (List ℕ → Digest32) → Commitment → List KeptChunk → Option Block

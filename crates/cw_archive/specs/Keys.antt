@@ -11,11 +11,25 @@ use Rattle.cw_archive.specs.declared.key.ChunkKey.{ChunkKey}
 
 -- the key of the chunk of a commitment and an index
 abbrev pub key_of : Commitment → ℕ → ChunkKey
-key_of c i = record { block = c.block; root = c.root; context = c.context; minimum = c.config.minimum; extra = c.config.extra; index = i }
+key_of c i =
+    record {
+      block = c.block;
+      root = c.root;
+      context = c.context;
+      minimum = c.config.minimum;
+      extra = c.config.extra;
+      index = i;
+    }
 
 -- the commitment that a key names
 abbrev pub commitment_of : ChunkKey → Commitment
-commitment_of q = record { block = q.block; root = q.root; context = q.context; config = record { minimum = q.minimum; extra = q.extra } }
+commitment_of q =
+    record {
+      block = q.block;
+      root = q.root;
+      context = q.context;
+      config = record { minimum = q.minimum; extra = q.extra };
+    }
 
 -- the keys of one commitment and index
 abbrev pub same_key : ChunkKey → ChunkKey → Bool
@@ -27,13 +41,15 @@ at_key entries q = lookup (same_key q) entries
 
 -- the chunk at a key, with the commitment that the key names
 abbrev pub kept_by : List (ChunkKey × Chunk) → ChunkKey → Option KeptChunk
-kept_by entries q = option_map (λ x. record { commitment = commitment_of q; chunk = x }) (at_key entries q)
+kept_by entries q =
+    option_map (λ x. record { commitment = commitment_of q; chunk = x }) (at_key entries q)
 
 -- the chunks at keys, in their order
 abbrev pub kept_at : List (ChunkKey × Chunk) → List ChunkKey → List KeptChunk
 kept_at entries order = filter_map (kept_by entries) order
 
--- the keys that stand in the order, each once, are those that have a chunk, which is of the key's index
+-- the keys that stand in the order, each once, are those that have a chunk, which is of the key's
+-- index
 pub record IsInOrder (entries : List (ChunkKey × Chunk)) (order : List ChunkKey) : Type 0 where
   pub once : IsDistinct same_key order
   pub there : (q : ChunkKey) → is_some (at_key entries q) ≡ list_any (same_key q) order

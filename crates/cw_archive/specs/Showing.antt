@@ -18,20 +18,25 @@ abbrev pub AreChecked : (List ℕ → Digest32) → Commitment → List Chunk �
 AreChecked hash c chunks = AllByRecursion (λ x. IsTrue (checks hash c x)) chunks
 
 -- as many chunks as give a text back, which check under the commitment at different places
-pub record AreSufficient (hash : List ℕ → Digest32) (c : Commitment) (chunks : List Chunk) : Type 0 where
+pub record AreSufficient (hash : List ℕ → Digest32) (c : Commitment)
+    (chunks : List Chunk) : Type 0 where
   pub some : 1 ≤ c.config.minimum
   pub enough : length chunks ≡ c.config.minimum
   pub check : AreChecked hash c chunks
   pub apart : AreApart chunks
 
--- what an archive holds true of what it keeps: the bytes of all shards are counted and are within the limit, and each chunk checks under its commitment
-pub record IsWithin (hash : List ℕ → Digest32) (limit used : ℕ) (kept : List KeptChunk) : Type 0 where
+-- what an archive holds true of what it keeps: the bytes of all shards are counted and are within
+-- the limit, and each chunk checks under its commitment
+pub record IsWithin (hash : List ℕ → Digest32) (limit used : ℕ)
+    (kept : List KeptChunk) : Type 0 where
   pub counted : used ≡ used_of kept
   pub within : used ≤ limit
   pub check : AllByRecursion (λ k. IsTrue (checks hash k.commitment k.chunk)) kept
 
--- the chunks are k rows, at their places, of the codeword of the bytes of a block, which are read as that block and which the commitment names
-pub record Shows (hash : List ℕ → Digest32) (c : Commitment) (chunks : List Chunk) (b : Block) : Type 0 where
+-- the chunks are k rows, at their places, of the codeword of the bytes of a block, which are read
+-- as that block and which the commitment names
+pub record Shows (hash : List ℕ → Digest32) (c : Commitment) (chunks : List Chunk)
+    (b : Block) : Type 0 where
   pub enough : length chunks ≡ c.config.minimum
   pub text : IsText (block_bytes b)
   pub back : block_in (block_bytes b) ≡ Some b
@@ -46,6 +51,8 @@ pub record HasNewest (width used : ℕ) (kept : List KeptChunk) : Type 0 where
   pub wide : length newest.chunk.shard ≡ width
   pub counted : used ≡ used_of others
 
--- no text that is as short as a block's is what these chunks are rows of, under the commitment's root
+-- no text that is as short as a block's is what these chunks are rows of, under the commitment's
+-- root
 abbrev pub IsOfNoBlock : (List ℕ → Digest32) → Commitment → List Chunk → Type 0
-IsOfNoBlock hash c chunks = (text : List ℕ) → length text ≤ 1048745 → AreOfText hash c chunks text → ⊥
+IsOfNoBlock hash c chunks =
+    (text : List ℕ) → length text ≤ 1048745 → AreOfText hash c chunks text → ⊥

@@ -5,7 +5,11 @@ use Rattle.cw_base.specs.Ends.{IsEnd}
 
 -- the end of an end
 pub end_of_end : {a b c : List ℕ} → IsEnd a b → IsEnd b c → IsEnd a c
-end_of_end {a} {b} {c} x y = record { taken = x.taken ++ y.taken; parts = x.parts ∙ ap (λ xs. x.taken ++ xs) y.parts ∙ sym (append_assoc x.taken y.taken c) }
+end_of_end {a} {b} {c} x y =
+    record {
+      taken = x.taken ++ y.taken;
+      parts = x.parts ∙ ap (λ xs. x.taken ++ xs) y.parts ∙ sym (append_assoc x.taken y.taken c);
+    }
 
 -- nothing was taken
 pub end_itself : (bytes : List ℕ) → IsEnd bytes bytes

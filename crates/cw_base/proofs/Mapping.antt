@@ -8,19 +8,26 @@ use Rattle.std.specs.Fn.{FnReturnsAt}
 use Rattle.cw_base.specs.Mapping.{GivesItems}
 
 module _ {F T R : Type 0} (g : Shared F (Bor T × Unit {0}) R) (f : F) where
-  pub GivesItems-append : (xs ys : List T) (rs ss : List R) → GivesItems g f xs rs → GivesItems g f ys ss → GivesItems g f (xs ++ ys) (rs ++ ss)
+  pub GivesItems-append : (xs ys : List T) (rs ss : List R) → GivesItems g f xs rs
+      → GivesItems g f ys ss → GivesItems g f (xs ++ ys) (rs ++ ss)
   GivesItems-append [] ys [] ss first second = second
   GivesItems-append [] ys (r ∷ rs) ss first second = absurd first
   GivesItems-append (x ∷ xs) ys [] ss first second = absurd first
-  GivesItems-append (x ∷ xs) ys (r ∷ rs) ss first second = (first.0, GivesItems-append xs ys rs ss first.1 second)
+  GivesItems-append (x ∷ xs) ys (r ∷ rs) ss first second =
+      (first.0, GivesItems-append xs ys rs ss first.1 second)
 
   pub GivesItems_more : (xs : List T) (i : ℕ) (x : T) (rs ss : List R) (r : R)
-      → i < length xs → x ≡ slice_index_or xs i x → ss ≡ rs ++ r ∷ [] → GivesItems g f (take i xs) rs → FnReturnsAt g f x r → GivesItems g f (take (i + 1) xs) ss
+      → i < length xs → x ≡ slice_index_or xs i x → ss ≡ rs ++ r ∷ []
+      → GivesItems g f (take i xs) rs → FnReturnsAt g f x r
+      → GivesItems g f (take (i + 1) xs) ss
   GivesItems_more xs i x rs ss r lt is added given returned =
-      rw (added, take_more xs i x lt, ← is) (GivesItems-append (take i xs) (x ∷ []) rs (r ∷ []) given (returned, tt))
+      rw (added, take_more xs i x lt, ← is)
+      (GivesItems-append (take i xs) (x ∷ []) rs (r ∷ []) given (returned, tt))
 
   pub GivesItems_halves : (n : ℕ) (xs hs ts : List T) (rs first rest : List R)
-      → hs ≡ take n xs → ts ≡ drop n xs → rs ≡ first ++ rest → GivesItems g f hs first → GivesItems g f ts rest → GivesItems g f xs rs
+      → hs ≡ take n xs → ts ≡ drop n xs → rs ≡ first ++ rest → GivesItems g f hs first
+      → GivesItems g f ts rest → GivesItems g f xs rs
   GivesItems_halves n xs hs ts rs first rest front back both gives also =
-      let whole : hs ++ ts ≡ xs = ap (λ h. h ++ ts) front ∙ (ap (λ t. take n xs ++ t) back ∙ take-append-drop n xs) in
+      let whole : hs ++ ts ≡ xs =
+      ap (λ h. h ++ ts) front ∙ (ap (λ t. take n xs ++ t) back ∙ take-append-drop n xs) in
       rw (both, sym whole) (GivesItems-append hs ts first rest gives also)

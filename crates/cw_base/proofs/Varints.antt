@@ -9,7 +9,8 @@ last_small (suc (suc (suc zero))) b h s l = omega arith
 last_small (suc (suc (suc (suc zero)))) b h s l = omega arith
 last_small (suc (suc (suc (suc (suc more))))) b h s l = absurd (omega arith)
 
-pub more_small : (more b high : ℕ) → more ≤ 4 → 0 < more → b < 256 → high < 16 * 128 ^ (more - 1) → b - 128 + 128 * high < 16 * 128 ^ more
+pub more_small : (more b high : ℕ) → more ≤ 4 → 0 < more → b < 256 → high < 16 * 128 ^ (more - 1)
+    → b - 128 + 128 * high < 16 * 128 ^ more
 more_small zero b high h m s l = absurd (omega arith)
 more_small (suc zero) b high h m s l = omega arith
 more_small (suc (suc zero)) b high h m s l = omega arith
@@ -17,7 +18,8 @@ more_small (suc (suc (suc zero))) b high h m s l = omega arith
 more_small (suc (suc (suc (suc zero)))) b high h m s l = omega arith
 more_small (suc (suc (suc (suc (suc more))))) b high h m s l = absurd (omega arith)
 
-pub more_fits : (more high : ℕ) → more ≤ 4 → 0 < more → high < 16 * 128 ^ (more - 1) → 128 * high + 128 ≤ 2 ^ 32
+pub more_fits : (more high : ℕ) → more ≤ 4 → 0 < more → high < 16 * 128 ^ (more - 1)
+    → 128 * high + 128 ≤ 2 ^ 32
 more_fits zero high h m l = absurd (omega arith)
 more_fits (suc zero) high h m l = omega arith
 more_fits (suc (suc zero)) high h m l = omega arith

@@ -7,7 +7,8 @@ use Rattle.std.specs.Fn.{FnReturnsAt}
 module _ {F T R : Type 0} (g : Shared F (Bor T × Unit {0}) R) (f : F) where
   -- f may be called with a `&` to each item
   abbrev pub AcceptsItems : List T → Type 0
-  AcceptsItems xs = (i : ℕ) (p : Bor T) → i < length xs → p.now ≡ slice_index_or xs i p.now → g.pre f (p, tt)
+  AcceptsItems xs =
+      (i : ℕ) (p : Bor T) → i < length xs → p.now ≡ slice_index_or xs i p.now → g.pre f (p, tt)
 
   -- the results are those of calls of f with a `&` to each item, in order
   abbrev pub GivesItems : List T → List R → Type 0

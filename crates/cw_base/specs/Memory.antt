@@ -1,8 +1,8 @@
 -- A source and a sink over memory, as their callers see them.
 use Rattle.std.specs.Prelude.{◌≡◌, ℕ, ◌+◌, ◌-◌, ◌^◌, ◌<◌, min, List, length}
 
--- what is left to give, the most bytes of one call, the numbers of the calls that fail, the number of
--- calls so far, and how many of them failed
+-- what is left to give, the most bytes of one call, the numbers of the calls that fail, the number
+-- of calls so far, and how many of them failed
 pub record SourceState : Type 0 where
   pub left : List ℕ
   pub piece : ℕ

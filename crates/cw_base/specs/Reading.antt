@@ -1,4 +1,5 @@
--- What stands at the front of bytes: a value and the bytes after it, or a refusal and the bytes that it leaves.
+-- What stands at the front of bytes: a value and the bytes after it, or a refusal and the bytes
+-- that it leaves.
 use Rattle.std.specs.Int.{Width, w16, w32, w64, byte_len, from_be_bytes}
 use Rattle.std.specs.Prelude.{◌≡◌, ℕ, zero, suc, ◌+◌, ◌*◌, ◌-◌, ◌==◌, ◌&&◌, Bool, true, false, not, nat_lt, if◌then◌else◌, List, [], ◌∷◌, length, take, drop, Result, Ok, Err}
 use Rattle.cw_base.specs.Counts.{Counts}
@@ -20,13 +21,14 @@ abbrev pub IsRead : {X Y : Type 0} → (X → Y) → Result X CodecError → Lis
 IsRead view (Ok x) left read = read ≡ Ok (view x, left)
 IsRead view (Err e) left read = read ≡ Err (e, left)
 
--- All parts were read, and these bytes are left behind them. No format refuses for want of memory itself.
+-- All parts were read, and these bytes are left behind them. No format refuses for want of memory
+-- itself.
 abbrev pub IsBehind : {A : Type 0} → Reading A → List ℕ → Type 0
 IsBehind (Ok x) left = x.1 ≡ left
 IsBehind (Err e) left = e ≡ (NoMemory, left)
 
--- A call that takes memory says that it found none only where nothing else refuses the bytes, and then it stands behind
--- all parts; each other refusal is that of the bytes.
+-- A call that takes memory says that it found none only where nothing else refuses the bytes, and
+-- then it stands behind all parts; each other refusal is that of the bytes.
 abbrev pub IsRefused : {Y : Type 0} → CodecError → List ℕ → Reading Y → Type 0
 IsRefused NoMemory left read = IsBehind read left
 IsRefused e left read = read ≡ Err (e, left)
@@ -43,12 +45,14 @@ byte_at (b ∷ rest) = Ok (b, rest)
 
 -- so many bytes
 abbrev pub bytes_at : ℕ → List ℕ → Reading (List ℕ)
-bytes_at n bytes = if nat_lt (length bytes) n then Err (EndOfBuffer, bytes) else Ok (take n bytes, drop n bytes)
+bytes_at n bytes =
+    if nat_lt (length bytes) n then Err (EndOfBuffer, bytes) else Ok (take n bytes, drop n bytes)
 
 -- a number of so many bytes, the high byte first
 abbrev pub number_at : Width → List ℕ → Reading ℕ
 number_at w bytes =
-    if nat_lt (length bytes) (byte_len w) then Err (EndOfBuffer, bytes) else Ok (from_be_bytes w (take (byte_len w) bytes), drop (byte_len w) bytes)
+    if nat_lt (length bytes) (byte_len w) then Err (EndOfBuffer, bytes)
+    else Ok (from_be_bytes w (take (byte_len w) bytes), drop (byte_len w) bytes)
 
 -- numbers of two, four and eight bytes
 unfoldable pub be16_at : List ℕ → Reading ℕ
@@ -69,11 +73,14 @@ abbrev pub low_byte : ℕ → Result (ℕ × List ℕ) CodecError → Result (�
 low_byte b (Ok high) = Ok (b - 128 + 128 * high.0, high.1)
 low_byte b (Err e) = Err e
 
--- the number that a varint of at most `more + 1` bytes spells, and the bytes after it. The last byte allowed is at most 15
+-- the number that a varint of at most `more + 1` bytes spells, and the bytes after it. The last
+-- byte allowed is at most 15
 abbrev pub varint_from : (more : ℕ) (first : Bool) → List ℕ → Result (ℕ × List ℕ) CodecError
 varint_from more first [] = Err EndOfBuffer
-varint_from zero first (b ∷ rest) = if nat_lt 15 b then Err InvalidVarint else last_byte first b rest
-varint_from (suc more) first (b ∷ rest) = if nat_lt b 128 then last_byte first b rest else low_byte b (varint_from more false rest)
+varint_from zero first (b ∷ rest) =
+    if nat_lt 15 b then Err InvalidVarint else last_byte first b rest
+varint_from (suc more) first (b ∷ rest) =
+    if nat_lt b 128 then last_byte first b rest else low_byte b (varint_from more false rest)
 
 -- a refusal leaves all bytes
 abbrev pub or_all_left : {A : Type 0} → List ℕ → Result (A × List ℕ) CodecError → Reading A

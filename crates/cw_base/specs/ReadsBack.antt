@@ -8,9 +8,11 @@ abbrev pub IsBytes : List ℕ → Type 0
 IsBytes bytes = (i : ℕ) → get_or bytes i 0 < 256
 
 -- a format of the values that fit, and how it is read
-pub record ReadsBack {A : Type 0} (format : A → List ℕ) (fits : A → Type 0) (read : List ℕ → Reading A) : Type 0 where
+pub record ReadsBack {A : Type 0} (format : A → List ℕ) (fits : A → Type 0)
+    (read : List ℕ → Reading A) : Type 0 where
   -- what is read is in the format
-  pub found : (bytes rest : List ℕ) (x : A) → IsBytes bytes → read bytes ≡ Ok (x, rest) → (bytes ≡ format x ++ rest) × fits x
+  pub found : (bytes rest : List ℕ) (x : A) → IsBytes bytes → read bytes ≡ Ok (x, rest)
+      → (bytes ≡ format x ++ rest) × fits x
   -- what is in the format is read as itself, whatever follows it
   pub again : (x : A) (rest : List ℕ) → fits x → read (format x ++ rest) ≡ Ok (x, rest)
 

@@ -20,7 +20,8 @@ still_low leaves height few low less =
           absurd (omega arith)
     ]
 
-pub rises : (leaves room height : ℕ) → leaves ≤ 65535 → room < leaves → Rises leaves room height → Rises leaves (room * 2) (height + 1)
+pub rises : (leaves room height : ℕ) → leaves ≤ 65535 → room < leaves → Rises leaves room height
+    → Rises leaves (room * 2) (height + 1)
 rises leaves room height few less r =
     let is = r.room_is in
     let here : 2 ^ height < leaves = omega arith in
@@ -32,11 +33,13 @@ rises leaves room height few less r =
       low = omega arith;
       below = λ g l. elim (cases_lt g height) [
         | inl lt ↦ r.below g lt
-        | inr ge ↦ let same : height ≡ g = omega arith in subst (λ (h : ℕ). 2 ^ h < leaves) same here
+        | inr ge ↦ let same : height ≡ g =
+            omega arith in subst (λ (h : ℕ). 2 ^ h < leaves) same here
       ];
     }
 
-pub risen : (leaves room height : ℕ) → leaves ≤ room → Rises leaves room height → IsHeight leaves height
+pub risen : (leaves room height : ℕ) → leaves ≤ room → Rises leaves room height
+    → IsHeight leaves height
 risen leaves room height enough r =
     record {
       enough = let is = r.room_is in omega arith;
@@ -48,12 +51,19 @@ risen leaves room height enough r =
 
 -- a tree of so few leaves has at most 16 levels above them
 pub height_within : (leaves : ℕ) → leaves ≤ 65535 → (h : ℕ) × IsHeight leaves h × (h ≤ 16)
-height_within leaves few = up 17 1 0 (omega arith) (record { room_is = omega arith; low = omega arith; below = λ g l. absurd (omega arith) })
+height_within leaves few =
+    up 17 1 0 (omega arith) (record {
+      room_is = omega arith;
+      low = omega arith;
+      below = λ g l. absurd (omega arith);
+    })
   where
-    up : (left room height : ℕ) → height + left ≡ 17 → Rises leaves room height → (h : ℕ) × IsHeight leaves h × (h ≤ 16)
+    up : (left room height : ℕ) → height + left ≡ 17 → Rises leaves room height
+        → (h : ℕ) × IsHeight leaves h × (h ≤ 16)
     up zero room height sum r = absurd (let low = r.low in omega arith)
     up (suc left) room height sum r =
         elim (cases_lt room leaves) [
-          | inl lt ↦ up left (room * 2) (height + 1) (omega arith) (rises leaves room height few lt r)
+          | inl lt ↦ up left (room * 2) (height + 1) (omega arith)
+              (rises leaves room height few lt r)
           | inr ge ↦ (height, risen leaves room height ge r, r.low)
         ]

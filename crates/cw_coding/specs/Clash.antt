@@ -10,11 +10,14 @@ use Rattle.cw_coding.specs.Totals.{total_of}
 -- below place n, texts of one digest are one text
 abbrev pub AreTold : {D : Type 0} → (List ℕ → D) → (n : ℕ) (ours theirs : List (List ℕ)) → Type 0
 AreTold hash n ours theirs =
-    (p : ℕ) (a b : List ℕ) → p < n → slice_get ours p ≡ Some a → slice_get theirs p ≡ Some b → hash a ≡ hash b → a ≡ b
+    (p : ℕ) (a b : List ℕ) → p < n → slice_get ours p ≡ Some a → slice_get theirs p ≡ Some b
+    → hash a ≡ hash b → a ≡ b
 
 -- below index n, the chunks have the same shards
 abbrev pub AreAlike : {D : Type 0} → (n : ℕ) (ours theirs : List (Piece D)) → Type 0
-AreAlike {D} n ours theirs = (i : ℕ) (p q : Piece D) → i < n → slice_get ours i ≡ Some p → slice_get theirs i ≡ Some q → p.shard ≡ q.shard
+AreAlike {D} n ours theirs =
+    (i : ℕ) (p q : Piece D) → i < n → slice_get ours i ≡ Some p → slice_get theirs i ≡ Some q
+    → p.shard ≡ q.shard
 
 -- the lowest index at which two texts have different shards
 pub record IsFirstDifference (c : Counts) (first second : List ℕ) (index : ℕ) : Type 0 where
@@ -23,10 +26,12 @@ pub record IsFirstDifference (c : Counts) (first second : List ℕ) (index : ℕ
   pub before : (i : ℕ) → i < index → row_at c.minimum first i ≡ row_at c.minimum second i
 
 module _ {D : Type 0} (hash : List ℕ → D) (content : D → List ℕ) where
-  -- all that is hashed from a chunk up to the root: its shard, and the texts on the way up from the shard's
-  -- digest; none where no such way leads up
+  -- all that is hashed from a chunk up to the root: its shard, and the texts on the way up from the
+  -- shard's digest; none where no such way leads up
   unfoldable pub way_of : Piece D → Option (List (List ℕ))
-  way_of p = option_map (λ texts. p.shard ∷ texts) (way_by hash content p.leaf_count p.siblings p.index (hash p.shard))
+  way_of p =
+      option_map (λ texts. p.shard ∷ texts)
+      (way_by hash content p.leaf_count p.siblings p.index (hash p.shard))
 
   -- the first place at which all that is hashed from two chunks has different texts of one digest
   pub record IsFirstClash (p q : Piece D) (one other : List ℕ) : Type 0 where
@@ -42,13 +47,15 @@ module _ {D : Type 0} (hash : List ℕ → D) (content : D → List ℕ) where
     pub one_digest : hash one ≡ hash other
     pub before : AreTold hash place ours theirs
 
-  -- where two texts of one root clash: first on the ways up from the lowest index of different shards
+  -- where two texts of one root clash: first on the ways up from the lowest index of different
+  -- shards
   pub record AreClash (c : Counts) (first second one other : List ℕ) : Type 0 where
     pub texts : first ≢ second
     pub one_root : root_of_text hash content c first ≡ root_of_text hash content c second
     pub index : ℕ
     pub lowest : IsFirstDifference c first second index
-    pub clash : IsFirstClash (piece_of hash content c first index) (piece_of hash content c second index) one other
+    pub clash : IsFirstClash (piece_of hash content c first index)
+        (piece_of hash content c second index) one other
 
   -- a chunk that leads to this root
   abbrev pub Leads : Piece D → D → Type 0

@@ -22,7 +22,8 @@ pub record IsEncodable (c : Counts) (n : ℕ) : Type 0 where
   pub codable : IsCodable c n
 
 -- the root of a text: that of the digests of its codeword's rows
-abbrev pub root_of_text : {D : Type 0} → (hash : List ℕ → D) (content : D → List ℕ) (c : Counts) (text : List ℕ) → Option D
+abbrev pub root_of_text : {D : Type 0}
+    → (hash : List ℕ → D) (content : D → List ℕ) (c : Counts) (text : List ℕ) → Option D
 root_of_text hash content c text = root_of hash content (row_digests hash c.minimum c.extra text)
 
 -- why a text is refused: the first cause
@@ -33,7 +34,8 @@ IsEncodeRefusal c n NoMemory = Unit {0}
 IsEncodeRefusal c n _ = ⊥
 
 -- the chunk of row i of a text
-abbrev pub piece_of : {D : Type 0} → (hash : List ℕ → D) (content : D → List ℕ) (c : Counts) (text : List ℕ) (i : ℕ) → Piece D
+abbrev pub piece_of : {D : Type 0}
+    → (hash : List ℕ → D) (content : D → List ℕ) (c : Counts) (text : List ℕ) (i : ℕ) → Piece D
 piece_of hash content c text i =
     record {
       shard = row_at c.minimum text i;
@@ -43,7 +45,8 @@ piece_of hash content c text i =
     }
 
 -- what a text is encoded to
-pub record IsEncoding {D : Type 0} (hash : List ℕ → D) (content : D → List ℕ) (c : Counts) (text : List ℕ) (root : D) (pieces : List (Piece D)) : Type 0 where
+pub record IsEncoding {D : Type 0} (hash : List ℕ → D) (content : D → List ℕ) (c : Counts)
+    (text : List ℕ) (root : D) (pieces : List (Piece D)) : Type 0 where
   pub total : total_of c ≤ 65535
   pub codable : IsCodable c (length text)
   pub rooted : root_of hash content (row_digests hash c.minimum c.extra text) ≡ Some root

@@ -7,7 +7,8 @@ use Rattle.cw_tree.specs.Widths.{shard_len}
 
 -- the text's length in four bytes, the text, and zeros up to k shards of one width
 unfoldable pub layout : (k : ℕ) (text : List ℕ) → List ℕ
-layout k text = be32 (length text) ++ text ++ replicate (k * shard_len (length text) k - (length text + 4)) 0
+layout k text =
+    be32 (length text) ++ text ++ replicate (k * shard_len (length text) k - (length text + 4)) 0
 
 -- row i of the text's codeword, whose first k rows joined are its layout
 unfoldable pub row_at : (k : ℕ) (text : List ℕ) (i : ℕ) → List ℕ

@@ -20,70 +20,113 @@ use Rattle.cw_ledger.proofs.Reading.{found_again}
 -- ---- one frame more
 
 one_more : (place height : ℕ) (frames payloads : List (List ℕ)) (frame payload : List ℕ)
-    → payloads_from place height frames ≡ Ok payloads → payload_in (height + length frames) frame ≡ Some payload → payloads_from place height (frames ++ frame ∷ []) ≡ Ok (payloads ++ payload ∷ [])
+    → payloads_from place height frames ≡ Ok payloads
+    → payload_in (height + length frames) frame ≡ Some payload
+    → payloads_from place height (frames ++ frame ∷ []) ≡ Ok (payloads ++ payload ∷ [])
 one_more place height [] payloads frame payload e new =
-    ap (λ n. first_payload place (payload_in n frame) (Ok [])) (let z : height ≡ height + 0 = omega arith in z)
+    ap (λ n. first_payload place (payload_in n frame) (Ok []))
+    (let z : height ≡ height + 0 = omega arith in z)
     ∙ ap (λ o. first_payload place o (Ok [])) new
     ∙ ap (λ ps. Ok (ps ++ payload ∷ [])) (same_Ok [] payloads e)
-one_more place height (f ∷ fs) payloads frame payload e new = go (λ ps is. one_more (place + 9 + length f) (height + 1) fs ps frame payload is next) (payload_in height f) (payloads_from (place + 9 + length f) (height + 1) fs) refl refl e
+one_more place height (f ∷ fs) payloads frame payload e new =
+    go (λ ps is. one_more (place + 9 + length f) (height + 1) fs ps frame payload is next)
+    (payload_in height f) (payloads_from (place + 9 + length f) (height + 1) fs) refl refl e
   where
     next : payload_in (height + 1 + length fs) frame ≡ Some payload
-    next = ap (λ n. payload_in n frame) (let z : height + 1 + length fs ≡ height + suc (length fs) = omega arith in z) ∙ new
+    next =
+        ap (λ n. payload_in n frame)
+        (let z : height + 1 + length fs ≡ height + suc (length fs) = omega arith in z)
+        ∙ new
 
-    go : ((ps : List (List ℕ)) → payloads_from (place + 9 + length f) (height + 1) fs ≡ Ok ps → payloads_from (place + 9 + length f) (height + 1) (fs ++ frame ∷ []) ≡ Ok (ps ++ payload ∷ []))
-        → (o : Option (List ℕ)) (r : Result (List (List ℕ)) ℕ) → payload_in height f ≡ o → payloads_from (place + 9 + length f) (height + 1) fs ≡ r → first_payload place o r ≡ Ok payloads → payloads_from place height ((f ∷ fs) ++ frame ∷ []) ≡ Ok (payloads ++ payload ∷ [])
+    go : ((ps : List (List ℕ)) → payloads_from (place + 9 + length f) (height + 1) fs ≡ Ok ps
+        → payloads_from (place + 9 + length f) (height + 1) (fs ++ frame ∷ [])
+        ≡ Ok (ps ++ payload ∷ []))
+        → (o : Option (List ℕ)) (r : Result (List (List ℕ)) ℕ) → payload_in height f ≡ o
+        → payloads_from (place + 9 + length f) (height + 1) fs ≡ r
+        → first_payload place o r ≡ Ok payloads
+        → payloads_from place height ((f ∷ fs) ++ frame ∷ []) ≡ Ok (payloads ++ payload ∷ [])
     go later None r first rest h = absurd cc
     go later (Some p) (Err q) first rest h = absurd cc
     go later (Some p) (Ok ps) first rest h =
-        ap (λ o. first_payload place o (payloads_from (place + 9 + length f) (height + 1) (fs ++ frame ∷ []))) first
+        ap
+        (λ o. first_payload place o
+        (payloads_from (place + 9 + length f) (height + 1) (fs ++ frame ∷ [])))
+        first
         ∙ ap (with_payload p) (later ps rest)
         ∙ ap (λ l. Ok (l ++ payload ∷ [])) (same_Ok (p ∷ ps) payloads h)
 
 -- ---- what a log's images show
 
-pub finds_payloads : (frames payloads : List (List ℕ)) (image : List ℕ) → payloads_from 0 0 frames ≡ Ok payloads → Finds frames image → FindsPayloads payloads image
+pub finds_payloads : (frames payloads : List (List ℕ)) (image : List ℕ)
+    → payloads_from 0 0 frames ≡ Ok payloads → Finds frames image → FindsPayloads payloads image
 finds_payloads frames payloads image found finds = ap payloads_of finds ∙ found
 
-pub before_or_found : (moment : Moment) (image : List ℕ) → IsBeforeOrSame moment image → IsBeforeOrPayloads moment image
+pub before_or_found : (moment : Moment) (image : List ℕ) → IsBeforeOrSame moment image
+    → IsBeforeOrPayloads moment image
 before_or_found moment image (inl is) = inl is
 before_or_found moment image (inr same) = inr (ap payloads_of same)
 
-pub starts_so : (old new : DiskState) → LeavesOnly old new (IsBeforeOrSame old.now) → LeavesOnly old new (IsBeforeOrPayloads old.now)
-starts_so old new left = weakens old new (IsBeforeOrSame old.now) (IsBeforeOrPayloads old.now) (before_or_found old.now) left
+pub starts_so : (old new : DiskState) → LeavesOnly old new (IsBeforeOrSame old.now)
+    → LeavesOnly old new (IsBeforeOrPayloads old.now)
+starts_so old new left =
+    weakens old new (IsBeforeOrSame old.now) (IsBeforeOrPayloads old.now) (before_or_found old.now)
+    left
 
 -- nothing was done to the disk
-pub stays_found : (frames payloads others : List (List ℕ)) (gate : ℕ) (disk : DiskState) → payloads_from 0 0 frames ≡ Ok payloads → HasSettled frames gate disk.now → LeavesOnly disk disk (FindsEither payloads others)
+pub stays_found : (frames payloads others : List (List ℕ)) (gate : ℕ) (disk : DiskState)
+    → payloads_from 0 0 frames ≡ Ok payloads → HasSettled frames gate disk.now
+    → LeavesOnly disk disk (FindsEither payloads others)
 stays_found frames payloads others gate disk found settled =
     stays disk disk (FindsEither payloads others) (record { now = refl; past = refl; calls = refl })
-    (λ image is. inl (finds_payloads frames payloads image found (settled_images frames gate disk.now settled image is)))
+    (λ image is. inl
+    (finds_payloads frames payloads image found
+    (settled_images frames gate disk.now settled image is)))
 
 -- ---- a payload more
 
 long_frame : (height : ℕ) (payload : List ℕ) → 0 < length (frame_of (height, payload))
 long_frame height payload = omega (arith, length-append (be64 height) payload, length-be64 height)
 
-added : (frames : List (List ℕ)) (frame : List ℕ) → 0 < length frame → with_frame frames frame ≡ frames ++ frame ∷ []
+added : (frames : List (List ℕ)) (frame : List ℕ) → 0 < length frame
+    → with_frame frames frame ≡ frames ++ frame ∷ []
 added frames [] none = absurd (omega arith)
 added frames (b ∷ bs) long = refl
 
 -- how a replica stands once its log has the frame
-pub record IsAdded (frames more : List (List ℕ)) (payload : List ℕ) (entries : List (ℕ × ℕ)) : Type 0 where
+pub record IsAdded (frames more : List (List ℕ)) (payload : List ℕ)
+    (entries : List (ℕ × ℕ)) : Type 0 where
   pub kept_more : KeepBalances more entries
   pub payloads : kept_payloads more ≡ kept_payloads frames ++ payload ∷ []
 
-module _ (frames : List (List ℕ)) (entries : List (ℕ × ℕ)) (are : KeepBalances frames entries) (payload : List ℕ) (fits : length frames < 2 ^ 64) where
+module _ (frames : List (List ℕ)) (entries : List (ℕ × ℕ)) (are : KeepBalances frames entries)
+    (payload : List ℕ) (fits : length frames < 2 ^ 64) where
   abbrev frame : List ℕ
   frame = frame_of (length frames, payload)
 
-  pub found_more : payloads_from 0 0 (frames ++ frame ∷ []) ≡ Ok (kept_payloads frames ++ payload ∷ [])
-  found_more = one_more 0 0 frames (kept_payloads frames) frame payload are.found (ap (λ n. payload_in n frame) (let z : 0 + length frames ≡ length frames = omega arith in z) ∙ found_again (length frames) payload fits)
+  pub found_more : payloads_from 0 0 (frames ++ frame ∷ [])
+      ≡ Ok (kept_payloads frames ++ payload ∷ [])
+  found_more =
+      one_more 0 0 frames (kept_payloads frames) frame payload are.found
+      (ap (λ n. payload_in n frame)
+      (let z : 0 + length frames ≡ length frames = omega arith in z)
+      ∙ found_again (length frames) payload fits)
 
-  pub any_moment : (old new : DiskState) → LeavesOnly old new (FindsWithOrWithout frames frame) → LeavesOnly old new (FindsEither (kept_payloads frames) (kept_payloads frames ++ payload ∷ []))
-  any_moment old new left = weakens old new (FindsWithOrWithout frames frame) (FindsEither (kept_payloads frames) (kept_payloads frames ++ payload ∷ [])) (λ image found. in_payloads image found) left
+  pub any_moment : (old new : DiskState) → LeavesOnly old new (FindsWithOrWithout frames frame)
+      → LeavesOnly old new
+      (FindsEither (kept_payloads frames) (kept_payloads frames ++ payload ∷ []))
+  any_moment old new left =
+      weakens old new (FindsWithOrWithout frames frame)
+      (FindsEither (kept_payloads frames) (kept_payloads frames ++ payload ∷ []))
+      (λ image found. in_payloads image found) left
     where
-      in_payloads : (image : List ℕ) → FindsWithOrWithout frames frame image → FindsEither (kept_payloads frames) (kept_payloads frames ++ payload ∷ []) image
-      in_payloads image (inl finds) = inl (finds_payloads frames (kept_payloads frames) image are.found finds)
-      in_payloads image (inr finds) = inr (finds_payloads (frames ++ frame ∷ []) (kept_payloads frames ++ payload ∷ []) image found_more finds)
+      in_payloads : (image : List ℕ) → FindsWithOrWithout frames frame image
+          → FindsEither (kept_payloads frames) (kept_payloads frames ++ payload ∷ []) image
+      in_payloads image (inl finds) =
+          inl (finds_payloads frames (kept_payloads frames) image are.found finds)
+      in_payloads image (inr finds) =
+          inr
+          (finds_payloads (frames ++ frame ∷ []) (kept_payloads frames ++ payload ∷ []) image
+          found_more finds)
 
   module _ (more : List (List ℕ)) (more_is : more ≡ with_frame frames frame) where
     more_are : more ≡ frames ++ frame ∷ []
@@ -101,16 +144,26 @@ module _ (frames : List (List ℕ)) (entries : List (ℕ × ℕ)) (are : KeepBal
     pub written_more : more ≡ frames_of (kept_payloads more)
     written_more =
         more_are ∙ ap (λ fs. fs ++ frame ∷ []) are.written
-        ∙ ap (λ n. frames_of (kept_payloads frames) ++ frame_of (n, payload) ∷ []) (sym (as_many frames entries are))
+        ∙ ap (λ n. frames_of (kept_payloads frames) ++ frame_of (n, payload) ∷ [])
+        (sym (as_many frames entries are))
         ∙ sym (frames_more (kept_payloads frames) payload) ∙ ap frames_of (sym payloads_are)
 
-    pub are_kept : (room passed : List (ℕ × ℕ)) → ((a : ℕ) → amount_in room a ≡ amount_in entries a) → ((a : ℕ) → amount_in passed a ≡ moved_all (amount_in room) (transfers payload) a) → KeepBalances more passed
+    pub are_kept : (room passed : List (ℕ × ℕ)) → ((a : ℕ) → amount_in room a ≡ amount_in entries a)
+        → ((a : ℕ) → amount_in passed a ≡ moved_all (amount_in room) (transfers payload) a)
+        → KeepBalances more passed
     are_kept room passed same moves = record {
       found = found_kept;
       written = written_more;
-      balanced = λ a. moves a ∙ moved_all_same (amount_in room) (balances (kept_payloads frames)) (transfers payload) (λ b. same b ∙ are.balanced b) a ∙ sym (balances_more (kept_payloads frames) payload a) ∙ ap (λ ps. balances ps a) (sym payloads_are);
+      balanced =
+          λ a. moves a
+          ∙ moved_all_same (amount_in room) (balances (kept_payloads frames)) (transfers payload)
+          (λ b. same b ∙ are.balanced b) a
+          ∙ sym (balances_more (kept_payloads frames) payload a)
+          ∙ ap (λ ps. balances ps a) (sym payloads_are);
     }
 
 -- the entries have what they had
-pub kept_same : (frames : List (List ℕ)) (old new : List (ℕ × ℕ)) → KeepBalances frames old → ((a : ℕ) → amount_in new a ≡ amount_in old a) → KeepBalances frames new
-kept_same frames old new are same = record { found = are.found; written = are.written; balanced = λ a. same a ∙ are.balanced a }
+pub kept_same : (frames : List (List ℕ)) (old new : List (ℕ × ℕ)) → KeepBalances frames old
+    → ((a : ℕ) → amount_in new a ≡ amount_in old a) → KeepBalances frames new
+kept_same frames old new are same =
+    record { found = are.found; written = are.written; balanced = λ a. same a ∙ are.balanced a }

@@ -9,7 +9,8 @@ abbrev pub behind_height : ℕ → Reading ℕ → Option (List ℕ)
 behind_height height (Ok read) = if read.0 == height then Some read.1 else None
 behind_height height (Err refusal) = None
 
--- the payload in a frame of this height; none where the frame is shorter than eight bytes or of another height
+-- the payload in a frame of this height; none where the frame is shorter than eight bytes or of
+-- another height
 abbrev pub payload_in : ℕ → List ℕ → Option (List ℕ)
 payload_in height frame = behind_height height (be64_at frame)
 
@@ -23,17 +24,23 @@ abbrev pub first_payload : ℕ → Option (List ℕ) → Result (List (List ℕ)
 first_payload place None more = Err place
 first_payload place (Some payload) more = with_payload payload more
 
--- the payloads of frames of heights from this one on, the first frame behind its gate byte at this place, or the place of the gate byte of the first frame that is shorter than eight bytes or of another height
+-- the payloads of frames of heights from this one on, the first frame behind its gate byte at this
+-- place, or the place of the gate byte of the first frame that is shorter than eight bytes or of
+-- another height
 abbrev pub payloads_from : ℕ → ℕ → List (List ℕ) → Result (List (List ℕ)) ℕ
 payloads_from place height [] = Ok []
-payloads_from place height (frame ∷ frames) = first_payload place (payload_in height frame) (payloads_from (place + 9 + length frame) (height + 1) frames)
+payloads_from place height (frame ∷ frames) =
+    first_payload place (payload_in height frame)
+    (payloads_from (place + 9 + length frame) (height + 1) frames)
 
 -- the payloads of a log's frames
 abbrev pub payloads_of : Result (List (List ℕ)) ℕ → Result (List (List ℕ)) ℕ
 payloads_of (Ok frames) = payloads_from 0 0 frames
 payloads_of (Err place) = Err place
 
--- what a start finds on these bytes: the payloads of heights 0 on, or the place of the gate byte of the first frame that is cut, or, where none is, that is shorter than eight bytes or whose height isn't one above that of the frame before
+-- what a start finds on these bytes: the payloads of heights 0 on, or the place of the gate byte of
+-- the first frame that is cut, or, where none is, that is shorter than eight bytes or whose height
+-- isn't one above that of the frame before
 abbrev pub read_payloads : List ℕ → Result (List (List ℕ)) ℕ
 read_payloads bytes = payloads_of (read_log bytes)
 
@@ -45,6 +52,8 @@ FindsPayloads payloads bytes = read_payloads bytes ≡ Ok payloads
 abbrev pub FindsEither : List (List ℕ) → List (List ℕ) → List ℕ → Type 0
 FindsEither before after bytes = FindsPayloads before bytes ⊎ FindsPayloads after bytes
 
--- an image that could be left before, or one on which a start finds what it finds on what a read gave then
+-- an image that could be left before, or one on which a start finds what it finds on what a read
+-- gave then
 abbrev pub IsBeforeOrPayloads : Moment → List ℕ → Type 0
-IsBeforeOrPayloads moment image = IsImage moment image ⊎ (read_payloads image ≡ read_payloads moment.seen)
+IsBeforeOrPayloads moment image =
+    IsImage moment image ⊎ (read_payloads image ≡ read_payloads moment.seen)

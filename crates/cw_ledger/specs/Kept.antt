@@ -30,10 +30,12 @@ HasRoom entries ts = AllByRecursion (λ t. has_entry entries t.to ≡ true) ts
 
 -- an account was set to an amount, and the others kept theirs
 pub record IsSet (account amount : ℕ) (old new : List (ℕ × ℕ)) : Type 0 where
-  pub amounts : (other : ℕ) → amount_in new other ≡ (if account == other then amount else amount_in old other)
+  pub amounts : (other : ℕ)
+      → amount_in new other ≡ (if account == other then amount else amount_in old other)
   pub stays : (other : ℕ) → has_entry old other ≡ true → has_entry new other ≡ true
   pub sorted : IsStrictlySortedBy nat_cmp (keys_of new)
-  pub accounts : AllByRecursion (λ a. a < account_count) (keys_of old) → AllByRecursion (λ a. a < account_count) (keys_of new)
+  pub accounts : AllByRecursion (λ a. a < account_count) (keys_of old)
+      → AllByRecursion (λ a. a < account_count) (keys_of new)
   pub sums : sum (values_of new) + amount_in old account ≡ sum (values_of old) + amount
 
 -- the payloads, where all frames have theirs
@@ -45,7 +47,8 @@ payloads_or_none (Err place) = []
 abbrev pub kept_payloads : List (List ℕ) → List (List ℕ)
 kept_payloads frames = payloads_or_none (payloads_from 0 0 frames)
 
--- A log's frames are those of the payloads that are found in them, and the entries are the balances that these leave.
+-- A log's frames are those of the payloads that are found in them, and the entries are the balances
+-- that these leave.
 pub record KeepBalances (frames : List (List ℕ)) (entries : List (ℕ × ℕ)) : Type 0 where
   pub found : payloads_from 0 0 frames ≡ Ok (kept_payloads frames)
   pub written : frames ≡ frames_of (kept_payloads frames)

@@ -7,8 +7,9 @@ use Rattle.node_disk.specs.Log.{LogState}
 use Rattle.cw_ledger.specs.declared.replica.Applied.{Applied}
 use Rattle.cw_ledger.specs.declared.replica.Applied.TheVariants.{Done, Known, Gap}
 
--- What a replica holds: the payloads of the blocks that it applied, of the heights from 0 on; and of its log the place of
--- the last gate, whether an earlier call left the disk in doubt, and the disk.
+-- What a replica holds: the payloads of the blocks that it applied, of the heights from 0 on; and
+-- of its log the place of the last gate, whether an earlier call left the disk in doubt, and the
+-- disk.
 pub record Ledger (D : Type 0) : Type 0 where
   pub payloads : List (List ℕ)
   pub gate : ℕ
@@ -23,13 +24,15 @@ frame_of at = be64 at.0 ++ at.1
 abbrev pub frames_of : List (List ℕ) → List (List ℕ)
 frames_of payloads = map frame_of (enumerate_from 0 payloads)
 
--- the log of a replica: the frames of its payloads, the place of the last gate, whether it failed, and the disk
+-- the log of a replica: the frames of its payloads, the place of the last gate, whether it failed,
+-- and the disk
 abbrev pub log_of : {D : Type 0} → Ledger D → LogState D
 log_of s = record { frames = frames_of s.payloads; gate = s.gate; failed = s.failed; disk = s.disk }
 
 -- a replica that found these payloads, with a log that ends at this gate of this disk
 abbrev pub started : {D : Type 0} → List (List ℕ) → ℕ → D → Ledger D
-started payloads gate disk = record { payloads = payloads; gate = gate; failed = false; disk = disk }
+started payloads gate disk =
+    record { payloads = payloads; gate = gate; failed = false; disk = disk }
 
 -- the same replica over another log
 abbrev pub over : {D : Type 0} → Ledger D → Ledger D → Ledger D
@@ -39,14 +42,18 @@ over s log = record s { gate = log.gate; failed = log.failed; disk = log.disk }
 abbrev pub last_height : ℕ → Option ℕ
 last_height count = if count == 0 then None else Some (count - 1)
 
--- the answer to a block of this height, where the next one is of that: known below it, a gap above it, else done
+-- the answer to a block of this height, where the next one is of that: known below it, a gap above
+-- it, else done
 abbrev pub answer_to : ℕ → ℕ → Applied
-answer_to next height = if nat_lt height next then Known else (if nat_lt next height then Gap next else Done)
+answer_to next height =
+    if nat_lt height next then Known else (if nat_lt next height then Gap next else Done)
 
 -- the payloads after a block: one more, where its height is the next
 abbrev pub applied : List (List ℕ) → Block → List (List ℕ)
-applied payloads block = if block.height == length payloads then payloads ++ block.payload ∷ [] else payloads
+applied payloads block =
+    if block.height == length payloads then payloads ++ block.payload ∷ [] else payloads
 
 -- the frame that is written for a block: none, unless its height is the next
 abbrev pub written_for : List (List ℕ) → Block → List ℕ
-written_for payloads block = if block.height == length payloads then frame_of (length payloads, block.payload) else []
+written_for payloads block =
+    if block.height == length payloads then frame_of (length payloads, block.payload) else []

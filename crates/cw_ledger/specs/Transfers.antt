@@ -13,10 +13,13 @@ transfer_at bytes = record {
   amount = from_be_bytes w64 (take 8 (drop 8 bytes));
 }
 
--- the transfers of a payload: one for each sixteen bytes, and none where its length isn't a multiple of sixteen
+-- the transfers of a payload: one for each sixteen bytes, and none where its length isn't a
+-- multiple of sixteen
 unfoldable pub transfers : List ℕ → List Transfer
 transfers payload =
-    if length payload % 16 == 0 then map (λ i. transfer_at (drop (i * 16) payload)) (range_with_len 0 (length payload / 16)) else []
+    if length payload % 16 == 0
+    then map (λ i. transfer_at (drop (i * 16) payload)) (range_with_len 0 (length payload / 16))
+    else []
 
 -- a transfer applies where the balance is there. Where both are one account nothing changes
 abbrev pub applies : (ℕ → ℕ) → Transfer → Bool
@@ -25,7 +28,10 @@ applies has t = nat_le t.amount (has t.from) && not (t.from == t.to)
 -- what an account has after a transfer, by what each had before
 abbrev pub moved : (ℕ → ℕ) → Transfer → ℕ → ℕ
 moved has t account =
-    if applies has t then (if account == t.from then has account - t.amount else (if account == t.to then has account + t.amount else has account)) else has account
+    if applies has t
+    then (if account == t.from then has account - t.amount
+    else (if account == t.to then has account + t.amount else has account))
+    else has account
 
 -- what an account has at the beginning
 abbrev pub first_balance : ℕ → ℕ
@@ -47,7 +53,11 @@ account_count = 2 ^ 32
 
 -- what an account holds, if it holds something
 abbrev pub holding_of : (ℕ → ℕ) → ℕ → Option Holding
-holding_of has account = if nat_lt 0 (has account) then Some (record { account = account; amount = has account }) else None
+holding_of has account =
+    if nat_lt 0 (has account) then Some (record {
+      account = account;
+      amount = has account;
+    }) else None
 
 -- the accounts that hold something, by number
 abbrev pub holdings : (ℕ → ℕ) → List Holding

@@ -34,7 +34,9 @@ use Rattle.cw_rules.proofs.Certified.{certified_at, certified_in, finalized_in}
 use Rattle.cw_rules.proofs.Blocks.{NoClash, under_held, under_commit, DownTo, down_height, down_same, down_split, down_join, IsRooted, rooted_down, links_rooted, chain_rooted, links_down}
 
 -- what holds of each note holds of one that is there, by the notes before it
-pub each_split : (R : List Note → Note → Type 0) (start notes : List Note) (n : Note) → EachAfter R start notes → In n notes → (front rest : List Note) × (start ++ notes ≡ front ++ rest) × R front n
+pub each_split : (R : List Note → Note → Type 0) (start notes : List Note) (n : Note)
+    → EachAfter R start notes → In n notes
+    → (front rest : List Note) × (start ++ notes ≡ front ++ rest) × R front n
 each_split R start [] n e h = absurd h
 each_split R start (x ∷ xs) n e (inl s) = (start, x ∷ xs, refl, subst (R start) (sym s) e.0)
 each_split R start (x ∷ xs) n e (inr h) =
@@ -42,9 +44,11 @@ each_split R start (x ∷ xs) n e (inr h) =
     (front, rest, sym (append_assoc start (x ∷ []) xs) ∙ joined, holds)
 
 -- the entry that is found is that of a note
-found_entry : (notes : List Note) (epoch : ℕ) (e : ℕ × Commitment) → find (λ e. e.0 == epoch) (filter_map entry notes) ≡ Some e → In (Note.Epoch epoch e.1) notes
+found_entry : (notes : List Note) (epoch : ℕ) (e : ℕ × Commitment)
+    → find (λ e. e.0 == epoch) (filter_map entry notes) ≡ Some e → In (Note.Epoch epoch e.1) notes
 found_entry [] epoch e h = cc
-found_entry (Note.Epoch d c ∷ notes) epoch e h = go (cases_Bool (d == epoch)) (found_entry notes epoch e)
+found_entry (Note.Epoch d c ∷ notes) epoch e h =
+    go (cases_Bool (d == epoch)) (found_entry notes epoch e)
   where
     rest : Option (ℕ × Commitment)
     rest = find (λ e. e.0 == epoch) (filter_map entry notes)
@@ -52,9 +56,12 @@ found_entry (Note.Epoch d c ∷ notes) epoch e h = go (cases_Bool (d == epoch)) 
     first : ℕ × Commitment
     first = (d, c)
 
-    go : ((d == epoch) ≡ true) ⊎ ((d == epoch) ≡ false) → (rest ≡ Some e → In (Note.Epoch epoch e.1) notes) → In (Note.Epoch epoch e.1) (Note.Epoch d c ∷ notes)
+    go : ((d == epoch) ≡ true) ⊎ ((d == epoch) ≡ false)
+        → (rest ≡ Some e → In (Note.Epoch epoch e.1) notes)
+        → In (Note.Epoch epoch e.1) (Note.Epoch d c ∷ notes)
     go (inl t) later =
-        let s : first ≡ e = same_Some first e (sym (cond-true (d == epoch) (Some first) rest t) ∙ h) in
+        let s : first ≡ e =
+        same_Some first e (sym (cond-true (d == epoch) (Some first) rest t) ∙ h) in
         let f : epoch ≡ d = sym (eqb-true d epoch t) in
         let g : e.1 ≡ c = sym (ap (λ (y : ℕ × Commitment). y.1) s) in
         inl (λ i. Note.Epoch (f i) (g i))
@@ -68,45 +75,82 @@ pub record IsFrontOf (w : World) (i : ℕ) (notes : List Note) : Type 0 where
   pub at : slice_get w.members i ≡ Some (Some member)
   pub joined : member_notes member ≡ notes ++ rest
 
--- members M as they were at some time in the run of a world w without a clash: their notes are fronts of those in w
-module _ (r : Rules) (w : World) (four : (epoch : ℕ) → 4 ≤ size r.epochs epoch) (spans : IsSpanned r.epochs) (keepw : AllKeep r (members_of w)) (clear : NoClash r w)
-    (M : Members) (l : AreLawful r.epochs (block_fits r) M) (keep : AllKeep r M) (fronts : (i : ℕ) (notes : List Note) → slice_get M i ≡ Some (Some notes) → IsFrontOf w i notes) where
+-- members M as they were at some time in the run of a world w without a clash: their notes are
+-- fronts of those in w
+module _ (r : Rules) (w : World) (four : (epoch : ℕ) → 4 ≤ size r.epochs epoch)
+    (spans : IsSpanned r.epochs) (keepw : AllKeep r (members_of w)) (clear : NoClash r w)
+    (M : Members) (l : AreLawful r.epochs (block_fits r) M) (keep : AllKeep r M)
+    (fronts : (i : ℕ) (notes : List Note) → slice_get M i ≡ Some (Some notes)
+    → IsFrontOf w i notes) where
   abbrev x : Epochs
   x = r.epochs
 
   -- what an honest member held once is the block under its commitment
-  pub held_under : (i : ℕ) (notes before rest : List Note) → slice_get M i ≡ Some (Some notes) → notes ≡ before ++ rest → (c : Commitment) (b : Block) → held r before c ≡ Some b → block_under r w c ≡ Some b
+  pub held_under : (i : ℕ) (notes before rest : List Note) → slice_get M i ≡ Some (Some notes)
+      → notes ≡ before ++ rest → (c : Commitment) (b : Block) → held r before c ≡ Some b
+      → block_under r w c ≡ Some b
   held_under i notes before rest at joined c b h =
       let f = fronts i notes at in
-      under_held r w four keepw clear i f.member before (rest ++ f.rest) f.at (f.joined ∙ (ap (λ ns. ns ++ f.rest) joined ∙ append_assoc before rest f.rest)) c b h
+      under_held r w four keepw clear i f.member before (rest ++ f.rest) f.at
+      (f.joined ∙ (ap (λ ns. ns ++ f.rest) joined ∙ append_assoc before rest f.rest)) c b h
 
   pub genesis_under : block_under r w (genesis_commitment r) ≡ Some (genesis r)
-  genesis_under = cond-true (same_commitment (genesis_commitment r) (genesis_commitment r)) (Some (genesis r)) (first_some _ (all_notes w)) (same_commitment_self (genesis_commitment r))
+  genesis_under =
+      cond-true (same_commitment (genesis_commitment r) (genesis_commitment r)) (Some (genesis r))
+      (first_some _ (all_notes w)) (same_commitment_self (genesis_commitment r))
 
   -- a proposal that an honest member certified is certified in the world
-  certifies_in : (notes : List Note) (p : Proposal) (c : Commitment) → p.payload ≡ c → has_certified notes p ≡ true → list_any (certifies c) notes ≡ true
+  certifies_in : (notes : List Note) (p : Proposal) (c : Commitment) → p.payload ≡ c
+      → has_certified notes p ≡ true → list_any (certifies c) notes ≡ true
   certifies_in [] p c e h = absurd (false≢true h)
-  certifies_in (Note.Certified q ∷ notes) p c e h = go (cases_Bool (same_proposal p q)) h (certifies_in notes p c e)
+  certifies_in (Note.Certified q ∷ notes) p c e h =
+      go (cases_Bool (same_proposal p q)) h (certifies_in notes p c e)
     where
-      go : (same_proposal p q ≡ true) ⊎ (same_proposal p q ≡ false) → (same_proposal p q || has_certified notes p) ≡ true → (has_certified notes p ≡ true → list_any (certifies c) notes ≡ true) → (same_commitment q.payload c || list_any (certifies c) notes) ≡ true
-      go (inl t) h later = or_left (same_commitment q.payload c) (list_any (certifies c) notes) (subst (λ x. same_commitment x c ≡ true) (sym e ∙ ap (λ (x : Proposal). x.payload) (same_proposal-true p q t)) (same_commitment_self c))
-      go (inr f) h later = or_right (same_commitment q.payload c) (list_any (certifies c) notes) (later (sym (ap (λ b. b || has_certified notes p) f) ∙ h))
+      go : (same_proposal p q ≡ true) ⊎ (same_proposal p q ≡ false)
+          → (same_proposal p q || has_certified notes p) ≡ true
+          → (has_certified notes p ≡ true → list_any (certifies c) notes ≡ true)
+          → (same_commitment q.payload c || list_any (certifies c) notes) ≡ true
+      go (inl t) h later =
+          or_left (same_commitment q.payload c) (list_any (certifies c) notes)
+          (subst (λ x. same_commitment x c ≡ true)
+          (sym e ∙ ap (λ (x : Proposal). x.payload) (same_proposal-true p q t))
+          (same_commitment_self c))
+      go (inr f) h later =
+          or_right (same_commitment q.payload c) (list_any (certifies c) notes)
+          (later (sym (ap (λ b. b || has_certified notes p) f) ∙ h))
   certifies_in (_ ∷ notes) p c e h = certifies_in notes p c e h
 
-  world_certified : (ms : List (Option Member)) (i : ℕ) (m : Member) (p : Proposal) (c : Commitment) → p.payload ≡ c → slice_get ms i ≡ Some (Some m) → has_certified (member_notes m) p ≡ true → list_any (λ o. option_map_or (λ m. list_any (certifies c) (member_notes m)) o false) ms ≡ true
+  world_certified : (ms : List (Option Member)) (i : ℕ) (m : Member) (p : Proposal) (c : Commitment)
+      → p.payload ≡ c → slice_get ms i ≡ Some (Some m) → has_certified (member_notes m) p ≡ true
+      → list_any (λ o. option_map_or (λ m. list_any (certifies c) (member_notes m)) o false) ms
+      ≡ true
   world_certified [] i m p c e at h = cc
   world_certified (None ∷ ms) zero m p c e at h = cc
-  world_certified (Some n ∷ ms) zero m p c e at h = let s : n ≡ m = cc in or_left (list_any (certifies c) (member_notes n)) _ (certifies_in (member_notes n) p c e (subst (λ (y : Member). has_certified (member_notes y) p ≡ true) (sym s) h))
+  world_certified (Some n ∷ ms) zero m p c e at h =
+      let s : n ≡ m = cc in
+      or_left (list_any (certifies c) (member_notes n)) _
+      (certifies_in (member_notes n) p c e
+      (subst (λ (y : Member). has_certified (member_notes y) p ≡ true) (sym s) h))
   world_certified (None ∷ ms) (suc i) m p c e at h = world_certified ms i m p c e at h
-  world_certified (Some n ∷ ms) (suc i) m p c e at h = or_right (list_any (certifies c) (member_notes n)) _ (world_certified ms i m p c e at h)
+  world_certified (Some n ∷ ms) (suc i) m p c e at h =
+      or_right (list_any (certifies c) (member_notes n)) _ (world_certified ms i m p c e at h)
 
   -- the finalizations that an honest member notes stand
-  finals : (notes : List Note) → ((v : Vote) → has_cert notes v ≡ true → Stands x M v) → AllByRecursion (λ p. Stands x M (Finalize p)) (filter_map finalization_of notes)
+  finals : (notes : List Note) → ((v : Vote) → has_cert notes v ≡ true → Stands x M v)
+      → AllByRecursion (λ p. Stands x M (Finalize p)) (filter_map finalization_of notes)
   finals [] f = tt
-  finals (Note.Cert s ∷ notes) f = by_vote s.vote (same_vote_self s.vote) (finals notes (λ v h. f v (or_right (same_vote v s.vote) (has_cert notes v) h)))
+  finals (Note.Cert s ∷ notes) f =
+      by_vote s.vote (same_vote_self s.vote)
+      (finals notes (λ v h. f v (or_right (same_vote v s.vote) (has_cert notes v) h)))
     where
-      by_vote : (v : Vote) → same_vote v s.vote ≡ true → AllByRecursion (λ p. Stands x M (Finalize p)) (filter_map finalization_of notes) → AllByRecursion (λ p. Stands x M (Finalize p)) (cons_option (finalized v) (filter_map finalization_of notes))
-      by_vote (Finalize p) e later = (f (Finalize p) (or_left (same_vote (Finalize p) s.vote) (has_cert notes (Finalize p)) e), later)
+      by_vote : (v : Vote) → same_vote v s.vote ≡ true
+          → AllByRecursion (λ p. Stands x M (Finalize p)) (filter_map finalization_of notes)
+          → AllByRecursion (λ p. Stands x M (Finalize p))
+          (cons_option (finalized v) (filter_map finalization_of notes))
+      by_vote (Finalize p) e later = (
+        f (Finalize p) (or_left (same_vote (Finalize p) s.vote) (has_cert notes (Finalize p)) e),
+        later,
+      )
       by_vote (Notarize p) e later = later
       by_vote (Nullify d v) e later = later
   finals (Note.Block c b ∷ notes) f = finals notes f
@@ -138,57 +182,115 @@ module _ (r : Rules) (w : World) (four : (epoch : ℕ) → 4 ≤ size r.epochs e
     pub under : block_under r w c ≡ Some block
     pub height : block.height ≡ h
 
-  module _ (i : ℕ) (notes before rest : List Note) (at : slice_get M i ≡ Some (Some notes)) (joined : notes ≡ before ++ rest) where
-    parent_some : (b x : Block) → parent_of r before b ≡ Some x → (block_under r w b.context.parent ≡ Some x) × (b.height ≡ x.height + 1)
-    parent_some b x h = by_held (and_then_some (λ a. cond (a.height + 1 == b.height) (Some a) None) (held r before b.context.parent) x h)
+  module _ (i : ℕ) (notes before rest : List Note) (at : slice_get M i ≡ Some (Some notes))
+      (joined : notes ≡ before ++ rest) where
+    parent_some : (b x : Block) → parent_of r before b ≡ Some x
+        → (block_under r w b.context.parent ≡ Some x) × (b.height ≡ x.height + 1)
+    parent_some b x h =
+        by_held
+        (and_then_some (λ a. cond (a.height + 1 == b.height) (Some a) None)
+        (held r before b.context.parent) x h)
       where
-        by_height : (a : Block) → held r before b.context.parent ≡ Some a → ((a.height + 1 == b.height) ≡ true) ⊎ ((a.height + 1 == b.height) ≡ false) → cond (a.height + 1 == b.height) (Some a) None ≡ Some x → (block_under r w b.context.parent ≡ Some x) × (b.height ≡ x.height + 1)
+        by_height : (a : Block) → held r before b.context.parent ≡ Some a
+            → ((a.height + 1 == b.height) ≡ true) ⊎ ((a.height + 1 == b.height) ≡ false)
+            → cond (a.height + 1 == b.height) (Some a) None ≡ Some x
+            → (block_under r w b.context.parent ≡ Some x) × (b.height ≡ x.height + 1)
         by_height a e (inl t) f =
-            let s : a ≡ x = cc (cond-true (a.height + 1 == b.height) (Some a) None t) in
-            (held_under i notes before rest at joined b.context.parent x (e ∙ ap Some s), sym (eqb-true (a.height + 1) b.height t) ∙ ap (λ (y : Block). y.height + 1) s)
+            let s : a ≡ x = cc (cond-true (a.height + 1 == b.height) (Some a) None t) in (
+              held_under i notes before rest at joined b.context.parent x (e ∙ ap Some s),
+              sym (eqb-true (a.height + 1) b.height t) ∙ ap (λ (y : Block). y.height + 1) s,
+            )
         by_height a e (inr n) f = cc (cond-false (a.height + 1 == b.height) (Some a) None n)
 
-        by_held : ((a : Block) × (held r before b.context.parent ≡ Some a) × (cond (a.height + 1 == b.height) (Some a) None ≡ Some x)) → (block_under r w b.context.parent ≡ Some x) × (b.height ≡ x.height + 1)
+        by_held : ((a : Block) × (held r before b.context.parent ≡ Some a)
+            × (cond (a.height + 1 == b.height) (Some a) None ≡ Some x))
+            → (block_under r w b.context.parent ≡ Some x) × (b.height ≡ x.height + 1)
         by_held (a, e, f) = by_height a e (cases_Bool (a.height + 1 == b.height)) f
 
-    here : (h : ℕ) (c d : Commitment) (b : Block) → block_under r w c ≡ Some b → (b.height == h) ≡ true → Some c ≡ Some d → Reached b d h
-    here h c d b u t e = let s : c ≡ d = cc in record { steps = 0; block = b; down = refl; under = subst (λ x. block_under r w x ≡ Some b) s u; height = eqb-true b.height h t }
+    here : (h : ℕ) (c d : Commitment) (b : Block) → block_under r w c ≡ Some b
+        → (b.height == h) ≡ true → Some c ≡ Some d → Reached b d h
+    here h c d b u t e =
+        let s : c ≡ d = cc in
+        record {
+          steps = 0;
+          block = b;
+          down = refl;
+          under = subst (λ x. block_under r w x ≡ Some b) s u;
+          height = eqb-true b.height h t;
+        }
 
-    reached_down : (steps h : ℕ) (c d : Commitment) (b : Block) → block_under r w c ≡ Some b → reached r before steps h c b ≡ Some d → Reached b d h
+    reached_down : (steps h : ℕ) (c d : Commitment) (b : Block) → block_under r w c ≡ Some b
+        → reached r before steps h c b ≡ Some d → Reached b d h
     reached_down zero h c d b u e = go (cases_Bool (b.height == h))
       where
         go : ((b.height == h) ≡ true) ⊎ ((b.height == h) ≡ false) → Reached b d h
         go (inl t) = here h c d b u t (sym (cond-true (b.height == h) (Some c) None t) ∙ e)
         go (inr f) = cc (cond-false (b.height == h) (Some c) None f)
-    reached_down (suc steps) h c d b u e = go (cases_Bool (b.height == h)) (λ x. reached_down steps h b.context.parent d x)
+    reached_down (suc steps) h c d b u e =
+        go (cases_Bool (b.height == h)) (λ x. reached_down steps h b.context.parent d x)
       where
         more : Option Commitment
         more = option_and_then (reached r before steps h b.context.parent) (parent_of r before b)
 
-        go : ((b.height == h) ≡ true) ⊎ ((b.height == h) ≡ false) → ((x : Block) → block_under r w b.context.parent ≡ Some x → reached r before steps h b.context.parent x ≡ Some d → Reached x d h) → Reached b d h
+        go : ((b.height == h) ≡ true) ⊎ ((b.height == h) ≡ false)
+            → ((x : Block) → block_under r w b.context.parent ≡ Some x
+            → reached r before steps h b.context.parent x ≡ Some d → Reached x d h)
+            → Reached b d h
         go (inl t) later = here h c d b u t (sym (cond-true (b.height == h) (Some c) more t) ∙ e)
         go (inr f) later =
-            let (x, p, g) = and_then_some (reached r before steps h b.context.parent) (parent_of r before b) d (sym (cond-false (b.height == h) (Some c) more f) ∙ e) in
+            let (x, p, g) =
+            and_then_some (reached r before steps h b.context.parent) (parent_of r before b) d
+            (sym (cond-false (b.height == h) (Some c) more f) ∙ e) in
             let (v, up) = parent_some b x p in
             let s = later x v g in
-            record { steps = suc s.steps; block = s.block; down = (x, v, up, s.down); under = s.under; height = s.height }
+            record {
+              steps = suc s.steps;
+              block = s.block;
+              down = (x, v, up, s.down);
+              under = s.under;
+              height = s.height;
+            }
 
     -- what is reached at a height above genesis lies down from the block of what is finalized
     pub reaching : (h : ℕ) (c : Commitment) → 0 < h → at_height r before h ≡ Some c → Reaching c h
     reaching h c pos high =
         first_some_at search (λ p. Stands x M (Finalize p)) (λ d. d ≡ c → Reaching c h)
-        (filter_map finalization_of before) (finals before (λ v g. (l.honest i notes at).certs_stand v (subst (λ ns. has_cert ns v ≡ true) (sym joined) (any_front (is_cert v) before rest g))))
-        (λ p d st g s. by_final p d st g s) c (sym (cond-false (h == 0) (Some (genesis_commitment r)) (first_some search (filter_map finalization_of before)) (ne_eqb h 0 (λ z. omega arith))) ∙ high) refl
+        (filter_map finalization_of before)
+        (finals before
+        (λ v g. (l.honest i notes at).certs_stand v
+        (subst (λ ns. has_cert ns v ≡ true) (sym joined)
+        (any_front (is_cert v) before rest g))))
+        (λ p d st g s. by_final p d st g s) c
+        (sym
+        (cond-false (h == 0) (Some (genesis_commitment r))
+        (first_some search (filter_map finalization_of before))
+        (ne_eqb h 0 (λ z. omega arith)))
+        ∙ high)
+        refl
       where
         search : Proposal → Option Commitment
-        search p = option_and_then (λ b. reached r before b.height h p.payload b) (held r before p.payload)
+        search p =
+            option_and_then (λ b. reached r before b.height h p.payload b) (held r before p.payload)
 
-        by_final : (p : Proposal) (d : Commitment) → Stands x M (Finalize p) → search p ≡ Some d → d ≡ c → Reaching c h
+        by_final : (p : Proposal) (d : Commitment) → Stands x M (Finalize p) → search p ≡ Some d
+            → d ≡ c → Reaching c h
         by_final p d st e s =
-            let (b, hb, g) = and_then_some (λ (b : Block). reached r before b.height h p.payload b) (held r before p.payload) d e in
+            let (b, hb, g) =
+            and_then_some (λ (b : Block). reached r before b.height h p.payload b)
+            (held r before p.payload) d e in
             let ub = held_under i notes before rest at joined p.payload b hb in
             let t = reached_down b.height h p.payload d b ub g in
-            record { proposal = p; stands = st; top = b; top_under = ub; steps = t.steps; block = t.block; down = t.down; under = subst (λ c. block_under r w c ≡ Some t.block) s t.under; height = t.height }
+            record {
+              proposal = p;
+              stands = st;
+              top = b;
+              top_under = ub;
+              steps = t.steps;
+              block = t.block;
+              down = t.down;
+              under = subst (λ c. block_under r w c ≡ Some t.block) s t.under;
+              height = t.height;
+            }
 
   -- the block by which an epoch is entered
   pub record Entering (epoch : ℕ) (c : Commitment) : Type 0 where
@@ -203,53 +305,99 @@ module _ (r : Rules) (w : World) (four : (epoch : ℕ) → 4 ≤ size r.epochs e
       let f : 1 * span ≡ span = plus_mul 0 span ∙ omega arith in
       omega (arith, subst (λ n. 1 * span ≤ n * span) e (mul_more (epoch - 1) 1 span), f)
 
-  pub entering : (i : ℕ) (notes before rest : List Note) → slice_get M i ≡ Some (Some notes) → notes ≡ before ++ rest → (epoch : ℕ) (c : Commitment) → IsEntered r before epoch c → Entering epoch c
+  pub entering : (i : ℕ) (notes before rest : List Note) → slice_get M i ≡ Some (Some notes)
+      → notes ≡ before ++ rest → (epoch : ℕ) (c : Commitment) → IsEntered r before epoch c
+      → Entering epoch c
   entering i notes before rest at joined epoch c e =
       let pos = span_above epoch e.span (omega (arith, e.above)) (spans e.span e.is_span) in
-      record { span = e.span; is_span = e.is_span; positive = pos; reach = reaching i notes before rest at joined (epoch * e.span) c pos e.reaches }
+      record {
+        span = e.span;
+        is_span = e.is_span;
+        positive = pos;
+        reach = reaching i notes before rest at joined (epoch * e.span) c pos e.reaches;
+      }
 
   -- that of a note of a member
-  pub entered_at : (i : ℕ) (notes : List Note) → slice_get M i ≡ Some (Some notes) → (epoch : ℕ) (c : Commitment) → In (Note.Epoch epoch c) notes → Entering epoch c
+  pub entered_at : (i : ℕ) (notes : List Note) → slice_get M i ≡ Some (Some notes)
+      → (epoch : ℕ) (c : Commitment) → In (Note.Epoch epoch c) notes → Entering epoch c
   entered_at i notes at epoch c h =
-      let (front, rest, joined, e) = each_split (Keeps r (meaning x M)) [] notes (Note.Epoch epoch c) (keep i notes at) h in
+      let (front, rest, joined, e) =
+      each_split (Keeps r (meaning x M)) [] notes (Note.Epoch epoch c) (keep i notes at) h in
       entering i notes front rest at joined epoch c e
 
   module _ (anchors : AllAnchored x M) where
-    -- what settles a certified proposal's parent view: genesis, what its epoch is entered by, or a certified proposal that stands notarized there
+    -- what settles a certified proposal's parent view: genesis, what its epoch is entered by, or a
+    -- certified proposal that stands notarized there
     pub data Parent (p : Proposal) (over : Commitment) : Type 0 where
       At_genesis : p.parent ≡ 0 → p.epoch ≡ 0 → over ≡ genesis_commitment r → Parent p over
       At_entry : p.parent ≡ 0 → IsAnchored x M p.epoch over → Entering p.epoch over → Parent p over
-      At_proposal : (s : Proposal) → IsCertifiedIn M s → Stands x M (Notarize s) → s.epoch ≡ p.epoch → s.view ≡ p.parent → over ≡ s.payload → Parent p over
+      At_proposal : (s : Proposal) → IsCertifiedIn M s → Stands x M (Notarize s) → s.epoch ≡ p.epoch
+          → s.view ≡ p.parent → over ≡ s.payload → Parent p over
 
-    parent_by : (p : Proposal) (over : Commitment) (i : ℕ) (notes before rest : List Note) → slice_get M i ≡ Some (Some notes) → notes ≡ before ++ rest → settled (genesis_commitment r) before p.epoch p.parent ≡ Some over → Parent p over
+    parent_by : (p : Proposal) (over : Commitment) (i : ℕ) (notes before rest : List Note)
+        → slice_get M i ≡ Some (Some notes) → notes ≡ before ++ rest
+        → settled (genesis_commitment r) before p.epoch p.parent ≡ Some over → Parent p over
     parent_by p over i notes before rest at joined h = go (cases_Bool (p.parent == 0))
       where
-        by_settler : (s : Proposal) → s.payload ≡ over → Settles before p.epoch p.parent s → Parent p over
+        by_settler : (s : Proposal) → s.payload ≡ over → Settles before p.epoch p.parent s
+            → Parent p over
         by_settler s e (d, v, inl y) =
-            let z : has_certified notes s ≡ true = subst (λ ns. has_certified ns s ≡ true) (sym joined) (any_front (is_certified s) before rest y) in
-            At_proposal s (certified_in r spans M l keep i notes at s z) (certified_rests x (block_fits r) M notes (l.honest i notes at) s z) d v (sym e)
+            let z : has_certified notes s ≡ true =
+            subst (λ ns. has_certified ns s ≡ true) (sym joined)
+            (any_front (is_certified s) before rest y) in
+            At_proposal s (certified_in r spans M l keep i notes at s z)
+            (certified_rests x (block_fits r) M notes (l.honest i notes at) s z) d v (sym e)
         by_settler s e (d, v, inr y) =
-            let z : has_cert notes (Finalize s) ≡ true = subst (λ ns. has_cert ns (Finalize s) ≡ true) (sym joined) (any_front (is_cert (Finalize s)) before rest y) in
+            let z : has_cert notes (Finalize s) ≡ true =
+            subst (λ ns. has_cert ns (Finalize s) ≡ true) (sym joined)
+            (any_front (is_cert (Finalize s)) before rest y) in
             let u = (l.honest i notes at).certs_stand (Finalize s) z in
-            At_proposal s (finalized_in r spans M l keep s u) (finalized_notarized x (block_fits r) M l s u) d v (sym e)
+            At_proposal s (finalized_in r spans M l keep s u)
+            (finalized_notarized x (block_fits r) M l s u) d v (sym e)
 
         pick : Option Commitment
         pick = option_map (λ (s : Proposal). s.payload) (settler before p.epoch p.parent)
 
         enter : Option Commitment
-        enter = option_map (λ (e : ℕ × Commitment). e.1) (find (λ e. e.0 == p.epoch) (filter_map entry before))
+        enter =
+            option_map (λ (e : ℕ × Commitment). e.1)
+            (find (λ e. e.0 == p.epoch) (filter_map entry before))
 
-        by_epoch : p.parent ≡ 0 → root_of (genesis_commitment r) before p.epoch ≡ Some over → ((p.epoch == 0) ≡ true) ⊎ ((p.epoch == 0) ≡ false) → Parent p over
-        by_epoch z f (inl t) = At_genesis z (eqb-true p.epoch 0 t) (sym (same_Some (genesis_commitment r) over (sym (cond-true (p.epoch == 0) (Some (genesis_commitment r)) enter t) ∙ f)))
+        by_epoch : p.parent ≡ 0 → root_of (genesis_commitment r) before p.epoch ≡ Some over
+            → ((p.epoch == 0) ≡ true) ⊎ ((p.epoch == 0) ≡ false) → Parent p over
+        by_epoch z f (inl t) =
+            At_genesis z (eqb-true p.epoch 0 t)
+            (sym
+            (same_Some (genesis_commitment r) over
+            (sym (cond-true (p.epoch == 0) (Some (genesis_commitment r)) enter t) ∙ f)))
         by_epoch z f (inr n) =
-            let (e, at_e, g) = map_some (λ (e : ℕ × Commitment). e.1) (find (λ e. e.0 == p.epoch) (filter_map entry before)) over (sym (cond-false (p.epoch == 0) (Some (genesis_commitment r)) enter n) ∙ f) in
-            let there : In (Note.Epoch p.epoch over) notes = subst (In (Note.Epoch p.epoch over)) (sym joined) (in_left (Note.Epoch p.epoch over) before rest (subst (λ c. In (Note.Epoch p.epoch c) before) g (found_entry before p.epoch e at_e))) in
-            At_entry z (anchors i notes at p.epoch over there) (entered_at i notes at p.epoch over there)
+            let (e, at_e, g) =
+            map_some (λ (e : ℕ × Commitment). e.1)
+            (find (λ e. e.0 == p.epoch) (filter_map entry before)) over
+            (sym (cond-false (p.epoch == 0) (Some (genesis_commitment r)) enter n) ∙ f) in
+            let there : In (Note.Epoch p.epoch over) notes =
+            subst (In (Note.Epoch p.epoch over)) (sym joined)
+            (in_left (Note.Epoch p.epoch over) before rest
+            (subst (λ c. In (Note.Epoch p.epoch c) before) g
+            (found_entry before p.epoch e at_e))) in
+            At_entry z (anchors i notes at p.epoch over there)
+            (entered_at i notes at p.epoch over there)
 
         go : ((p.parent == 0) ≡ true) ⊎ ((p.parent == 0) ≡ false) → Parent p over
-        go (inl t) = by_epoch (eqb-true p.parent 0 t) (sym (cond-true (p.parent == 0) (root_of (genesis_commitment r) before p.epoch) pick t) ∙ h) (cases_Bool (p.epoch == 0))
+        go (inl t) =
+            by_epoch (eqb-true p.parent 0 t)
+            (sym
+            (cond-true (p.parent == 0) (root_of (genesis_commitment r) before p.epoch) pick
+            t)
+            ∙ h)
+            (cases_Bool (p.epoch == 0))
         go (inr f) =
-            let (s, e, g) = map_some (λ (s : Proposal). s.payload) (settler before p.epoch p.parent) over (sym (cond-false (p.parent == 0) (root_of (genesis_commitment r) before p.epoch) pick f) ∙ h) in
+            let (s, e, g) =
+            map_some (λ (s : Proposal). s.payload) (settler before p.epoch p.parent) over
+            (sym
+            (cond-false (p.parent == 0) (root_of (genesis_commitment r) before p.epoch)
+            pick f)
+            ∙ h) in
             by_settler s g (settler_tells before p.epoch p.parent s e)
 
     -- a certified proposal's block, with that of its parent
@@ -266,7 +414,8 @@ module _ (r : Rules) (w : World) (four : (epoch : ℕ) → 4 ≤ size r.epochs e
 
     pub linked : (p : Proposal) → IsCertifiedIn M p → Linked p
     linked p c =
-        let (before, rest, joined, f) = certified_at r spans M l keep c.place c.notes c.at p c.certified in
+        let (before, rest, joined, f) =
+        certified_at r spans M l keep c.place c.notes c.at p c.certified in
         let u = held_under c.place c.notes before rest c.at joined p.payload f.block f.holds in
         let pos = fit_positive r spans p f.block f.over f.parent f.fit in
         let g = fronts c.place c.notes c.at in
@@ -275,19 +424,27 @@ module _ (r : Rules) (w : World) (four : (epoch : ℕ) → 4 ≤ size r.epochs e
           under = u;
           parent = f.parent;
           over = f.over;
-          over_under = held_under c.place c.notes before rest c.at joined f.over f.parent f.holds_parent;
+          over_under =
+              held_under c.place c.notes before rest c.at joined f.over f.parent f.holds_parent;
           fit = fit_cases r p f.block f.over f.parent f.fit;
           positive = pos;
-          certified = world_certified w.members c.place g.member p (commit r f.block) (sym (under_commit r w four keepw clear p.payload f.block u pos)) g.at (subst (λ ns. has_certified ns p ≡ true) (sym g.joined) (any_front (is_certified p) c.notes g.rest c.certified));
+          certified =
+              world_certified w.members c.place g.member p (commit r f.block)
+              (sym (under_commit r w four keepw clear p.payload f.block u pos)) g.at
+              (subst (λ ns. has_certified ns p ≡ true) (sym g.joined)
+              (any_front (is_certified p) c.notes g.rest c.certified));
           from = parent_by p f.over c.place c.notes before rest c.at joined f.settles;
         }
 
     -- ---- the base of an epoch
 
-    -- what a block of the epoch leads down to: genesis, or the block of what was finalized last before
+    -- what a block of the epoch leads down to: genesis, or the block of what was finalized last
+    -- before
     pub data Base (p : Proposal) (root : Block) : Type 0 where
       From_genesis : p.epoch ≡ 0 → root ≡ genesis r → Base p root
-      From_entry : (q : Proposal) → Stands x M (Finalize q) → q.epoch + 1 ≡ p.epoch → block_under r w q.payload ≡ Some root → (span : ℕ) → x.span ≡ Some span → root.height ≡ p.epoch * span → Base p root
+      From_entry : (q : Proposal) → Stands x M (Finalize q) → q.epoch + 1 ≡ p.epoch
+          → block_under r w q.payload ≡ Some root → (span : ℕ) → x.span ≡ Some span
+          → root.height ≡ p.epoch * span → Base p root
 
     pub record Based (p : Proposal) : Type 0 where
       pub block : Block
@@ -302,23 +459,51 @@ module _ (r : Rules) (w : World) (four : (epoch : ℕ) → 4 ≤ size r.epochs e
     last_within : (epoch h : ℕ) → is_last x epoch h ≡ true → is_within x epoch h ≡ true
     last_within epoch h t =
         let (span, e, f) = last_is x epoch h t in
-        ap (λ o. option_map_or (λ last. nat_le h last) (option_map (λ span. (epoch + 1) * span) o) true) e ∙ le-leb h ((epoch + 1) * span) (omega (arith, f))
+        ap
+        (λ o. option_map_or (λ last. nat_le h last) (option_map (λ span. (epoch + 1) * span) o)
+        true)
+        e
+        ∙ le-leb h ((epoch + 1) * span) (omega (arith, f))
 
     base_over : (p s : Proposal) (root : Block) → s.epoch ≡ p.epoch → Base s root → Base p root
     base_over p s root e (From_genesis z g) = From_genesis (sym e ∙ z) g
-    base_over p s root e (From_entry q st before u span is_span h) = From_entry q st (before ∙ e) u span is_span (h ∙ ap (λ n. n * span) e)
+    base_over p s root e (From_entry q st before u span is_span h) =
+        From_entry q st (before ∙ e) u span is_span (h ∙ ap (λ n. n * span) e)
 
-    pub based : (bound : ℕ) (p : Proposal) → IsCertifiedIn M p → Stands x M (Notarize p) → p.view < bound → Based p
+    pub based : (bound : ℕ) (p : Proposal) → IsCertifiedIn M p → Stands x M (Notarize p)
+        → p.view < bound → Based p
     based zero p c a lt = absurd (omega arith)
-    based (suc bound) p c a lt = go (linked p c) (linked p c).fit (linked p c).from (λ s. based bound s)
+    based (suc bound) p c a lt =
+        go (linked p c) (linked p c).fit (linked p c).from (λ s. based bound s)
       where
-        one_down : (k : Linked p) → k.block.height ≡ k.parent.height + 1 → k.block.context.parent ≡ k.over → DownTo r w 1 k.block k.parent
-        one_down k up named = (k.parent, subst (λ c. block_under r w c ≡ Some k.parent) (sym named) k.over_under, up, refl)
+        one_down : (k : Linked p) → k.block.height ≡ k.parent.height + 1
+            → k.block.context.parent ≡ k.over → DownTo r w 1 k.block k.parent
+        one_down k up named = (
+          k.parent,
+          subst (λ c. block_under r w c ≡ Some k.parent) (sym named) k.over_under,
+          up,
+          refl,
+        )
 
-        go : (k : Linked p) → Fit r p k.block k.over k.parent → Parent p k.over → ((s : Proposal) → IsCertifiedIn M s → Stands x M (Notarize s) → s.view < bound → Based s) → Based p
+        go : (k : Linked p) → Fit r p k.block k.over k.parent → Parent p k.over
+            → ((s : Proposal) → IsCertifiedIn M s → Stands x M (Notarize s) → s.view < bound
+            → Based s)
+            → Based p
         go k (New up within named digests) (At_genesis z e g) later =
-            let root : k.parent ≡ genesis r = same_Some k.parent (genesis r) (sym (subst (λ c. block_under r w c ≡ Some k.parent) g k.over_under) ∙ genesis_under) in
-            record { block = k.block; under = k.under; positive = k.positive; within = within; steps = 1; root = k.parent; down = one_down k up named; base = From_genesis e root }
+            let root : k.parent ≡ genesis r =
+            same_Some k.parent (genesis r)
+            (sym (subst (λ c. block_under r w c ≡ Some k.parent) g k.over_under)
+            ∙ genesis_under) in
+            record {
+              block = k.block;
+              under = k.under;
+              positive = k.positive;
+              within = within;
+              steps = 1;
+              root = k.parent;
+              down = one_down k up named;
+              base = From_genesis e root;
+            }
         go k (New up within named digests) (At_entry z q n) later =
             let same = same_Some k.parent n.reach.block (sym k.over_under ∙ n.reach.under) in
             record {
@@ -329,11 +514,16 @@ module _ (r : Rules) (w : World) (four : (epoch : ℕ) → 4 ≤ size r.epochs e
               steps = 1;
               root = k.parent;
               down = one_down k up named;
-              base = From_entry q.proposal q.stands q.before (subst (λ c. block_under r w c ≡ Some k.parent) (sym q.payload) k.over_under) n.span n.is_span (ap (λ (y : Block). y.height) same ∙ n.reach.height);
+              base =
+                  From_entry q.proposal q.stands q.before
+                  (subst (λ c. block_under r w c ≡ Some k.parent) (sym q.payload) k.over_under)
+                  n.span n.is_span (ap (λ (y : Block). y.height) same ∙ n.reach.height);
             }
         go k (New up within named digests) (At_proposal s cs st e v g) later =
             let t = later s cs st (omega (arith, notarized_below x (block_fits r) M l p a)) in
-            let same = same_Some t.block k.parent (sym t.under ∙ subst (λ c. block_under r w c ≡ Some k.parent) g k.over_under) in
+            let same =
+            same_Some t.block k.parent
+            (sym t.under ∙ subst (λ c. block_under r w c ≡ Some k.parent) g k.over_under) in
             record {
               block = k.block;
               under = k.under;
@@ -341,251 +531,462 @@ module _ (r : Rules) (w : World) (four : (epoch : ℕ) → 4 ≤ size r.epochs e
               within = within;
               steps = suc t.steps;
               root = t.root;
-              down = (k.parent, subst (λ c. block_under r w c ≡ Some k.parent) (sym named) k.over_under, up, subst (λ y. DownTo r w t.steps y t.root) same t.down);
+              down = (
+                k.parent,
+                subst (λ c. block_under r w c ≡ Some k.parent) (sym named) k.over_under,
+                up,
+                subst (λ y. DownTo r w t.steps y t.root) same t.down,
+              );
               base = base_over p s t.root e t.base;
             }
         go k (Again same block pos last) (At_genesis z e g) later = absurd (omega arith)
         go k (Again same block pos last) (At_entry z q n) later = absurd (omega arith)
         go k (Again same block pos last) (At_proposal s cs st e v g) later =
             let t = later s cs st (omega (arith, notarized_below x (block_fits r) M l p a)) in
-            let same_block = same_Some t.block k.parent (sym t.under ∙ subst (λ c. block_under r w c ≡ Some k.parent) g k.over_under) ∙ sym block in
-            record { block = k.block; under = k.under; positive = k.positive; within = last_within p.epoch k.block.height last; steps = t.steps; root = t.root; down = subst (λ y. DownTo r w t.steps y t.root) same_block t.down; base = base_over p s t.root e t.base }
+            let same_block =
+            same_Some t.block k.parent
+            (sym t.under ∙ subst (λ c. block_under r w c ≡ Some k.parent) g k.over_under)
+            ∙ sym block in
+            record {
+              block = k.block;
+              under = k.under;
+              positive = k.positive;
+              within = last_within p.epoch k.block.height last;
+              steps = t.steps;
+              root = t.root;
+              down = subst (λ y. DownTo r w t.steps y t.root) same_block t.down;
+              base = base_over p s t.root e t.base;
+            }
 
     -- of what is finalized
     pub finalized_based : (p : Proposal) → Stands x M (Finalize p) → Based p
-    finalized_based p st = based (suc p.view) p (finalized_in r spans M l keep p st) (finalized_notarized x (block_fits r) M l p st) (omega arith)
+    finalized_based p st =
+        based (suc p.view) p (finalized_in r spans M l keep p st)
+        (finalized_notarized x (block_fits r) M l p st) (omega arith)
 
     -- ---- what is entered is finalized in the epoch before
 
-    pub anchor : (bound : ℕ) (p : Proposal) → Stands x M (Finalize p) → p.epoch < bound → (b : Block) → block_under r w p.payload ≡ Some b → (k : ℕ) (y : Block) → DownTo r w k b y
-        → (epoch span : ℕ) → 0 < epoch → x.span ≡ Some span → (c : Commitment) → block_under r w c ≡ Some y → 0 < y.height → y.height ≡ epoch * span → IsAnchored x M epoch c
+    pub anchor : (bound : ℕ) (p : Proposal) → Stands x M (Finalize p) → p.epoch < bound
+        → (b : Block) → block_under r w p.payload ≡ Some b → (k : ℕ) (y : Block) → DownTo r w k b y
+        → (epoch span : ℕ) → 0 < epoch → x.span ≡ Some span → (c : Commitment)
+        → block_under r w c ≡ Some y → 0 < y.height → y.height ≡ epoch * span
+        → IsAnchored x M epoch c
     anchor zero p st lt b u k y d epoch span pos is_span c v high h = absurd (omega arith)
-    anchor (suc bound) p st lt b u k y d epoch span pos is_span c v high h = go (finalized_based p st) (cases_order epoch (p.epoch + 1)) (λ q. anchor bound q)
+    anchor (suc bound) p st lt b u k y d epoch span pos is_span c v high h =
+        go (finalized_based p st) (cases_order epoch (p.epoch + 1)) (λ q. anchor bound q)
       where
         low : (t : Based p) → b.height ≤ (p.epoch + 1) * span
-        low t = within_is x p.epoch b.height span is_span (subst (λ (z : Block). is_within x p.epoch z.height ≡ true) (same_Some t.block b (sym t.under ∙ u)) t.within)
+        low t =
+            within_is x p.epoch b.height span is_span
+            (subst (λ (z : Block). is_within x p.epoch z.height ≡ true)
+            (same_Some t.block b (sym t.under ∙ u)) t.within)
 
         by_base : (t : Based p) → Base p t.root → epoch < p.epoch + 1
-            → ((q : Proposal) → Stands x M (Finalize q) → q.epoch < bound → (b : Block) → block_under r w q.payload ≡ Some b → (k : ℕ) (y : Block) → DownTo r w k b y
-            → (epoch span : ℕ) → 0 < epoch → x.span ≡ Some span → (c : Commitment) → block_under r w c ≡ Some y → 0 < y.height → y.height ≡ epoch * span → IsAnchored x M epoch c) → IsAnchored x M epoch c
+            → ((q : Proposal) → Stands x M (Finalize q) → q.epoch < bound → (b : Block)
+            → block_under r w q.payload ≡ Some b → (k : ℕ) (y : Block) → DownTo r w k b y
+            → (epoch span : ℕ) → 0 < epoch → x.span ≡ Some span → (c : Commitment)
+            → block_under r w c ≡ Some y → 0 < y.height → y.height ≡ epoch * span
+            → IsAnchored x M epoch c)
+            → IsAnchored x M epoch c
         by_base t (From_genesis z g) less later = absurd (omega arith)
         by_base t (From_entry q sq before uq span' is_span' hr) less later =
-            let down : DownTo r w t.steps b t.root = subst (λ z. DownTo r w t.steps z t.root) (same_Some t.block b (sym t.under ∙ u)) t.down in
+            let down : DownTo r w t.steps b t.root =
+            subst (λ z. DownTo r w t.steps z t.root) (same_Some t.block b (sym t.under ∙ u))
+            t.down in
             let same : span' ≡ span = same_Some span' span (sym is_span' ∙ is_span) in
             let hr' : t.root.height ≡ p.epoch * span = hr ∙ ap (λ n. p.epoch * n) same in
-            let more : epoch * span ≤ p.epoch * span = subst (λ n. epoch * span ≤ n * span) (gap epoch p.epoch (omega arith)) (mul_more (p.epoch - epoch) epoch span) in
+            let more : epoch * span ≤ p.epoch * span =
+            subst (λ n. epoch * span ≤ n * span) (gap epoch p.epoch (omega arith))
+            (mul_more (p.epoch - epoch) epoch span) in
             let h1 = down_height r w t.steps b t.root down in
             let h2 = down_height r w k b y d in
             let e : k ≡ t.steps + (k - t.steps) = omega arith in
-            let (m, f, g) = down_split r w t.steps (k - t.steps) b y (subst (λ n. DownTo r w n b y) e d) in
+            let (m, f, g) =
+            down_split r w t.steps (k - t.steps) b y (subst (λ n. DownTo r w n b y) e d) in
             let s : m ≡ t.root = down_same r w t.steps b m t.root f down in
-            later q sq (omega arith) t.root uq (k - t.steps) y (subst (λ z. DownTo r w (k - t.steps) z y) s g) epoch span pos is_span c v high h
+            later q sq (omega arith) t.root uq (k - t.steps) y
+            (subst (λ z. DownTo r w (k - t.steps) z y) s g) epoch span pos is_span c v high h
           where
             gap : (a b : ℕ) → a ≤ b → a + (b - a) ≡ b
             gap a b le = omega arith
 
         go : Based p → (epoch ≡ p.epoch + 1) ⊎ ((epoch < p.epoch + 1) ⊎ (p.epoch + 1 < epoch))
-            → ((q : Proposal) → Stands x M (Finalize q) → q.epoch < bound → (b : Block) → block_under r w q.payload ≡ Some b → (k : ℕ) (y : Block) → DownTo r w k b y
-            → (epoch span : ℕ) → 0 < epoch → x.span ≡ Some span → (c : Commitment) → block_under r w c ≡ Some y → 0 < y.height → y.height ≡ epoch * span → IsAnchored x M epoch c) → IsAnchored x M epoch c
+            → ((q : Proposal) → Stands x M (Finalize q) → q.epoch < bound → (b : Block)
+            → block_under r w q.payload ≡ Some b → (k : ℕ) (y : Block) → DownTo r w k b y
+            → (epoch span : ℕ) → 0 < epoch → x.span ≡ Some span → (c : Commitment)
+            → block_under r w c ≡ Some y → 0 < y.height → y.height ≡ epoch * span
+            → IsAnchored x M epoch c)
+            → IsAnchored x M epoch c
         go t (inl e) later =
             let h' : y.height ≡ (p.epoch + 1) * span = h ∙ ap (λ n. n * span) e in
             let z : k ≡ 0 = omega (arith, low t, down_height r w k b y d) in
             let same : b ≡ y = subst (λ n. DownTo r w n b y) z d in
             let cy : commit r y ≡ c = under_commit r w four keepw clear c y v high in
-            let cb : commit r b ≡ p.payload = under_commit r w four keepw clear p.payload b u (subst (λ (z : Block). 0 < z.height) (sym same) high) in
-            record { proposal = p; stands = st; before = sym e; payload = sym cb ∙ (ap (commit r) same ∙ cy) }
+            let cb : commit r b ≡ p.payload =
+            under_commit r w four keepw clear p.payload b u
+            (subst (λ (z : Block). 0 < z.height) (sym same) high) in
+            record {
+              proposal = p;
+              stands = st;
+              before = sym e;
+              payload = sym cb ∙ (ap (commit r) same ∙ cy);
+            }
         go t (inr (inl less)) later = by_base t t.base less later
         go t (inr (inr more)) later =
             let e : (p.epoch + 1) + (epoch - (p.epoch + 1) - 1) + 1 ≡ epoch = omega arith in
             let f = plus_mul ((p.epoch + 1) + (epoch - (p.epoch + 1) - 1)) span in
             let g = mul_more (epoch - (p.epoch + 1) - 1) (p.epoch + 1) span in
-            let i : epoch * span ≡ ((p.epoch + 1) + (epoch - (p.epoch + 1) - 1)) * span + span = ap (λ n. n * span) (sym e) ∙ f in
+            let i : epoch * span ≡ ((p.epoch + 1) + (epoch - (p.epoch + 1) - 1)) * span + span =
+            ap (λ n. n * span) (sym e) ∙ f in
             absurd (omega (arith, g, i, low t, down_height r w k b y d, spans span is_span))
 
     -- what a member enters by its notes is anchored
-    pub anchored_new : (i : ℕ) (notes : List Note) → slice_get M i ≡ Some (Some notes) → notes ≡ notes ++ [] → (epoch : ℕ) (c : Commitment) → IsEntered r notes epoch c → IsAnchored x M epoch c
+    pub anchored_new : (i : ℕ) (notes : List Note) → slice_get M i ≡ Some (Some notes)
+        → notes ≡ notes ++ [] → (epoch : ℕ) (c : Commitment) → IsEntered r notes epoch c
+        → IsAnchored x M epoch c
     anchored_new i notes at joined epoch c e =
         let n = entering i notes notes [] at joined epoch c e in
         let t = n.reach in
-        anchor (suc t.proposal.epoch) t.proposal t.stands (omega arith) t.top t.top_under t.steps t.block t.down epoch n.span (omega (arith, e.above)) n.is_span c t.under (omega (arith, t.height, n.positive)) t.height
+        anchor (suc t.proposal.epoch) t.proposal t.stands (omega arith) t.top t.top_under t.steps
+        t.block t.down epoch n.span (omega (arith, e.above)) n.is_span c t.under
+        (omega (arith, t.height, n.positive)) t.height
 
     -- ---- descents
 
     -- the way from a certified proposal to another leads down through their blocks
-    pub lead_down : (way : List Proposal) (q p : Proposal) (bq bp : Block) → IsCertifiedIn M q → LeadsTo x M q way p → block_under r w q.payload ≡ Some bq → block_under r w p.payload ≡ Some bp → (k : ℕ) × DownTo r w k bq bp
-    lead_down [] q p bq bp c e u v = (0, same_Some bq bp (sym u ∙ subst (λ (y : Proposal). block_under r w y.payload ≡ Some bp) (sym e) v))
-    lead_down (s ∷ way) q p bq bp c (a, of, same, more) u v = go (linked q c) (linked q c).fit (linked q c).from (lead_down way s p)
+    pub lead_down : (way : List Proposal) (q p : Proposal) (bq bp : Block) → IsCertifiedIn M q
+        → LeadsTo x M q way p → block_under r w q.payload ≡ Some bq
+        → block_under r w p.payload ≡ Some bp → (k : ℕ) × DownTo r w k bq bp
+    lead_down [] q p bq bp c e u v = (
+      0,
+      same_Some bq bp
+          (sym u ∙ subst (λ (y : Proposal). block_under r w y.payload ≡ Some bp) (sym e) v),
+    )
+    lead_down (s ∷ way) q p bq bp c (a, of, same, more) u v =
+        go (linked q c) (linked q c).fit (linked q c).from (lead_down way s p)
       where
-        by_fit : (k : Linked q) → Fit r q k.block k.over k.parent → k.block ≡ bq → ((n : ℕ) × DownTo r w n k.parent bp) → (n : ℕ) × DownTo r w n bq bp
-        by_fit k (New up within named digests) own (n, d) = (suc n, subst (λ y. DownTo r w (suc n) y bp) own (k.parent, subst (λ y. block_under r w y ≡ Some k.parent) (sym named) k.over_under, up, d))
-        by_fit k (Again again block pos last) own (n, d) = (n, subst (λ y. DownTo r w n y bp) (sym block ∙ own) d)
+        by_fit : (k : Linked q) → Fit r q k.block k.over k.parent → k.block ≡ bq
+            → ((n : ℕ) × DownTo r w n k.parent bp) → (n : ℕ) × DownTo r w n bq bp
+        by_fit k (New up within named digests) own (n, d) = (
+          suc n,
+          subst (λ y. DownTo r w (suc n) y bp) own (
+            k.parent,
+            subst (λ y. block_under r w y ≡ Some k.parent) (sym named) k.over_under,
+            up,
+            d,
+          ),
+        )
+        by_fit k (Again again block pos last) own (n, d) =
+            (n, subst (λ y. DownTo r w n y bp) (sym block ∙ own) d)
 
         go : (k : Linked q) → Fit r q k.block k.over k.parent → Parent q k.over
-            → ((bs b : Block) → IsCertifiedIn M s → LeadsTo x M s way p → block_under r w s.payload ≡ Some bs → block_under r w p.payload ≡ Some b → (n : ℕ) × DownTo r w n bs b) → (n : ℕ) × DownTo r w n bq bp
-        go k f (At_genesis z e g) later = absurd (omega (arith, notarized_above x (block_fits r) M l s a))
-        go k f (At_entry z e n) later = absurd (omega (arith, notarized_above x (block_fits r) M l s a))
+            → ((bs b : Block) → IsCertifiedIn M s → LeadsTo x M s way p
+            → block_under r w s.payload ≡ Some bs → block_under r w p.payload ≡ Some b
+            → (n : ℕ) × DownTo r w n bs b)
+            → (n : ℕ) × DownTo r w n bq bp
+        go k f (At_genesis z e g) later =
+            absurd (omega (arith, notarized_above x (block_fits r) M l s a))
+        go k f (At_entry z e n) later =
+            absurd (omega (arith, notarized_above x (block_fits r) M l s a))
         go k f (At_proposal t ct st d y e) later =
-            let same_t : t ≡ s = one_notarized x (block_fits r) M l t s st a (d ∙ sym of) (y ∙ sym same) in
-            let over : block_under r w s.payload ≡ Some k.parent = subst (λ (z : Proposal). block_under r w z.payload ≡ Some k.parent) same_t (subst (λ z. block_under r w z ≡ Some k.parent) e k.over_under) in
-            by_fit k f (same_Some k.block bq (sym k.under ∙ u)) (later k.parent bp (subst (IsCertifiedIn M) same_t ct) more over v)
+            let same_t : t ≡ s =
+            one_notarized x (block_fits r) M l t s st a (d ∙ sym of) (y ∙ sym same) in
+            let over : block_under r w s.payload ≡ Some k.parent =
+            subst (λ (z : Proposal). block_under r w z.payload ≡ Some k.parent) same_t
+            (subst (λ z. block_under r w z ≡ Some k.parent) e k.over_under) in
+            by_fit k f (same_Some k.block bq (sym k.under ∙ u))
+            (later k.parent bp (subst (IsCertifiedIn M) same_t ct) more over v)
 
     -- each step of it goes to the height below, or keeps the payload at the epoch's last height
-    pub goes_down : (q s : Proposal) → IsCertifiedIn M q → Stands x M (Notarize s) → s.epoch ≡ q.epoch → s.view ≡ q.parent → GoesDown r w q s
+    pub goes_down : (q s : Proposal) → IsCertifiedIn M q → Stands x M (Notarize s)
+        → s.epoch ≡ q.epoch → s.view ≡ q.parent → GoesDown r w q s
     goes_down q s c a of same = go (linked q c) (linked q c).fit (linked q c).from
       where
-        by_fit : (k : Linked q) → Fit r q k.block k.over k.parent → k.over ≡ s.payload → GoesDown r w q s
-        by_fit k (New up within named digests) e = Lower k.block k.parent k.under (subst (λ z. block_under r w z ≡ Some k.parent) e k.over_under) up
+        by_fit : (k : Linked q) → Fit r q k.block k.over k.parent → k.over ≡ s.payload
+            → GoesDown r w q s
+        by_fit k (New up within named digests) e =
+            Lower k.block k.parent k.under
+            (subst (λ z. block_under r w z ≡ Some k.parent) e k.over_under) up
         by_fit k (Again again block pos last) e = Same (again ∙ e) k.block k.under last
 
         go : (k : Linked q) → Fit r q k.block k.over k.parent → Parent q k.over → GoesDown r w q s
         go k f (At_genesis z e g) = absurd (omega (arith, notarized_above x (block_fits r) M l s a))
         go k f (At_entry z e n) = absurd (omega (arith, notarized_above x (block_fits r) M l s a))
-        go k f (At_proposal t ct st d y e) = by_fit k f (e ∙ ap (λ (z : Proposal). z.payload) (one_notarized x (block_fits r) M l t s st a (d ∙ sym of) (y ∙ sym same)))
+        go k f (At_proposal t ct st d y e) =
+            by_fit k f
+            (e
+            ∙ ap (λ (z : Proposal). z.payload)
+            (one_notarized x (block_fits r) M l t s st a (d ∙ sym of) (y ∙ sym same)))
 
     -- of two finalized blocks of one epoch one leads down to the other
-    in_epoch : (p q : Proposal) → Stands x M (Finalize p) → Stands x M (Finalize q) → p.epoch ≡ q.epoch → (b d : Block) → block_under r w p.payload ≡ Some b → block_under r w q.payload ≡ Some d
+    in_epoch : (p q : Proposal) → Stands x M (Finalize p) → Stands x M (Finalize q)
+        → p.epoch ≡ q.epoch → (b d : Block) → block_under r w p.payload ≡ Some b
+        → block_under r w q.payload ≡ Some d
         → ((k : ℕ) × DownTo r w k d b) ⊎ ((k : ℕ) × DownTo r w k b d)
     in_epoch p q sp sq e b d u v = go (cases_order p.view q.view)
       where
-        go : (p.view ≡ q.view) ⊎ ((p.view < q.view) ⊎ (q.view < p.view)) → ((k : ℕ) × DownTo r w k d b) ⊎ ((k : ℕ) × DownTo r w k b d)
+        go : (p.view ≡ q.view) ⊎ ((p.view < q.view) ⊎ (q.view < p.view))
+            → ((k : ℕ) × DownTo r w k d b) ⊎ ((k : ℕ) × DownTo r w k b d)
         go (inl same) =
-            let s : p ≡ q = one_notarized x (block_fits r) M l p q (finalized_notarized x (block_fits r) M l p sp) (finalized_notarized x (block_fits r) M l q sq) e same in
-            inl (0, same_Some d b (sym v ∙ subst (λ (y : Proposal). block_under r w y.payload ≡ Some b) s u))
+            let s : p ≡ q =
+            one_notarized x (block_fits r) M l p q
+            (finalized_notarized x (block_fits r) M l p sp)
+            (finalized_notarized x (block_fits r) M l q sq) e same in
+            inl (
+              0,
+              same_Some d b
+                  (sym v ∙ subst (λ (y : Proposal). block_under r w y.payload ≡ Some b) s u),
+            )
         go (inr (inl less)) =
-            let (way, leads) = finalized_descent x (block_fits r) M l p q sp (finalized_notarized x (block_fits r) M l q sq) e less in
+            let (way, leads) =
+            finalized_descent x (block_fits r) M l p q sp
+            (finalized_notarized x (block_fits r) M l q sq) e less in
             inl (lead_down way q p d b (finalized_in r spans M l keep q sq) leads v u)
         go (inr (inr more)) =
-            let (way, leads) = finalized_descent x (block_fits r) M l q p sq (finalized_notarized x (block_fits r) M l p sp) (sym e) more in
+            let (way, leads) =
+            finalized_descent x (block_fits r) M l q p sq
+            (finalized_notarized x (block_fits r) M l p sp) (sym e) more in
             inr (lead_down way p q b d (finalized_in r spans M l keep p sp) leads u v)
 
     -- one of a later epoch leads down to one of an earlier
-    over_epochs : (bound : ℕ) (p q : Proposal) → Stands x M (Finalize p) → Stands x M (Finalize q) → p.epoch < q.epoch → q.epoch < bound → (b d : Block) → block_under r w p.payload ≡ Some b → block_under r w q.payload ≡ Some d → (k : ℕ) × DownTo r w k d b
+    over_epochs : (bound : ℕ) (p q : Proposal) → Stands x M (Finalize p) → Stands x M (Finalize q)
+        → p.epoch < q.epoch → q.epoch < bound → (b d : Block) → block_under r w p.payload ≡ Some b
+        → block_under r w q.payload ≡ Some d → (k : ℕ) × DownTo r w k d b
     over_epochs zero p q sp sq less lt b d u v = absurd (omega arith)
-    over_epochs (suc bound) p q sp sq less lt b d u v = go (finalized_based q sq) (finalized_based q sq).base (λ s. over_epochs bound p s)
+    over_epochs (suc bound) p q sp sq less lt b d u v =
+        go (finalized_based q sq) (finalized_based q sq).base (λ s. over_epochs bound p s)
       where
         low : (t : Based p) (span : ℕ) → x.span ≡ Some span → b.height ≤ (p.epoch + 1) * span
-        low t span is_span = within_is x p.epoch b.height span is_span (subst (λ (z : Block). is_within x p.epoch z.height ≡ true) (same_Some t.block b (sym t.under ∙ u)) t.within)
+        low t span is_span =
+            within_is x p.epoch b.height span is_span
+            (subst (λ (z : Block). is_within x p.epoch z.height ≡ true)
+            (same_Some t.block b (sym t.under ∙ u)) t.within)
 
-        by_order : (t : Based q) (s : Proposal) → Stands x M (Finalize s) → s.epoch + 1 ≡ q.epoch → block_under r w s.payload ≡ Some t.root → (span : ℕ) → x.span ≡ Some span → t.root.height ≡ q.epoch * span
-            → (p.epoch ≡ s.epoch) ⊎ ((p.epoch < s.epoch) ⊎ (s.epoch < p.epoch)) → (p.epoch < s.epoch → (k : ℕ) × DownTo r w k t.root b) → (k : ℕ) × DownTo r w k t.root b
-        by_order t s ss before us span is_span h (inl e) later = by_two (in_epoch p s sp ss e b t.root u us)
+        by_order : (t : Based q) (s : Proposal) → Stands x M (Finalize s) → s.epoch + 1 ≡ q.epoch
+            → block_under r w s.payload ≡ Some t.root → (span : ℕ) → x.span ≡ Some span
+            → t.root.height ≡ q.epoch * span
+            → (p.epoch ≡ s.epoch) ⊎ ((p.epoch < s.epoch) ⊎ (s.epoch < p.epoch))
+            → (p.epoch < s.epoch → (k : ℕ) × DownTo r w k t.root b)
+            → (k : ℕ) × DownTo r w k t.root b
+        by_order t s ss before us span is_span h (inl e) later =
+            by_two (in_epoch p s sp ss e b t.root u us)
           where
-            by_two : ((k : ℕ) × DownTo r w k t.root b) ⊎ ((k : ℕ) × DownTo r w k b t.root) → (k : ℕ) × DownTo r w k t.root b
+            by_two : ((k : ℕ) × DownTo r w k t.root b) ⊎ ((k : ℕ) × DownTo r w k b t.root)
+                → (k : ℕ) × DownTo r w k t.root b
             by_two (inl f) = f
             by_two (inr (k, f)) =
-                let g : q.epoch * span ≡ (p.epoch + 1) * span = ap (λ n. n * span) (sym before ∙ ap (λ n. n + 1) (sym e)) in
-                let z : k ≡ 0 = omega (arith, low (finalized_based p sp) span is_span, down_height r w k b t.root f, h, g) in
+                let g : q.epoch * span ≡ (p.epoch + 1) * span =
+                ap (λ n. n * span) (sym before ∙ ap (λ n. n + 1) (sym e)) in
+                let z : k ≡ 0 =
+                omega (
+                  arith,
+                  low (finalized_based p sp) span is_span,
+                  down_height r w k b t.root f,
+                  h,
+                  g,
+                ) in
                 (0, sym (subst (λ n. DownTo r w n b t.root) z f))
         by_order t s ss before us span is_span h (inr (inl f)) later = later f
         by_order t s ss before us span is_span h (inr (inr f)) later = absurd (omega arith)
 
-        go : (t : Based q) → Base q t.root → ((s : Proposal) → Stands x M (Finalize p) → Stands x M (Finalize s) → p.epoch < s.epoch → s.epoch < bound → (b d : Block) → block_under r w p.payload ≡ Some b → block_under r w s.payload ≡ Some d → (k : ℕ) × DownTo r w k d b) → (k : ℕ) × DownTo r w k d b
+        go : (t : Based q) → Base q t.root
+            → ((s : Proposal) → Stands x M (Finalize p) → Stands x M (Finalize s)
+            → p.epoch < s.epoch → s.epoch < bound → (b d : Block)
+            → block_under r w p.payload ≡ Some b → block_under r w s.payload ≡ Some d
+            → (k : ℕ) × DownTo r w k d b)
+            → (k : ℕ) × DownTo r w k d b
         go t (From_genesis z g) later = absurd (omega arith)
         go t (From_entry s ss before us span is_span h) later =
-            let (k, f) = by_order t s ss before us span is_span h (cases_order p.epoch s.epoch) (λ f. later s sp ss f (omega arith) b t.root u us) in
-            let down : DownTo r w t.steps d t.root = subst (λ z. DownTo r w t.steps z t.root) (same_Some t.block d (sym t.under ∙ v)) t.down in
+            let (k, f) =
+            by_order t s ss before us span is_span h (cases_order p.epoch s.epoch)
+            (λ f. later s sp ss f (omega arith) b t.root u us) in
+            let down : DownTo r w t.steps d t.root =
+            subst (λ z. DownTo r w t.steps z t.root) (same_Some t.block d (sym t.under ∙ v))
+            t.down in
             (t.steps + k, down_join r w t.steps k d t.root b down f)
 
     -- of any two finalized blocks one leads down to the other
-    pub compare : (p q : Proposal) → Stands x M (Finalize p) → Stands x M (Finalize q) → (b d : Block) → block_under r w p.payload ≡ Some b → block_under r w q.payload ≡ Some d → ((k : ℕ) × DownTo r w k d b) ⊎ ((k : ℕ) × DownTo r w k b d)
+    pub compare : (p q : Proposal) → Stands x M (Finalize p) → Stands x M (Finalize q)
+        → (b d : Block) → block_under r w p.payload ≡ Some b → block_under r w q.payload ≡ Some d
+        → ((k : ℕ) × DownTo r w k d b) ⊎ ((k : ℕ) × DownTo r w k b d)
     compare p q sp sq b d u v = go (cases_order p.epoch q.epoch)
       where
-        go : (p.epoch ≡ q.epoch) ⊎ ((p.epoch < q.epoch) ⊎ (q.epoch < p.epoch)) → ((k : ℕ) × DownTo r w k d b) ⊎ ((k : ℕ) × DownTo r w k b d)
+        go : (p.epoch ≡ q.epoch) ⊎ ((p.epoch < q.epoch) ⊎ (q.epoch < p.epoch))
+            → ((k : ℕ) × DownTo r w k d b) ⊎ ((k : ℕ) × DownTo r w k b d)
         go (inl e) = in_epoch p q sp sq e b d u v
         go (inr (inl less)) = inl (over_epochs (suc q.epoch) p q sp sq less (omega arith) b d u v)
         go (inr (inr more)) = inr (over_epochs (suc p.epoch) q p sq sp more (omega arith) d b v u)
 
     -- all notes that enter one epoch have one commitment
-    pub one_entry : (i j : ℕ) (notes others : List Note) → slice_get M i ≡ Some (Some notes) → slice_get M j ≡ Some (Some others) → (epoch : ℕ) (c d : Commitment) → In (Note.Epoch epoch c) notes → In (Note.Epoch epoch d) others → c ≡ d
+    pub one_entry : (i j : ℕ) (notes others : List Note) → slice_get M i ≡ Some (Some notes)
+        → slice_get M j ≡ Some (Some others) → (epoch : ℕ) (c d : Commitment)
+        → In (Note.Epoch epoch c) notes → In (Note.Epoch epoch d) others → c ≡ d
     one_entry i j notes others at at' epoch c d h h' =
         let n = entered_at i notes at epoch c h in
         let m = entered_at j others at' epoch d h' in
         let a = anchors i notes at epoch c h in
         let a' = anchors j others at' epoch d h' in
-        let u : block_under r w a.proposal.payload ≡ Some n.reach.block = subst (λ y. block_under r w y ≡ Some n.reach.block) (sym a.payload) n.reach.under in
-        let v : block_under r w a'.proposal.payload ≡ Some m.reach.block = subst (λ y. block_under r w y ≡ Some m.reach.block) (sym a'.payload) m.reach.under in
-        let same : n.reach.block.height ≡ m.reach.block.height = n.reach.height ∙ (ap (λ y. epoch * y) (same_Some n.span m.span (sym n.is_span ∙ m.is_span)) ∙ sym m.reach.height) in
-        let block : n.reach.block ≡ m.reach.block = by_two n.reach.block m.reach.block same (compare a.proposal a'.proposal a.stands a'.stands n.reach.block m.reach.block u v) in
-        let cn : commit r n.reach.block ≡ c = under_commit r w four keepw clear c n.reach.block n.reach.under (omega (arith, n.reach.height, n.positive)) in
-        let cm : commit r m.reach.block ≡ d = under_commit r w four keepw clear d m.reach.block m.reach.under (omega (arith, m.reach.height, m.positive)) in
+        let u : block_under r w a.proposal.payload ≡ Some n.reach.block =
+        subst (λ y. block_under r w y ≡ Some n.reach.block) (sym a.payload) n.reach.under in
+        let v : block_under r w a'.proposal.payload ≡ Some m.reach.block =
+        subst (λ y. block_under r w y ≡ Some m.reach.block) (sym a'.payload) m.reach.under in
+        let same : n.reach.block.height ≡ m.reach.block.height =
+        n.reach.height
+        ∙ (ap (λ y. epoch * y) (same_Some n.span m.span (sym n.is_span ∙ m.is_span))
+        ∙ sym m.reach.height) in
+        let block : n.reach.block ≡ m.reach.block =
+        by_two n.reach.block m.reach.block same
+        (compare a.proposal a'.proposal a.stands a'.stands n.reach.block m.reach.block u
+        v) in
+        let cn : commit r n.reach.block ≡ c =
+        under_commit r w four keepw clear c n.reach.block n.reach.under
+        (omega (arith, n.reach.height, n.positive)) in
+        let cm : commit r m.reach.block ≡ d =
+        under_commit r w four keepw clear d m.reach.block m.reach.under
+        (omega (arith, m.reach.height, m.positive)) in
         sym cn ∙ (ap (commit r) block ∙ cm)
       where
-        by_two : (b d : Block) → b.height ≡ d.height → ((k : ℕ) × DownTo r w k d b) ⊎ ((k : ℕ) × DownTo r w k b d) → b ≡ d
-        by_two b d e (inl (k, f)) = let z : k ≡ 0 = omega (arith, down_height r w k d b f) in sym (subst (λ n. DownTo r w n d b) z f)
-        by_two b d e (inr (k, f)) = let z : k ≡ 0 = omega (arith, down_height r w k b d f) in subst (λ n. DownTo r w n b d) z f
+        by_two : (b d : Block) → b.height ≡ d.height
+            → ((k : ℕ) × DownTo r w k d b) ⊎ ((k : ℕ) × DownTo r w k b d) → b ≡ d
+        by_two b d e (inl (k, f)) =
+            let z : k ≡ 0 = omega (arith, down_height r w k d b f) in
+            sym (subst (λ n. DownTo r w n d b) z f)
+        by_two b d e (inr (k, f)) =
+            let z : k ≡ 0 = omega (arith, down_height r w k b d f) in
+            subst (λ n. DownTo r w n b d) z f
 
     -- ---- down to genesis
 
     -- what is finalized in an epoch below the bound is rooted
     abbrev LowRooted : ℕ → Type 0
-    LowRooted bound = (q : Proposal) → Stands x M (Finalize q) → q.epoch < bound → (b : Block) → block_under r w q.payload ≡ Some b → IsRooted r w b.height b
+    LowRooted bound =
+        (q : Proposal) → Stands x M (Finalize q) → q.epoch < bound → (b : Block)
+        → block_under r w q.payload ≡ Some b → IsRooted r w b.height b
 
-    rooted_in : (epochs : ℕ) → LowRooted epochs → (bound : ℕ) (p : Proposal) → IsCertifiedIn M p → Stands x M (Notarize p) → p.epoch < suc epochs → p.view < bound → (b : Block) → block_under r w p.payload ≡ Some b → IsRooted r w b.height b
+    rooted_in : (epochs : ℕ) → LowRooted epochs → (bound : ℕ) (p : Proposal) → IsCertifiedIn M p
+        → Stands x M (Notarize p) → p.epoch < suc epochs → p.view < bound → (b : Block)
+        → block_under r w p.payload ≡ Some b → IsRooted r w b.height b
     rooted_in epochs below zero p c a le lt b u = absurd (omega arith)
-    rooted_in epochs below (suc bound) p c a le lt b u = subst (λ (y : Block). IsRooted r w y.height y) (same_Some (linked p c).block b (sym (linked p c).under ∙ u)) (go (linked p c) (linked p c).fit (linked p c).from (λ s. rooted_in epochs below bound s))
+    rooted_in epochs below (suc bound) p c a le lt b u =
+        subst (λ (y : Block). IsRooted r w y.height y)
+        (same_Some (linked p c).block b (sym (linked p c).under ∙ u))
+        (go (linked p c) (linked p c).fit (linked p c).from
+        (λ s. rooted_in epochs below bound s))
       where
         suc_height : (h g : ℕ) → h ≡ g + 1 → suc g ≡ h
         suc_height h g e = omega arith
 
         -- a new block over a rooted one
-        over_it : (k : Linked p) → k.block.height ≡ k.parent.height + 1 → k.block.context.parent ≡ k.over → k.block.parent ≡ digest r k.parent → link_commitment r k.parent ≡ k.over → IsRooted r w k.parent.height k.parent → IsRooted r w k.block.height k.block
+        over_it : (k : Linked p) → k.block.height ≡ k.parent.height + 1
+            → k.block.context.parent ≡ k.over → k.block.parent ≡ digest r k.parent
+            → link_commitment r k.parent ≡ k.over → IsRooted r w k.parent.height k.parent
+            → IsRooted r w k.block.height k.block
         over_it k up named digests e root =
-            subst (λ n. IsRooted r w n k.block) (suc_height k.block.height k.parent.height up)
-            (k.parent, record { under = subst (λ y. block_under r w y ≡ Some k.parent) (sym named) k.over_under; height = up; named = named ∙ sym e; digests = digests; certified = k.certified }, root)
+            subst (λ n. IsRooted r w n k.block) (suc_height k.block.height k.parent.height up) (
+              k.parent,
+              record {
+                under = subst (λ y. block_under r w y ≡ Some k.parent) (sym named) k.over_under;
+                height = up;
+                named = named ∙ sym e;
+                digests = digests;
+                certified = k.certified;
+              },
+              root,
+            )
 
         high_link : (k : Linked p) → 0 < k.parent.height → link_commitment r k.parent ≡ k.over
-        high_link k pos = cond-false (k.parent.height == 0) (genesis_commitment r) (commit r k.parent) (ne_eqb k.parent.height 0 (λ z. omega arith)) ∙ under_commit r w four keepw clear k.over k.parent k.over_under pos
+        high_link k pos =
+            cond-false (k.parent.height == 0) (genesis_commitment r) (commit r k.parent)
+            (ne_eqb k.parent.height 0 (λ z. omega arith))
+            ∙ under_commit r w four keepw clear k.over k.parent k.over_under pos
 
         go : (k : Linked p) → Fit r p k.block k.over k.parent → Parent p k.over
-            → ((s : Proposal) → IsCertifiedIn M s → Stands x M (Notarize s) → s.epoch < suc epochs → s.view < bound → (b : Block) → block_under r w s.payload ≡ Some b → IsRooted r w b.height b)
+            → ((s : Proposal) → IsCertifiedIn M s → Stands x M (Notarize s) → s.epoch < suc epochs
+            → s.view < bound → (b : Block) → block_under r w s.payload ≡ Some b
+            → IsRooted r w b.height b)
             → IsRooted r w k.block.height k.block
         go k (New up within named digests) (At_genesis z e g) later =
-            let root : k.parent ≡ genesis r = same_Some k.parent (genesis r) (sym (subst (λ c. block_under r w c ≡ Some k.parent) g k.over_under) ∙ genesis_under) in
-            over_it k up named digests (ap (link_commitment r) root ∙ sym g) (subst (λ (y : Block). IsRooted r w y.height y) (sym root) refl)
+            let root : k.parent ≡ genesis r =
+            same_Some k.parent (genesis r)
+            (sym (subst (λ c. block_under r w c ≡ Some k.parent) g k.over_under)
+            ∙ genesis_under) in
+            over_it k up named digests (ap (link_commitment r) root ∙ sym g)
+            (subst (λ (y : Block). IsRooted r w y.height y) (sym root) refl)
         go k (New up within named digests) (At_entry z q n) later =
             let same = same_Some n.reach.block k.parent (sym n.reach.under ∙ k.over_under) in
-            let pos : 0 < k.parent.height = subst (λ (y : Block). 0 < y.height) same (omega (arith, n.reach.height, n.positive)) in
-            over_it k up named digests (high_link k pos) (below q.proposal q.stands (omega (arith, q.before)) k.parent (subst (λ y. block_under r w y ≡ Some k.parent) (sym q.payload) k.over_under))
+            let pos : 0 < k.parent.height =
+            subst (λ (y : Block). 0 < y.height) same
+            (omega (arith, n.reach.height, n.positive)) in
+            over_it k up named digests (high_link k pos)
+            (below q.proposal q.stands (omega (arith, q.before)) k.parent
+            (subst (λ y. block_under r w y ≡ Some k.parent) (sym q.payload) k.over_under))
         go k (New up within named digests) (At_proposal s cs st e v g) later =
-            let us : block_under r w s.payload ≡ Some k.parent = subst (λ c. block_under r w c ≡ Some k.parent) g k.over_under in
+            let us : block_under r w s.payload ≡ Some k.parent =
+            subst (λ c. block_under r w c ≡ Some k.parent) g k.over_under in
             let t = linked s cs in
-            let pos : 0 < k.parent.height = subst (λ (y : Block). 0 < y.height) (same_Some t.block k.parent (sym t.under ∙ us)) t.positive in
-            over_it k up named digests (high_link k pos) (later s cs st (omega arith) (omega (arith, notarized_below x (block_fits r) M l p a)) k.parent us)
+            let pos : 0 < k.parent.height =
+            subst (λ (y : Block). 0 < y.height) (same_Some t.block k.parent (sym t.under ∙ us))
+            t.positive in
+            over_it k up named digests (high_link k pos)
+            (later s cs st (omega arith)
+            (omega (arith, notarized_below x (block_fits r) M l p a)) k.parent us)
         go k (Again same block pos last) (At_genesis z e g) later = absurd (omega arith)
         go k (Again same block pos last) (At_entry z q n) later = absurd (omega arith)
         go k (Again same block pos last) (At_proposal s cs st e v g) later =
-            let us : block_under r w s.payload ≡ Some k.parent = subst (λ c. block_under r w c ≡ Some k.parent) g k.over_under in
-            subst (λ (y : Block). IsRooted r w y.height y) (sym block) (later s cs st (omega arith) (omega (arith, notarized_below x (block_fits r) M l p a)) k.parent us)
+            let us : block_under r w s.payload ≡ Some k.parent =
+            subst (λ c. block_under r w c ≡ Some k.parent) g k.over_under in
+            subst (λ (y : Block). IsRooted r w y.height y) (sym block)
+            (later s cs st (omega arith)
+            (omega (arith, notarized_below x (block_fits r) M l p a)) k.parent us)
 
     low_rooted : (bound : ℕ) → LowRooted bound
     low_rooted zero q st lt b u = absurd (omega arith)
-    low_rooted (suc bound) q st lt b u = rooted_in bound (low_rooted bound) (suc q.view) q (finalized_in r spans M l keep q st) (finalized_notarized x (block_fits r) M l q st) lt (omega arith) b u
+    low_rooted (suc bound) q st lt b u =
+        rooted_in bound (low_rooted bound) (suc q.view) q (finalized_in r spans M l keep q st)
+        (finalized_notarized x (block_fits r) M l q st) lt (omega arith) b u
 
-    rooted_block : (p : Proposal) → Stands x M (Finalize p) → (b : Block) → block_under r w p.payload ≡ Some b → IsRooted r w b.height b
+    rooted_block : (p : Proposal) → Stands x M (Finalize p) → (b : Block)
+        → block_under r w p.payload ≡ Some b → IsRooted r w b.height b
     rooted_block p st b u = low_rooted (suc p.epoch) p st (omega arith) b u
 
     -- where a handed block lies: genesis, or down from a finalized proposal's block
     pub data Branch (y : Handed) : Type 0 where
-      Low : y.height ≡ 0 → y.commitment ≡ genesis_commitment r → y.digest ≡ digest r (genesis r) → Branch y
-      High : 0 < y.height → (p : Proposal) → Stands x M (Finalize p) → (b a : Block) → block_under r w p.payload ≡ Some b → (k : ℕ) → DownTo r w k b a → block_under r w y.commitment ≡ Some a → a.height ≡ y.height → y.digest ≡ digest r a → Branch y
+      Low : y.height ≡ 0 → y.commitment ≡ genesis_commitment r → y.digest ≡ digest r (genesis r)
+          → Branch y
+      High : 0 < y.height → (p : Proposal) → Stands x M (Finalize p) → (b a : Block)
+          → block_under r w p.payload ≡ Some b → (k : ℕ) → DownTo r w k b a
+          → block_under r w y.commitment ≡ Some a → a.height ≡ y.height → y.digest ≡ digest r a
+          → Branch y
 
     -- a block that the member handed out when it had these notes
-    pub branch_of : (i : ℕ) (notes before rest : List Note) (at : slice_get M i ≡ Some (Some notes)) (joined : notes ≡ before ++ rest) (y : Handed) (block : Block) → at_height r before y.height ≡ Some y.commitment → held r before y.commitment ≡ Some block → y.digest ≡ digest r block → Branch y
-    branch_of i notes before rest at joined y block high holds same = go (cases_Bool (y.height == 0))
+    pub branch_of : (i : ℕ) (notes before rest : List Note) (at : slice_get M i ≡ Some (Some notes))
+        (joined : notes ≡ before ++ rest) (y : Handed) (block : Block)
+        → at_height r before y.height ≡ Some y.commitment → held r before y.commitment ≡ Some block
+        → y.digest ≡ digest r block → Branch y
+    branch_of i notes before rest at joined y block high holds same =
+        go (cases_Bool (y.height == 0))
       where
         u : block_under r w y.commitment ≡ Some block
         u = held_under i notes before rest at joined y.commitment block holds
 
         go : ((y.height == 0) ≡ true) ⊎ ((y.height == 0) ≡ false) → Branch y
         go (inl t) =
-            let s : genesis_commitment r ≡ y.commitment = same_Some (genesis_commitment r) y.commitment (sym (cond-true (y.height == 0) (Some (genesis_commitment r)) (first_some _ (filter_map finalization_of before)) t) ∙ high) in
-            let g : genesis r ≡ block = same_Some (genesis r) block (sym (subst (λ c. block_under r w c ≡ Some (genesis r)) s genesis_under) ∙ u) in
+            let s : genesis_commitment r ≡ y.commitment =
+            same_Some (genesis_commitment r) y.commitment
+            (sym
+            (cond-true (y.height == 0) (Some (genesis_commitment r))
+            (first_some _ (filter_map finalization_of before)) t)
+            ∙ high) in
+            let g : genesis r ≡ block =
+            same_Some (genesis r) block
+            (sym (subst (λ c. block_under r w c ≡ Some (genesis r)) s genesis_under) ∙ u) in
             Low (eqb-true y.height 0 t) (sym s) (same ∙ ap (digest r) (sym g))
         go (inr f) =
             let pos : 0 < y.height = omega (arith, eqb-false y.height 0 f) in
             let t = reaching i notes before rest at joined y.height y.commitment pos high in
             let same_block : t.block ≡ block = same_Some t.block block (sym t.under ∙ u) in
-            High pos t.proposal t.stands t.top t.block t.top_under t.steps t.down t.under t.height (same ∙ ap (digest r) (sym same_block))
+            High pos t.proposal t.stands t.top t.block t.top_under t.steps t.down t.under t.height
+            (same ∙ ap (digest r) (sym same_block))
 
     -- ---- one chain
 
@@ -597,46 +998,75 @@ module _ (r : Rules) (w : World) (four : (epoch : ℕ) → 4 ≤ size r.epochs e
       first : DownTo r w i top a
       second : DownTo r w j top c
 
-    above : (p q : Proposal) → Stands x M (Finalize p) → Stands x M (Finalize q) → (b d a c : Block) → block_under r w p.payload ≡ Some b → block_under r w q.payload ≡ Some d → (i j : ℕ) → DownTo r w i b a → DownTo r w j d c → Above a c
+    above : (p q : Proposal) → Stands x M (Finalize p) → Stands x M (Finalize q) → (b d a c : Block)
+        → block_under r w p.payload ≡ Some b → block_under r w q.payload ≡ Some d → (i j : ℕ)
+        → DownTo r w i b a → DownTo r w j d c → Above a c
     above p q sp sq b d a c u v i j e f = go (compare p q sp sq b d u v)
       where
         go : ((k : ℕ) × DownTo r w k d b) ⊎ ((k : ℕ) × DownTo r w k b d) → Above a c
-        go (inl (k, n)) = record { top = d; i = k + i; j = j; first = down_join r w k i d b a n e; second = f }
-        go (inr (k, n)) = record { top = b; i = i; j = k + j; first = e; second = down_join r w k j b d c n f }
+        go (inl (k, n)) =
+            record { top = d; i = k + i; j = j; first = down_join r w k i d b a n e; second = f }
+        go (inr (k, n)) =
+            record { top = b; i = i; j = k + j; first = e; second = down_join r w k j b d c n f }
 
     -- the lower of two such blocks is reached from the higher
-    down_between : (a c : Block) → Above a c → c.height ≤ a.height → (k : ℕ) × (a.height ≡ k + c.height) × DownTo r w k a c
+    down_between : (a c : Block) → Above a c → c.height ≤ a.height
+        → (k : ℕ) × (a.height ≡ k + c.height) × DownTo r w k a c
     down_between a c t le =
         let h = down_height r w t.i t.top a t.first in
         let g = down_height r w t.j t.top c t.second in
         let e : t.j ≡ t.i + (t.j - t.i) = omega arith in
-        let (m, x, y) = down_split r w t.i (t.j - t.i) t.top c (subst (λ n. DownTo r w n t.top c) e t.second) in
+        let (m, x, y) =
+        down_split r w t.i (t.j - t.i) t.top c (subst (λ n. DownTo r w n t.top c) e t.second) in
         let s : m ≡ a = down_same r w t.i t.top m a x t.first in
         (t.j - t.i, omega arith, subst (λ z. DownTo r w (t.j - t.i) z c) s y)
 
     -- a rooted block's chain holds genesis in the first place
-    root_link : (b : Block) → IsRooted r w b.height b → slice_get (chain_to r w b) 0 ≡ Some (genesis r)
-    root_link b h = let k = links_rooted r w b.height b h in subst (λ xs. slice_get xs 0 ≡ Some (genesis r)) (sym k.are) refl
+    root_link : (b : Block) → IsRooted r w b.height b
+        → slice_get (chain_to r w b) 0 ≡ Some (genesis r)
+    root_link b h =
+        let k = links_rooted r w b.height b h in
+        subst (λ xs. slice_get xs 0 ≡ Some (genesis r)) (sym k.are) refl
 
-    link_named : (y : Handed) (a : Block) → block_under r w y.commitment ≡ Some a → 0 < a.height → y.commitment ≡ link_commitment r a
-    link_named y a u pos = sym (cond-false (a.height == 0) (genesis_commitment r) (commit r a) (ne_eqb a.height 0 (λ z. omega arith)) ∙ under_commit r w four keepw clear y.commitment a u pos)
+    link_named : (y : Handed) (a : Block) → block_under r w y.commitment ≡ Some a → 0 < a.height
+        → y.commitment ≡ link_commitment r a
+    link_named y a u pos =
+        sym
+        (cond-false (a.height == 0) (genesis_commitment r) (commit r a)
+        (ne_eqb a.height 0 (λ z. omega arith))
+        ∙ under_commit r w four keepw clear y.commitment a u pos)
 
     -- each lower branch is a link below a higher one
-    link_below : (z y : Handed) (a : Block) → 0 < z.height → (p : Proposal) → Stands x M (Finalize p) → (b : Block) → block_under r w p.payload ≡ Some b → (k : ℕ) → DownTo r w k b a → a.height ≡ z.height → IsRooted r w a.height a → Branch y → y.height ≤ z.height → IsLinkOf r (chain_to r w a) y
-    link_below z y a pos p sp b u k d h root (Low e n g) le = record { link = genesis r; there = subst (λ i. slice_get (chain_to r w a) i ≡ Some (genesis r)) (sym e) (root_link a root); same_digest = g; same_commitment = n }
+    link_below : (z y : Handed) (a : Block) → 0 < z.height → (p : Proposal)
+        → Stands x M (Finalize p) → (b : Block) → block_under r w p.payload ≡ Some b → (k : ℕ)
+        → DownTo r w k b a → a.height ≡ z.height → IsRooted r w a.height a → Branch y
+        → y.height ≤ z.height → IsLinkOf r (chain_to r w a) y
+    link_below z y a pos p sp b u k d h root (Low e n g) le =
+        record {
+          link = genesis r;
+          there =
+              subst (λ i. slice_get (chain_to r w a) i ≡ Some (genesis r)) (sym e)
+              (root_link a root);
+          same_digest = g;
+          same_commitment = n;
+        }
     link_below z y a pos p sp b u k d h root (High pos' q sq b' c v k' e n g s) le =
         let (m, t, f) = down_between a c (above p q sp sq b b' a c u v k k' d e) (omega arith) in
         let root' : IsRooted r w (m + c.height) a = subst (λ i. IsRooted r w i a) t root in
-        let there : slice_get (links_to r w (m + c.height) a) c.height ≡ Some c = links_down r w c.height m a c root' f in
+        let there : slice_get (links_to r w (m + c.height) a) c.height ≡ Some c =
+        links_down r w c.height m a c root' f in
         record {
           link = c;
-          there = subst (λ i. slice_get (chain_to r w a) i ≡ Some c) g (subst (λ i. slice_get (links_to r w i a) c.height ≡ Some c) (sym t) there);
+          there =
+              subst (λ i. slice_get (chain_to r w a) i ≡ Some c) g
+              (subst (λ i. slice_get (links_to r w i a) c.height ≡ Some c) (sym t) there);
           same_digest = s;
           same_commitment = link_named y c n (omega arith);
         }
 
     -- all that is handed out lies on one chain
-    pub one_chain : (handed : List Handed) → ((y : Handed) → In y handed → Branch y) → (z : Handed) → In z handed → IsOneChain r w handed z
+    pub one_chain : (handed : List Handed) → ((y : Handed) → In y handed → Branch y) → (z : Handed)
+        → In z handed → IsOneChain r w handed z
     one_chain handed all z at = go (all z at)
       where
         go : Branch z → IsOneChain r w handed z
@@ -649,10 +1079,20 @@ module _ (r : Rules) (w : World) (four : (epoch : ℕ) → 4 ≤ size r.epochs e
         }
           where
             low : (y : Handed) → Branch y → y.height ≡ 0 → IsLinkOf r (chain_to r w (genesis r)) y
-            low y (Low z' n' g') e = record { link = genesis r; there = subst (λ i. slice_get (chain_to r w (genesis r)) i ≡ Some (genesis r)) (sym e) refl; same_digest = g'; same_commitment = n' }
+            low y (Low z' n' g') e =
+                record {
+                  link = genesis r;
+                  there =
+                      subst (λ i. slice_get (chain_to r w (genesis r)) i ≡ Some (genesis r)) (sym e)
+                      refl;
+                  same_digest = g';
+                  same_commitment = n';
+                }
             low y (High pos' q sq b' c v k' e' n' g' s') e = absurd (omega arith)
         go (High pos p sp b a u k d n h g) =
-            let root' : IsRooted r w (k + a.height) b = subst (λ i. IsRooted r w i b) (down_height r w k b a d ∙ omega arith) (rooted_block p sp b u) in
+            let root' : IsRooted r w (k + a.height) b =
+            subst (λ i. IsRooted r w i b) (down_height r w k b a d ∙ omega arith)
+            (rooted_block p sp b u) in
             let root = rooted_down r w a.height k b a root' d in
             record {
               block = a;

@@ -23,7 +23,8 @@ mul_more zero a l = subst (λ n. a * l ≤ n * l) zero_more (omega arith)
   where
     zero_more : a ≡ a + 0
     zero_more = omega arith
-mul_more (suc d) a l = subst (λ n. a * l ≤ n * l) one_more (omega (arith, suc-mul (a + d) l, mul_more d a l))
+mul_more (suc d) a l =
+    subst (λ n. a * l ≤ n * l) one_more (omega (arith, suc-mul (a + d) l, mul_more d a l))
   where
     one_more : suc (a + d) ≡ a + suc d
     one_more = omega arith
@@ -33,43 +34,76 @@ abbrev pub IsSpanned : Epochs → Type 0
 IsSpanned x = (span : ℕ) → x.span ≡ Some span → 0 < span
 
 -- the last height of an epoch
-pub last_is : (x : Epochs) (epoch h : ℕ) → is_last x epoch h ≡ true → (span : ℕ) × (x.span ≡ Some span) × (h ≡ (epoch + 1) * span)
+pub last_is : (x : Epochs) (epoch h : ℕ) → is_last x epoch h ≡ true
+    → (span : ℕ) × (x.span ≡ Some span) × (h ≡ (epoch + 1) * span)
 last_is x epoch h t = go x.span refl t
   where
-    go : (o : Option ℕ) → x.span ≡ o → option_map_or (λ last. h == last) (option_map (λ span. (epoch + 1) * span) o) false ≡ true → (span : ℕ) × (x.span ≡ Some span) × (h ≡ (epoch + 1) * span)
+    go : (o : Option ℕ) → x.span ≡ o
+        → option_map_or (λ last. h == last) (option_map (λ span. (epoch + 1) * span) o) false ≡ true
+        → (span : ℕ) × (x.span ≡ Some span) × (h ≡ (epoch + 1) * span)
     go None e t = absurd (false≢true t)
     go (Some span) e t = (span, e, eqb-true h ((epoch + 1) * span) t)
 
-pub within_is : (x : Epochs) (epoch h span : ℕ) → x.span ≡ Some span → is_within x epoch h ≡ true → h ≤ (epoch + 1) * span
-within_is x epoch h span e t = leb-true h ((epoch + 1) * span) (subst (λ o. option_map_or (λ last. nat_le h last) (option_map (λ span. (epoch + 1) * span) o) true ≡ true) e t)
+pub within_is : (x : Epochs) (epoch h span : ℕ) → x.span ≡ Some span → is_within x epoch h ≡ true
+    → h ≤ (epoch + 1) * span
+within_is x epoch h span e t =
+    leb-true h ((epoch + 1) * span)
+    (subst
+    (λ o. option_map_or (λ last. nat_le h last) (option_map (λ span. (epoch + 1) * span) o)
+    true
+    ≡ true)
+    e t)
 
 -- a new block over the parent, or the parent's again, the last of its epoch
 pub data Fit (r : Rules) (p : Proposal) (b : Block) (c : Commitment) (a : Block) : Type 0 where
-  New : b.height ≡ a.height + 1 → is_within r.epochs p.epoch b.height ≡ true → b.context.parent ≡ c → b.parent ≡ digest r a → Fit r p b c a
-  Again : p.payload ≡ c → b ≡ a → 0 < p.parent → is_last r.epochs p.epoch b.height ≡ true → Fit r p b c a
+  New : b.height ≡ a.height + 1 → is_within r.epochs p.epoch b.height ≡ true → b.context.parent ≡ c
+      → b.parent ≡ digest r a → Fit r p b c a
+  Again : p.payload ≡ c → b ≡ a → 0 < p.parent → is_last r.epochs p.epoch b.height ≡ true
+      → Fit r p b c a
 
 -- contexts that test alike have one parent commitment
 context_parent : (a b : Context) → same_context a b ≡ true → a.parent ≡ b.parent
 context_parent a b h = ap (λ (x : Context). x.parent) (same_context-true a b h)
 
-pub fit_cases : (r : Rules) (p : Proposal) (b : Block) (c : Commitment) (a : Block) → fits_over r p b c a ≡ true → Fit r p b c a
+pub fit_cases : (r : Rules) (p : Proposal) (b : Block) (c : Commitment) (a : Block)
+    → fits_over r p b c a ≡ true → Fit r p b c a
 fit_cases r p b c a h = go (or_cases (builds_on r p b c a) (repeats r p b c a) h)
   where
     go : (builds_on r p b c a ≡ true) ⊎ (repeats r p b c a ≡ true) → Fit r p b c a
     go (inl t) =
-        let v = and_parts (same_context b.context (context_for r p c) && same_digest b.parent (digest r a) && (b.height == a.height + 1) && is_within r.epochs p.epoch b.height) (r.accepts b a) t in
-        let x = and_parts (same_context b.context (context_for r p c) && same_digest b.parent (digest r a) && (b.height == a.height + 1)) (is_within r.epochs p.epoch b.height) v.0 in
-        let y = and_parts (same_context b.context (context_for r p c) && same_digest b.parent (digest r a)) (b.height == a.height + 1) x.0 in
-        let z = and_parts (same_context b.context (context_for r p c)) (same_digest b.parent (digest r a)) y.0 in
-        New (eqb-true b.height (a.height + 1) y.1) x.1 (context_parent b.context (context_for r p c) z.0) (same_digest-true b.parent (digest r a) z.1)
+        let v =
+        and_parts
+        (same_context b.context (context_for r p c) && same_digest b.parent (digest r a)
+        && (b.height == a.height + 1) && is_within r.epochs p.epoch b.height)
+        (r.accepts b a) t in
+        let x =
+        and_parts
+        (same_context b.context (context_for r p c) && same_digest b.parent (digest r a)
+        && (b.height == a.height + 1))
+        (is_within r.epochs p.epoch b.height) v.0 in
+        let y =
+        and_parts
+        (same_context b.context (context_for r p c) && same_digest b.parent (digest r a))
+        (b.height == a.height + 1) x.0 in
+        let z =
+        and_parts (same_context b.context (context_for r p c))
+        (same_digest b.parent (digest r a)) y.0 in
+        New (eqb-true b.height (a.height + 1) y.1) x.1
+        (context_parent b.context (context_for r p c) z.0)
+        (same_digest-true b.parent (digest r a) z.1)
     go (inr t) =
-        let x = and_parts (same_commitment p.payload c && same_block b a && nat_lt 0 p.parent) (is_last r.epochs p.epoch b.height) t in
+        let x =
+        and_parts (same_commitment p.payload c && same_block b a && nat_lt 0 p.parent)
+        (is_last r.epochs p.epoch b.height) t in
         let y = and_parts (same_commitment p.payload c && same_block b a) (nat_lt 0 p.parent) x.0 in
         let z = and_parts (same_commitment p.payload c) (same_block b a) y.0 in
-        Again (same_commitment-true p.payload c z.0) (same_block-true b a z.1) (ltb-true 0 p.parent y.1) x.1
+        Again (same_commitment-true p.payload c z.0) (same_block-true b a z.1)
+        (ltb-true 0 p.parent y.1) x.1
 
 -- a fitting block isn't genesis
-pub fit_positive : (r : Rules) → IsSpanned r.epochs → (p : Proposal) (b : Block) (c : Commitment) (a : Block) → fits_over r p b c a ≡ true → 0 < b.height
+pub fit_positive : (r : Rules) → IsSpanned r.epochs
+    → (p : Proposal) (b : Block) (c : Commitment) (a : Block) → fits_over r p b c a ≡ true
+    → 0 < b.height
 fit_positive r spans p b c a h = go (fit_cases r p b c a h)
   where
     go : Fit r p b c a → 0 < b.height

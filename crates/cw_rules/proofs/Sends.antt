@@ -25,7 +25,8 @@ use Rattle.cw_rules.specs.World.{is_sent_vote, is_vote_of, sent_from}
 use Rattle.cw_base.specs.Config.{same_counts}
 
 -- one of two lists has it
-pub any_cases : {X : Type 0} (t : X → Bool) (xs ys : List X) → list_any t (xs ++ ys) ≡ true → (list_any t xs ≡ true) ⊎ (list_any t ys ≡ true)
+pub any_cases : {X : Type 0} (t : X → Bool) (xs ys : List X) → list_any t (xs ++ ys) ≡ true
+    → (list_any t xs ≡ true) ⊎ (list_any t ys ≡ true)
 any_cases t xs ys h = or_cases (list_any t xs) (list_any t ys) (sym (list_any-append t xs ys) ∙ h)
 
 module _ (i : ℕ) (v : Vote) where
@@ -33,28 +34,41 @@ module _ (i : ℕ) (v : Vote) where
   votes o = is_vote_of i v o.message
 
   -- what was sent from a member is among its outs
-  pub any_sent : (n j : ℕ) (outs : List Out) → list_any (is_sent_vote i v) (sent_from n j outs) ≡ true → list_any votes outs ≡ true
+  pub any_sent : (n j : ℕ) (outs : List Out)
+      → list_any (is_sent_vote i v) (sent_from n j outs) ≡ true → list_any votes outs ≡ true
   any_sent n j [] h = h
-  any_sent n j (o ∷ os) h = go (or_cases ((j == i) && votes o) (list_any (is_sent_vote i v) (sent_from (n + 1) j os)) h) (any_sent (n + 1) j os)
+  any_sent n j (o ∷ os) h =
+      go (or_cases ((j == i) && votes o) (list_any (is_sent_vote i v) (sent_from (n + 1) j os)) h)
+      (any_sent (n + 1) j os)
     where
-      go : (((j == i) && votes o) ≡ true) ⊎ (list_any (is_sent_vote i v) (sent_from (n + 1) j os) ≡ true) → (list_any (is_sent_vote i v) (sent_from (n + 1) j os) ≡ true → list_any votes os ≡ true) → (votes o || list_any votes os) ≡ true
+      go : (((j == i) && votes o) ≡ true)
+          ⊎ (list_any (is_sent_vote i v) (sent_from (n + 1) j os) ≡ true)
+          → (list_any (is_sent_vote i v) (sent_from (n + 1) j os) ≡ true → list_any votes os ≡ true)
+          → (votes o || list_any votes os) ≡ true
       go (inl e) later = or_left (votes o) (list_any votes os) (and_parts (j == i) (votes o) e).1
       go (inr e) later = or_right (votes o) (list_any votes os) (later e)
 
   -- lists without votes
-  none_mapped : {X : Type 0} (f : X → Out) → ((x : X) → votes (f x) ≡ false) → (xs : List X) → list_any votes (map f xs) ≡ true → ⊥
+  none_mapped : {X : Type 0} (f : X → Out) → ((x : X) → votes (f x) ≡ false) → (xs : List X)
+      → list_any votes (map f xs) ≡ true → ⊥
   none_mapped f n [] h = false≢true h
-  none_mapped f n (x ∷ xs) h = go (or_cases (votes (f x)) (list_any votes (map f xs)) h) (none_mapped f n xs)
+  none_mapped f n (x ∷ xs) h =
+      go (or_cases (votes (f x)) (list_any votes (map f xs)) h) (none_mapped f n xs)
     where
-      go : (votes (f x) ≡ true) ⊎ (list_any votes (map f xs) ≡ true) → (list_any votes (map f xs) ≡ true → ⊥) → ⊥
+      go : (votes (f x) ≡ true) ⊎ (list_any votes (map f xs) ≡ true)
+          → (list_any votes (map f xs) ≡ true → ⊥) → ⊥
       go (inl e) later = false≢true (sym (n x) ∙ e)
       go (inr e) later = later e
 
-  none_filtered : {X : Type 0} (f : X → Option Out) → ((x : X) → option_map_or votes (f x) false ≡ false) → (xs : List X) → list_any votes (filter_map f xs) ≡ true → ⊥
+  none_filtered : {X : Type 0} (f : X → Option Out)
+      → ((x : X) → option_map_or votes (f x) false ≡ false) → (xs : List X)
+      → list_any votes (filter_map f xs) ≡ true → ⊥
   none_filtered f n [] h = false≢true h
   none_filtered f n (x ∷ xs) h = go (f x) (n x) h (none_filtered f n xs)
     where
-      go : (o : Option Out) → option_map_or votes o false ≡ false → list_any votes (cons_option o (filter_map f xs)) ≡ true → (list_any votes (filter_map f xs) ≡ true → ⊥) → ⊥
+      go : (o : Option Out) → option_map_or votes o false ≡ false
+          → list_any votes (cons_option o (filter_map f xs)) ≡ true
+          → (list_any votes (filter_map f xs) ≡ true → ⊥) → ⊥
       go None e h later = later h
       go (Some y) e h later = or_so (or_cases (votes y) (list_any votes (filter_map f xs)) h)
         where
@@ -62,67 +76,112 @@ module _ (i : ℕ) (v : Vote) where
           or_so (inl t) = false≢true (sym e ∙ t)
           or_so (inr t) = later t
 
-  chunk_none : (id : ℕ) (list : List ℕ) (c : Commitment) (x : Chunk) → option_map_or votes (chunk_out id list c x) false ≡ false
+  chunk_none : (id : ℕ) (list : List ℕ) (c : Commitment) (x : Chunk)
+      → option_map_or votes (chunk_out id list c x) false ≡ false
   chunk_none id list c x = go (slice_get list x.index)
     where
-      go : (o : Option ℕ) → option_map_or votes (option_map (λ (j : ℕ). record { to = cond (j == id) To.All (To.One j); message = Message.Shard c x }) o) false ≡ false
+      go : (o : Option ℕ)
+          → option_map_or votes (option_map (λ (j : ℕ). record {
+            to = cond (j == id) To.All (To.One j);
+            message = Message.Shard c x;
+          }) o) false
+          ≡ false
       go None = refl
       go (Some j) = refl
 
-  none_optional : {X : Type 0} (f : X → List Out) → ((x : X) → list_any votes (f x) ≡ true → ⊥) → (o : Option X) → list_any votes (option_map_or f o []) ≡ true → ⊥
+  none_optional : {X : Type 0} (f : X → List Out) → ((x : X) → list_any votes (f x) ≡ true → ⊥)
+      → (o : Option X) → list_any votes (option_map_or f o []) ≡ true → ⊥
   none_optional f n None h = false≢true h
   none_optional f n (Some x) h = n x h
 
-  none_when : (b : Bool) (xs : List Out) → (list_any votes xs ≡ true → ⊥) → list_any votes (cond b xs []) ≡ true → ⊥
+  none_when : (b : Bool) (xs : List Out) → (list_any votes xs ≡ true → ⊥)
+      → list_any votes (cond b xs []) ≡ true → ⊥
   none_when true xs n h = n h
   none_when false xs n h = false≢true h
 
   -- what a note sends
-  note_votes : (r : Rules) (id : ℕ) (all : List Note) (notes : List Note) → list_any votes (flat_map (note_sends r id all) notes) ≡ true → has_vote notes v ≡ true
+  note_votes : (r : Rules) (id : ℕ) (all : List Note) (notes : List Note)
+      → list_any votes (flat_map (note_sends r id all) notes) ≡ true → has_vote notes v ≡ true
   note_votes r id all [] h = h
-  note_votes r id all (note ∷ notes) h = or_so (any_cases votes (note_sends r id all note) (flat_map (note_sends r id all) notes) h) (note_votes r id all notes)
+  note_votes r id all (note ∷ notes) h =
+      or_so (any_cases votes (note_sends r id all note) (flat_map (note_sends r id all) notes) h)
+      (note_votes r id all notes)
     where
       here : (n : Note) → list_any votes (note_sends r id all n) ≡ true → has_vote (n ∷ []) v ≡ true
       here (Note.Vote w) h = go (or_cases ((id == i) && same_vote v w) false h)
         where
-          go : (((id == i) && same_vote v w) ≡ true) ⊎ (false ≡ true) → (same_vote v w || false) ≡ true
+          go : (((id == i) && same_vote v w) ≡ true) ⊎ (false ≡ true)
+              → (same_vote v w || false) ≡ true
           go (inl e) = or_left (same_vote v w) false (and_parts (id == i) (same_vote v w) e).1
           go (inr e) = absurd (false≢true e)
-      here (Note.Verified epoch view c) h = absurd (none_optional (λ b. filter_map (chunk_out id (members_in r.epochs epoch) (commit r b)) (chunks r b)) (λ b. none_filtered (chunk_out id (members_in r.epochs epoch) (commit r b)) (λ x. chunk_none id (members_in r.epochs epoch) (commit r b) x) (chunks r b)) (first_some (noted_block_of c) all) h)
+      here (Note.Verified epoch view c) h =
+          absurd
+          (none_optional
+          (λ b. filter_map (chunk_out id (members_in r.epochs epoch) (commit r b))
+          (chunks r b))
+          (λ b. none_filtered (chunk_out id (members_in r.epochs epoch) (commit r b))
+          (λ x. chunk_none id (members_in r.epochs epoch) (commit r b) x) (chunks r b))
+          (first_some (noted_block_of c) all) h)
       here _ h = absurd (false≢true h)
 
-      or_so : (list_any votes (note_sends r id all note) ≡ true) ⊎ (list_any votes (flat_map (note_sends r id all) notes) ≡ true) → (list_any votes (flat_map (note_sends r id all) notes) ≡ true → has_vote notes v ≡ true) → has_vote (note ∷ notes) v ≡ true
-      or_so (inl e) later = list_any-append (is_vote v) (note ∷ []) notes ∙ or_left (has_vote (note ∷ []) v) (has_vote notes v) (here note e)
+      or_so : (list_any votes (note_sends r id all note) ≡ true)
+          ⊎ (list_any votes (flat_map (note_sends r id all) notes) ≡ true)
+          → (list_any votes (flat_map (note_sends r id all) notes) ≡ true → has_vote notes v ≡ true)
+          → has_vote (note ∷ notes) v ≡ true
+      or_so (inl e) later =
+          list_any-append (is_vote v) (note ∷ []) notes
+          ∙ or_left (has_vote (note ∷ []) v) (has_vote notes v) (here note e)
       or_so (inr e) later = or_right (is_vote v note) (has_vote notes v) (later e)
 
   -- the other sends hold no vote
-  own_chunk_none : (r : Rules) (id epoch : ℕ) (came : Came) (e : Event) → list_any votes (own_chunk r id epoch came e) ≡ true → ⊥
+  own_chunk_none : (r : Rules) (id epoch : ℕ) (came : Came) (e : Event)
+      → list_any votes (own_chunk r id epoch came e) ≡ true → ⊥
   own_chunk_none r id epoch came (Event.Deliver m) h = by_message m h
     where
-      by_message : (m : Message) → list_any votes (own_chunk r id epoch came (Event.Deliver m)) ≡ true → ⊥
-      by_message (Message.Shard c x) h = none_when (option_map_or (λ at. x.index == at) (place r.epochs epoch id) false && same_counts c.config (config r epoch) && is_chunk_of r c x && not (list_any (same_part (Row c x)) came.parts)) (to_all (Message.Shard c x) ∷ []) false≢true h
+      by_message : (m : Message)
+          → list_any votes (own_chunk r id epoch came (Event.Deliver m)) ≡ true → ⊥
+      by_message (Message.Shard c x) h =
+          none_when
+          (option_map_or (λ at. x.index == at) (place r.epochs epoch id) false
+          && same_counts c.config (config r epoch) && is_chunk_of r c x
+          && not (list_any (same_part (Row c x)) came.parts))
+          (to_all (Message.Shard c x) ∷ []) false≢true h
       by_message _ h = false≢true h
   own_chunk_none r id epoch came _ h = false≢true h
 
-  answer_none : (r : Rules) (id : ℕ) (notes : List Note) (e : Event) → list_any votes (answer r id notes e) ≡ true → ⊥
+  answer_none : (r : Rules) (id : ℕ) (notes : List Note) (e : Event)
+      → list_any votes (answer r id notes e) ≡ true → ⊥
   answer_none r id notes (Event.Deliver m) h = by_message m h
     where
       block_out : ℕ → Block → List Out
       block_out j b = record { to = To.One j; message = Message.Block b } ∷ []
 
       by_message : (m : Message) → list_any votes (answer r id notes (Event.Deliver m)) ≡ true → ⊥
-      by_message (Message.Ask j c) h = none_when (nat_lt j r.epochs.total && not (same_commitment c (genesis_commitment r))) (option_map_or (block_out j) (held r notes c) []) (none_optional (block_out j) (λ b. false≢true) (held r notes c)) h
-      by_message (Message.AskHeight j height) h = none_when (nat_lt j r.epochs.total) _ (none_optional (finalization_outs r notes j) (λ s. none_optional (block_out j) (λ b. false≢true) _) (first_some (finalization_at r notes height) notes)) h
+      by_message (Message.Ask j c) h =
+          none_when (nat_lt j r.epochs.total && not (same_commitment c (genesis_commitment r)))
+          (option_map_or (block_out j) (held r notes c) [])
+          (none_optional (block_out j) (λ b. false≢true) (held r notes c)) h
+      by_message (Message.AskHeight j height) h =
+          none_when (nat_lt j r.epochs.total) _
+          (none_optional (finalization_outs r notes j)
+          (λ s. none_optional (block_out j) (λ b. false≢true) _)
+          (first_some (finalization_at r notes height) notes))
+          h
       by_message _ h = false≢true h
-  answer_none r id notes (Event.Hint height) h = by_found (first_some (finalization_at r notes height) notes) h
+  answer_none r id notes (Event.Hint height) h =
+      by_found (first_some (finalization_at r notes height) notes) h
     where
-      by_found : (o : Option Cert) → list_any votes (option_map_or (λ _. []) o (to_all (Message.AskHeight id height) ∷ [])) ≡ true → ⊥
+      by_found : (o : Option Cert)
+          → list_any votes (option_map_or (λ _. []) o (to_all (Message.AskHeight id height) ∷ []))
+          ≡ true
+          → ⊥
       by_found None h = false≢true h
       by_found (Some s) h = false≢true h
   answer_none r id notes _ h = false≢true h
 
   -- a vote that a step sends is among the step's notes
-  pub sends_voted : (r : Rules) (id : ℕ) (before after : State) (e : Event) (notes : List Note) → list_any votes (sends r id before after e notes) ≡ true → has_vote notes v ≡ true
+  pub sends_voted : (r : Rules) (id : ℕ) (before after : State) (e : Event) (notes : List Note)
+      → list_any votes (sends r id before after e notes) ≡ true → has_vote notes v ≡ true
   sends_voted r id before after e notes h = three (any_cases votes (a ++ b ++ c) d h)
     where
       a : List Out
@@ -151,20 +210,31 @@ module _ (i : ℕ) (v : Vote) where
       two (inl x) = one (any_cases votes a b x)
       two (inr x) = absurd (none_mapped asked (λ _. refl) news x)
 
-      three : (list_any votes (a ++ b ++ c) ≡ true) ⊎ (list_any votes d ≡ true) → has_vote notes v ≡ true
+      three : (list_any votes (a ++ b ++ c) ≡ true) ⊎ (list_any votes d ≡ true)
+          → has_vote notes v ≡ true
       three (inl x) = two (any_cases votes (a ++ b) c x)
       three (inr x) = absurd (answer_none r id after.notes e x)
 
   -- a vote that a start sends is among the notes on the disk
-  last_among : (frames : List (List Note)) (o : Option (List Note)) → has_vote (unwrap_or (last_or o frames) []) v ≡ true → (has_vote (unwrap_or o []) v ≡ true) ⊎ (has_vote (flat_map (λ frame. frame) frames) v ≡ true)
+  last_among : (frames : List (List Note)) (o : Option (List Note))
+      → has_vote (unwrap_or (last_or o frames) []) v ≡ true
+      → (has_vote (unwrap_or o []) v ≡ true)
+      ⊎ (has_vote (flat_map (λ frame. frame) frames) v ≡ true)
   last_among [] o h = inl h
   last_among (f ∷ fs) o h = inr (go (last_among fs (Some f) h))
     where
-      go : (has_vote f v ≡ true) ⊎ (has_vote (flat_map (λ frame. frame) fs) v ≡ true) → has_vote (f ++ flat_map (λ frame. frame) fs) v ≡ true
-      go (inl x) = list_any-append (is_vote v) f (flat_map (λ frame. frame) fs) ∙ or_left (has_vote f v) (has_vote (flat_map (λ frame. frame) fs) v) x
-      go (inr x) = list_any-append (is_vote v) f (flat_map (λ frame. frame) fs) ∙ or_right (has_vote f v) (has_vote (flat_map (λ frame. frame) fs) v) x
+      go : (has_vote f v ≡ true) ⊎ (has_vote (flat_map (λ frame. frame) fs) v ≡ true)
+          → has_vote (f ++ flat_map (λ frame. frame) fs) v ≡ true
+      go (inl x) =
+          list_any-append (is_vote v) f (flat_map (λ frame. frame) fs)
+          ∙ or_left (has_vote f v) (has_vote (flat_map (λ frame. frame) fs) v) x
+      go (inr x) =
+          list_any-append (is_vote v) f (flat_map (λ frame. frame) fs)
+          ∙ or_right (has_vote f v) (has_vote (flat_map (λ frame. frame) fs) v) x
 
-  pub start_voted : (r : Rules) (id : ℕ) (frames : List (List Note)) → list_any votes (start r id frames).sent ≡ true → has_vote (flat_map (λ frame. frame) frames) v ≡ true
+  pub start_voted : (r : Rules) (id : ℕ) (frames : List (List Note))
+      → list_any votes (start r id frames).sent ≡ true
+      → has_vote (flat_map (λ frame. frame) frames) v ≡ true
   start_voted r id frames h = go (any_cases votes again (map asked gone) h)
     where
       asked : Commitment → Out
@@ -183,6 +253,9 @@ module _ (i : ℕ) (v : Vote) where
       by_last (inl x) = absurd (false≢true x)
       by_last (inr x) = x
 
-      go : (list_any votes again ≡ true) ⊎ (list_any votes (map asked gone) ≡ true) → has_vote all v ≡ true
-      go (inl x) = by_last (last_among frames None (note_votes r id all (unwrap_or (last_or None frames) []) x))
+      go : (list_any votes again ≡ true) ⊎ (list_any votes (map asked gone) ≡ true)
+          → has_vote all v ≡ true
+      go (inl x) =
+          by_last
+          (last_among frames None (note_votes r id all (unwrap_or (last_or None frames) []) x))
       go (inr x) = absurd (none_mapped asked (λ _. refl) gone x)

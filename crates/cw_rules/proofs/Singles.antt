@@ -26,7 +26,8 @@ pub single_leader : (n epoch view : ℕ) → 0 < n → leader (single n) epoch v
 single_leader n epoch view pos =
     let less : view % n < n = omega arith in
     ap (λ xs. unwrap_or (slice_get xs (view % length xs)) 0) (single_members n epoch)
-    ∙ (ap (λ k. unwrap_or (slice_get (range_with_len 0 n) (view % k)) 0) (length-range_with_len 0 n) ∙ (ap (λ o. unwrap_or o 0) (range_at 0 n (view % n) less) ∙ front (view % n)))
+    ∙ (ap (λ k. unwrap_or (slice_get (range_with_len 0 n) (view % k)) 0) (length-range_with_len 0 n)
+    ∙ (ap (λ o. unwrap_or o 0) (range_at 0 n (view % n) less) ∙ front (view % n)))
   where
     front : (a : ℕ) → 0 + a ≡ a
     front a = omega arith

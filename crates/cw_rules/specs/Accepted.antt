@@ -27,12 +27,14 @@ pub data Ballot : Type 0 where
   Single : (signer : ℕ) (vote : Vote) → Ballot
   Many : (cert : Cert) → Ballot
 
--- an accepted chunk with the commitment that it is of, or a whole block, which is under its own commitment
+-- an accepted chunk with the commitment that it is of, or a whole block, which is under its own
+-- commitment
 pub data Part : Type 0 where
   Row : (of : Commitment) (chunk : Chunk) → Part
   Whole : (block : Block) → Part
 
--- what a member accepted since its start, each kind in order. No rule compares the places of two kinds
+-- what a member accepted since its start, each kind in order. No rule compares the places of two
+-- kinds
 pub record Came : Type 0 where
   pub ballots : List Ballot
   pub parts : List Part
@@ -47,7 +49,9 @@ pub record State : Type 0 where
 -- a certificate is valid where a quorum of the members of its epoch signed its well-formed vote
 abbrev pub is_valid : Rules → (ℕ → Vote → Bool) → Cert → Bool
 is_valid r signed s =
-    well_formed s.vote && rises_from 0 s.signers && list_all (λ i. is_member r.epochs (vote_epoch s.vote) i && signed i s.vote) s.signers && nat_le (quorum (size r.epochs (vote_epoch s.vote))) (length s.signers)
+    well_formed s.vote && rises_from 0 s.signers
+    && list_all (λ i. is_member r.epochs (vote_epoch s.vote) i && signed i s.vote) s.signers
+    && nat_le (quorum (size r.epochs (vote_epoch s.vote))) (length s.signers)
 
 -- the same vote of the same signer, or the same certificate
 abbrev pub same_ballot : Ballot → Ballot → Bool
@@ -63,19 +67,33 @@ same_part _ _ = false
 
 -- the ballot goes to the end where it fits and isn't there
 abbrev pub take_ballot : Came → Bool → Ballot → Came
-take_ballot came fits x = if fits && not (list_any (same_ballot x) came.ballots) then record { ballots = came.ballots ++ x ∷ []; parts = came.parts; wishes = came.wishes } else came
+take_ballot came fits x =
+    if fits && not (list_any (same_ballot x) came.ballots) then record {
+      ballots = came.ballots ++ x ∷ [];
+      parts = came.parts;
+      wishes = came.wishes;
+    } else came
 
 -- the part goes to the end where it fits and isn't there
 abbrev pub take_part : Came → Bool → Part → Came
-take_part came fits x = if fits && not (list_any (same_part x) came.parts) then record { ballots = came.ballots; parts = came.parts ++ x ∷ []; wishes = came.wishes } else came
+take_part came fits x =
+    if fits && not (list_any (same_part x) came.parts) then record {
+      ballots = came.ballots;
+      parts = came.parts ++ x ∷ [];
+      wishes = came.wishes;
+    } else came
 
 -- a chunk of a commitment with the config of some epoch, which stands under its root
 abbrev pub is_chunk_of : Rules → Commitment → Chunk → Bool
-is_chunk_of r c x = list_any (λ list. same_counts c.config (config_for (length list))) r.epochs.lists && is_under r c x
+is_chunk_of r c x =
+    list_any (λ list. same_counts c.config (config_for (length list))) r.epochs.lists
+    && is_under r c x
 
 -- what a delivered message leaves
 abbrev pub accepted : Rules → (ℕ → Vote → Bool) → Came → Message → Came
-accepted r signed came (Message.Vote i v) = take_ballot came (is_member r.epochs (vote_epoch v) i && well_formed v && signed i v) (Single i v)
+accepted r signed came (Message.Vote i v) =
+    take_ballot came (is_member r.epochs (vote_epoch v) i && well_formed v && signed i v)
+    (Single i v)
 accepted r signed came (Message.Cert s) = take_ballot came (is_valid r signed s) (Many s)
 accepted r signed came (Message.Shard c x) = take_part came (is_chunk_of r c x) (Row c x)
 accepted r signed came (Message.Block b) = take_part came true (Whole b)
@@ -83,11 +101,13 @@ accepted r signed came _ = came
 
 -- one more wish
 abbrev pub add_wish : Came → Commitment → Came
-add_wish came c = record { ballots = came.ballots; parts = came.parts; wishes = came.wishes ++ c ∷ [] }
+add_wish came c =
+    record { ballots = came.ballots; parts = came.parts; wishes = came.wishes ++ c ∷ [] }
 
 -- a valid certificate, and a wish for what it finalizes
 abbrev pub wish_for : Rules → (ℕ → Vote → Bool) → Came → Cert → Proposal → Came
-wish_for r signed came s p = if is_valid r signed s then add_wish (take_ballot came true (Many s)) p.payload else came
+wish_for r signed came s p =
+    if is_valid r signed s then add_wish (take_ballot came true (Many s)) p.payload else came
 
 -- what a floor event leaves, where its certificate is a finalization
 abbrev pub wished : Rules → (ℕ → Vote → Bool) → Came → Cert → Came

@@ -21,24 +21,31 @@ noted_block _ = None
 
 -- the blocks that some members have noted, by number and place
 abbrev pub blocks_of : List (Option Member) → List Block
-blocks_of members = flat_map (λ o. option_map_or (λ m. filter_map noted_block (member_notes m)) o []) members
+blocks_of members =
+    flat_map (λ o. option_map_or (λ m. filter_map noted_block (member_notes m)) o []) members
 
 -- another block of one digest
 abbrev pub collides : Rules → Block → Block → Bool
 collides r b a = same_digest (digest r a) (digest r b) && not (same_block a b)
 
--- the first of these new blocks that collides with genesis or with one noted before it, after the one that it collides with
-abbrev pub first_clash : Rules → List Block → List Block → List Block → List Block → Option (Block × Block)
+-- the first of these new blocks that collides with genesis or with one noted before it, after the
+-- one that it collides with
+abbrev pub first_clash : Rules → List Block → List Block → List Block → List Block
+    → Option (Block × Block)
 first_clash r low own high [] = None
-first_clash r low own high (b ∷ bs) = option_or (option_map (λ a. (a, b)) (find (collides r b) (genesis r ∷ low ++ own ++ high))) (first_clash r low (own ++ b ∷ []) high bs)
+first_clash r low own high (b ∷ bs) =
+    option_or (option_map (λ a. (a, b)) (find (collides r b) (genesis r ∷ low ++ own ++ high)))
+    (first_clash r low (own ++ b ∷ []) high bs)
 
 -- the clash that a line brings
 abbrev pub clash_at : Rules → World → World → ℕ → Option (Block × Block)
 clash_at r before after i =
     let own = blocks_of (take 1 (drop i before.members)) in
-    first_clash r (blocks_of (take i before.members)) own (blocks_of (drop (i + 1) before.members)) (drop (length own) (blocks_of (take 1 (drop i after.members))))
+    first_clash r (blocks_of (take i before.members)) own (blocks_of (drop (i + 1) before.members))
+    (drop (length own) (blocks_of (take 1 (drop i after.members))))
 
--- what a run ends in: the world that its last line leaves, or the encodings of two blocks of one digest, the earlier first
+-- what a run ends in: the world that its last line leaves, or the encodings of two blocks of one
+-- digest, the earlier first
 pub data Outcome : Type 0 where
   Ends : (world : World) → Outcome
   Clashes : (earlier later : List ℕ) → Outcome
@@ -46,7 +53,9 @@ pub data Outcome : Type 0 where
 -- a script, until a clash ends it
 abbrev pub outcome : Rules → World → List Line → Outcome
 outcome r w [] = Ends w
-outcome r w (line ∷ lines) = option_map_or (λ both. Clashes (r.block_bytes both.0) (r.block_bytes both.1)) (clash_at r w (happens r w line) (line_member line)) (outcome r (happens r w line) lines)
+outcome r w (line ∷ lines) =
+    option_map_or (λ both. Clashes (r.block_bytes both.0) (r.block_bytes both.1))
+    (clash_at r w (happens r w line) (line_member line)) (outcome r (happens r w line) lines)
 
 -- ---- the chain
 
@@ -57,12 +66,15 @@ certifies c _ = false
 
 -- some honest member has certified it
 abbrev pub is_certified_in : World → Commitment → Bool
-is_certified_in w c = list_any (λ o. option_map_or (λ m. list_any (certifies c) (member_notes m)) o false) w.members
+is_certified_in w c =
+    list_any (λ o. option_map_or (λ m. list_any (certifies c) (member_notes m)) o false) w.members
 
 -- each block is over the one before it, which is a under c, and is certified
 abbrev pub Follow : Rules → World → Commitment → Block → List Block → Type 0
 Follow r w c a [] = Unit {0}
-Follow r w c a (b ∷ bs) = (b.height ≡ a.height + 1) × (b.context.parent ≡ c) × (b.parent ≡ digest r a) × IsTrue (is_certified_in w (commit r b)) × Follow r w (commit r b) b bs
+Follow r w c a (b ∷ bs) =
+    (b.height ≡ a.height + 1) × (b.context.parent ≡ c) × (b.parent ≡ digest r a)
+    × IsTrue (is_certified_in w (commit r b)) × Follow r w (commit r b) b bs
 
 -- blocks from genesis on, each over the one before it
 abbrev pub IsChain : Rules → World → List Block → Type 0
@@ -75,12 +87,16 @@ all_notes w = flat_map (λ o. option_map_or member_notes o []) w.members
 
 -- the block of the first Block note of a commitment, and genesis for its own
 abbrev pub block_under : Rules → World → Commitment → Option Block
-block_under r w c = if same_commitment c (genesis_commitment r) then Some (genesis r) else first_some (noted_block_of c) (all_notes w)
+block_under r w c =
+    if same_commitment c (genesis_commitment r) then Some (genesis r)
+    else first_some (noted_block_of c) (all_notes w)
 
--- the blocks from genesis up to b, each under the parent commitment of the one above it, in at most so many steps
+-- the blocks from genesis up to b, each under the parent commitment of the one above it, in at most
+-- so many steps
 abbrev pub links_to : Rules → World → ℕ → Block → List Block
 links_to r w zero b = b ∷ []
-links_to r w (suc steps) b = option_map_or (links_to r w steps) (block_under r w b.context.parent) [] ++ b ∷ []
+links_to r w (suc steps) b =
+    option_map_or (links_to r w steps) (block_under r w b.context.parent) [] ++ b ∷ []
 
 -- the chain up to a block. Its heights fall by one down to genesis, so as many steps are enough
 abbrev pub chain_to : Rules → World → Block → List Block

@@ -14,15 +14,26 @@ use Rattle.cw_rules.specs.Rules.{Rules, digest, genesis_commitment}
 
 -- the context of a proposal over the payload settled for its parent view
 abbrev pub context_for : Rules → Proposal → Commitment → Context
-context_for r p c = record { epoch = p.epoch; view = p.view; leader = leader r.epochs p.epoch p.view; parent_view = p.parent; parent = c }
+context_for r p c =
+    record {
+      epoch = p.epoch;
+      view = p.view;
+      leader = leader r.epochs p.epoch p.view;
+      parent_view = p.parent;
+      parent = c;
+    }
 
 -- b is a new block for p over a, which is held under c
 abbrev pub builds_on : Rules → Proposal → Block → Commitment → Block → Bool
-builds_on r p b c a = same_context b.context (context_for r p c) && same_digest b.parent (digest r a) && (b.height == a.height + 1) && is_within r.epochs p.epoch b.height && r.accepts b a
+builds_on r p b c a =
+    same_context b.context (context_for r p c) && same_digest b.parent (digest r a)
+    && (b.height == a.height + 1) && is_within r.epochs p.epoch b.height && r.accepts b a
 
 -- p proposes a again, the last block of its epoch
 abbrev pub repeats : Rules → Proposal → Block → Commitment → Block → Bool
-repeats r p b c a = same_commitment p.payload c && same_block b a && nat_lt 0 p.parent && is_last r.epochs p.epoch b.height
+repeats r p b c a =
+    same_commitment p.payload c && same_block b a && nat_lt 0 p.parent
+    && is_last r.epochs p.epoch b.height
 
 -- b is a block for p over a, which is held under c
 abbrev pub fits_over : Rules → Proposal → Block → Commitment → Block → Bool
@@ -30,7 +41,9 @@ fits_over r p b c a = builds_on r p b c a || repeats r p b c a
 
 -- b is a block for p over the held block that is settled for p's parent view
 abbrev pub fits : Rules → List Note → Proposal → Block → Bool
-fits r notes p b = option_map_or (λ c. option_map_or (fits_over r p b c) (held r notes c) false) (settled (genesis_commitment r) notes p.epoch p.parent) false
+fits r notes p b =
+    option_map_or (λ c. option_map_or (fits_over r p b c) (held r notes c) false)
+    (settled (genesis_commitment r) notes p.epoch p.parent) false
 
 -- the held block of the proposal's payload is one for it
 abbrev pub block_fits : Rules → List Note → Proposal → Bool

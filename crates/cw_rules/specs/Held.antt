@@ -26,9 +26,13 @@ abbrev pub row_of : Commitment → Part → Option Chunk
 row_of c (Row d x) = if same_commitment c d then Some x else None
 row_of c (Whole b) = None
 
--- the block as which a commitment is shown: one that came whole, else the one of whose codeword its first k chunks are rows
+-- the block as which a commitment is shown: one that came whole, else the one of whose codeword its
+-- first k chunks are rows
 abbrev pub shown : Rules → Came → Commitment → Option Block
-shown r came c = option_or (first_some (whole_of r c) came.parts) (option_and_then (if_committed r c) (block_of r c.config (take c.config.minimum (filter_map (row_of c) came.parts))))
+shown r came c =
+    option_or (first_some (whole_of r c) came.parts)
+    (option_and_then (if_committed r c)
+    (block_of r c.config (take c.config.minimum (filter_map (row_of c) came.parts))))
 
 -- the block of a note, where it is under that commitment
 abbrev pub noted_block_of : Commitment → Note → Option Block
@@ -62,27 +66,38 @@ greatest_floor notes = greatest (filter_map floor_height notes)
 abbrev pub held : Rules → List Note → Commitment → Option Block
 held r notes c =
     if same_commitment c (genesis_commitment r) then Some (genesis r)
-    else option_and_then (λ b. if nat_lt 0 b.height && nat_lt b.height (greatest_prune notes) then None else Some b) (first_some (noted_block_of c) notes)
+    else option_and_then
+    (λ b. if nat_lt 0 b.height && nat_lt b.height (greatest_prune notes) then None else Some b)
+    (first_some (noted_block_of c) notes)
 
 -- the held block under the parent commitment of b, where its height is one less
 abbrev pub parent_of : Rules → List Note → Block → Option Block
-parent_of r notes b = option_and_then (λ a. if a.height + 1 == b.height then Some a else None) (held r notes b.context.parent)
+parent_of r notes b =
+    option_and_then (λ a. if a.height + 1 == b.height then Some a else None)
+    (held r notes b.context.parent)
 
--- the commitment of the block of that height which b, under c, reaches by parents in at most so many steps
+-- the commitment of the block of that height which b, under c, reaches by parents in at most so
+-- many steps
 abbrev pub reached : Rules → List Note → ℕ → ℕ → Commitment → Block → Option Commitment
 reached r notes zero height c b = if b.height == height then Some c else None
-reached r notes (suc steps) height c b = if b.height == height then Some c else option_and_then (reached r notes steps height b.context.parent) (parent_of r notes b)
+reached r notes (suc steps) height c b =
+    if b.height == height then Some c
+    else option_and_then (reached r notes steps height b.context.parent) (parent_of r notes b)
 
 -- the proposal of a noted finalization
 abbrev pub finalization_of : Note → Option Proposal
 finalization_of (Note.Cert s) = finalized s.vote
 finalization_of _ = None
 
--- the commitment at a height: genesis, or what the first noted finalization that reaches the height reaches there
+-- the commitment at a height: genesis, or what the first noted finalization that reaches the height
+-- reaches there
 abbrev pub at_height : Rules → List Note → ℕ → Option Commitment
 at_height r notes height =
     if height == 0 then Some (genesis_commitment r)
-    else first_some (λ p. option_and_then (λ b. reached r notes b.height height p.payload b) (held r notes p.payload)) (filter_map finalization_of notes)
+    else first_some
+    (λ p. option_and_then (λ b. reached r notes b.height height p.payload b)
+    (held r notes p.payload))
+    (filter_map finalization_of notes)
 
 -- ---- heights
 
@@ -96,8 +111,14 @@ resume notes = max (option_map_or (λ h. h + 1) (last_ack notes) 0) (greatest_fl
 
 -- the height to be handed out next
 abbrev pub next : State → ℕ
-next s = max (option_map_or (λ h. h + 1) (last_or None s.given) (resume s.notes)) (greatest_floor s.notes)
+next s =
+    max (option_map_or (λ h. h + 1) (last_or None s.given) (resume s.notes))
+    (greatest_floor s.notes)
 
 -- the heights handed out and not yet acknowledged
 abbrev pub pending : State → List ℕ
-pending s = filter (λ h. option_map_or (λ a. nat_lt a h) (last_ack s.notes) true && nat_le (greatest_floor s.notes) h) s.given
+pending s =
+    filter
+    (λ h. option_map_or (λ a. nat_lt a h) (last_ack s.notes) true
+    && nat_le (greatest_floor s.notes) h)
+    s.given

@@ -22,16 +22,23 @@ pub record Meaning : Type 0 where
   pub backs : ℕ → Vote → Bool
   pub holds : Vote → Bool
 
--- what it means among members to back a vote, and to hold: a member that is there backs it, a quorum of its epoch does
+-- what it means among members to back a vote, and to hold: a member that is there backs it, a
+-- quorum of its epoch does
 abbrev pub meaning : Epochs → Members → Meaning
 meaning x members = record {
   backs = λ i v. backs_at members v i;
-  holds = λ v. nat_le (quorum (size x (vote_epoch v))) (count_by (backs_at members v) (members_in x (vote_epoch v)));
+  holds =
+      λ v. nat_le (quorum (size x (vote_epoch v)))
+      (count_by (backs_at members v) (members_in x (vote_epoch v)));
 }
 
 -- a vote that a quorum of its epoch's members backs holds
 abbrev pub IsClosed : Rules → Meaning → Type 0
-IsClosed r m = (v : Vote) (signers : List ℕ) → IsTrue (rises_from 0 signers) → AllByRecursion (λ i. IsTrue (is_member r.epochs (vote_epoch v) i) × IsTrue (m.backs i v)) signers → quorum (size r.epochs (vote_epoch v)) ≤ length signers → IsTrue (m.holds v)
+IsClosed r m =
+    (v : Vote) (signers : List ℕ) → IsTrue (rises_from 0 signers)
+    → AllByRecursion (λ i. IsTrue (is_member r.epochs (vote_epoch v) i) × IsTrue (m.backs i v))
+    signers
+    → quorum (size r.epochs (vote_epoch v)) ≤ length signers → IsTrue (m.holds v)
 
 -- the members of each epoch rise
 abbrev pub IsRising : Rules → Type 0
@@ -55,13 +62,19 @@ pub record IsGreatest (r : Rules) (notes : List Note) (span : ℕ) (note : Note)
 
 -- what a note needs of those before it
 abbrev pub Keeps : Rules → Meaning → List Note → Note → Type 0
--- a vote to notarize is the only vote of its view so far, over a settled view, and each view between is nullified
-Keeps r m before (Note.Vote (Notarize p)) = IsTrue (well_formed (Notarize p)) × IsFalse (has_voted before p.epoch p.view) × IsSettled before p.epoch p.parent × IsTrue (all_nullified before p.epoch p.parent p.view)
+-- a vote to notarize is the only vote of its view so far, over a settled view, and each view
+-- between is nullified
+Keeps r m before (Note.Vote (Notarize p)) =
+    IsTrue (well_formed (Notarize p)) × IsFalse (has_voted before p.epoch p.view)
+    × IsSettled before p.epoch p.parent × IsTrue (all_nullified before p.epoch p.parent p.view)
 -- a vote that closes a view is the only one so far; what it finalizes is certified
-Keeps r m before (Note.Vote (Nullify epoch view)) = IsTrue (well_formed (Nullify epoch view)) × IsFalse (has_closed before epoch view)
-Keeps r m before (Note.Vote (Finalize p)) = IsTrue (has_certified before p) × IsFalse (has_closed before p.epoch p.view)
+Keeps r m before (Note.Vote (Nullify epoch view)) =
+    IsTrue (well_formed (Nullify epoch view)) × IsFalse (has_closed before epoch view)
+Keeps r m before (Note.Vote (Finalize p)) =
+    IsTrue (has_certified before p) × IsFalse (has_closed before p.epoch p.view)
 -- what is certified is notarized, and its block is held and fits
-Keeps r m before (Note.Certified p) = IsTrue (has_cert before (Notarize p)) × IsTrue (block_fits r before p)
+Keeps r m before (Note.Certified p) =
+    IsTrue (has_cert before (Notarize p)) × IsTrue (block_fits r before p)
 -- a block is noted under its own commitment
 Keeps r m before (Note.Block c b) = commit r b ≡ c
 -- the vote of a certificate holds
@@ -79,15 +92,20 @@ abbrev pub IsSound : Meaning → Ballot → Type 0
 IsSound m (Single i v) = IsTrue (well_formed v) × IsTrue (m.backs i v)
 IsSound m (Many s) = IsTrue (m.holds s.vote)
 
--- what the meanings are along a member's notes: each is closed, what came stays sound, and the member backs its own votes
+-- what the meanings are along a member's notes: each is closed, what came stays sound, and the
+-- member backs its own votes
 pub record AreAlong (r : Rules) (m : List Note → Meaning) (id : ℕ) : Type 0 where
   pub closed : (notes : List Note) → IsClosed r (m notes)
-  pub grows : (notes more : List Note) (b : Ballot) → IsSound (m notes) b → IsSound (m (notes ++ more)) b
-  pub own : (notes : List Note) (v : Vote) → IsTrue (has_vote notes v) → IsTrue ((m notes).backs id v)
+  pub grows : (notes more : List Note) (b : Ballot) → IsSound (m notes) b
+      → IsSound (m (notes ++ more)) b
+  pub own : (notes : List Note) (v : Vote) → IsTrue (has_vote notes v)
+      → IsTrue ((m notes).backs id v)
 
 -- each honest member's notes keep, by what it means among the members
 abbrev pub AllKeep : Rules → Members → Type 0
-AllKeep r members = (i : ℕ) (notes : List Note) → slice_get members i ≡ Some (Some notes) → EachAfter (Keeps r (meaning r.epochs members)) [] notes
+AllKeep r members =
+    (i : ℕ) (notes : List Note) → slice_get members i ≡ Some (Some notes)
+    → EachAfter (Keeps r (meaning r.epochs members)) [] notes
 
 -- some honest member noted that the proposal is certified, and noted a block under its payload
 pub record IsCertifiedIn (members : Members) (p : Proposal) : Type 0 where

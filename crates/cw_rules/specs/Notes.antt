@@ -58,7 +58,8 @@ settling _ = None
 
 -- the first proposal of that epoch and view which the notes settle
 abbrev pub settler : List Note → ℕ → ℕ → Option Proposal
-settler notes epoch view = find (λ p. (p.epoch == epoch) && (p.view == view)) (filter_map settling notes)
+settler notes epoch view =
+    find (λ p. (p.epoch == epoch) && (p.view == view)) (filter_map settling notes)
 
 -- the number of the epoch that a note enters
 abbrev pub entered : Note → Option ℕ
@@ -79,13 +80,18 @@ abbrev pub entry : Note → Option (ℕ × Commitment)
 entry (Note.Epoch epoch c) = Some (epoch, c)
 entry _ = None
 
--- the payload on which the first proposal of an epoch builds: genesis, or that of the first note which enters the epoch
+-- the payload on which the first proposal of an epoch builds: genesis, or that of the first note
+-- which enters the epoch
 abbrev pub root_of : Commitment → List Note → ℕ → Option Commitment
-root_of genesis notes epoch = if epoch == 0 then Some genesis else option_map (λ e. e.1) (find (λ e. e.0 == epoch) (filter_map entry notes))
+root_of genesis notes epoch =
+    if epoch == 0 then Some genesis
+    else option_map (λ e. e.1) (find (λ e. e.0 == epoch) (filter_map entry notes))
 
 -- the payload that is settled for a view of an epoch
 abbrev pub settled : Commitment → List Note → ℕ → ℕ → Option Commitment
-settled genesis notes epoch view = if view == 0 then root_of genesis notes epoch else option_map (λ p. p.payload) (settler notes epoch view)
+settled genesis notes epoch view =
+    if view == 0 then root_of genesis notes epoch
+    else option_map (λ p. p.payload) (settler notes epoch view)
 
 -- the view that stands for an end in that epoch
 abbrev pub ends_in : ℕ → ℕ → ℕ → Option ℕ

@@ -1,4 +1,5 @@
--- The note that a member owes: that of the first case that applies. Within a case what came is tried in order, and then the notes.
+-- The note that a member owes: that of the first case that applies. Within a case what came is
+-- tried in order, and then the notes.
 use Rattle.std.specs.Prelude.{ℕ, ◌&&◌, ◌*◌, ◌++◌, ◌+◌, ◌-◌, ◌/◌, ◌==◌, ◌||◌, Bool, List, None, Option, Some, false, filter, filter_map, if◌then◌else◌, length, map, max, nat_le, nat_lt, not, option_and_then, option_map, suc, true, zero}
 use Rattle.std.specs.List.{list_all, list_any, range_with_len}
 use Rattle.std.specs.Option.{option_map_or, option_or}
@@ -43,13 +44,15 @@ abbrev pub part_commitment : Rules → Part → Commitment
 part_commitment r (Row c x) = c
 part_commitment r (Whole b) = commit r b
 
--- the votes, the proposals and the commitments that a member knows of, in the order in which a case tries them
+-- the votes, the proposals and the commitments that a member knows of, in the order in which a case
+-- tries them
 abbrev pub named_votes : State → List Vote
 named_votes s = map ballot_vote s.came.ballots ++ filter_map note_vote s.notes
 
 -- in the same order, the proposals
 abbrev pub named_proposals : State → List Proposal
-named_proposals s = filter_map (λ x. proposal_of (ballot_vote x)) s.came.ballots ++ filter_map note_proposal s.notes
+named_proposals s =
+    filter_map (λ x. proposal_of (ballot_vote x)) s.came.ballots ++ filter_map note_proposal s.notes
 
 -- and the commitments
 abbrev pub named_commitments : Rules → State → List Commitment
@@ -63,7 +66,13 @@ when b x = if b then Some x else None
 
 -- 1. a block that is shown, isn't noted and isn't below what was given up
 abbrev pub block_owed : Rules → State → Commitment → Option Note
-block_owed r s c = option_and_then (λ b. when (not (has_block s.notes c) && nat_le (max (greatest_floor s.notes) (greatest_prune s.notes)) b.height) (Note.Block c b)) (shown r s.came c)
+block_owed r s c =
+    option_and_then
+    (λ b. when
+    (not (has_block s.notes c)
+    && nat_le (max (greatest_floor s.notes) (greatest_prune s.notes)) b.height)
+    (Note.Block c b))
+    (shown r s.came c)
 
 -- the signers of a certificate of the vote that came
 abbrev pub signers_in : Vote → Ballot → Option (List ℕ)
@@ -85,31 +94,48 @@ known r id s v = filter (knows id s v) (members_in r.epochs (vote_epoch v))
 
 -- the signers of a certificate of the vote: of the first that came, else a quorum that is known
 abbrev pub signers_of : Rules → ℕ → State → Vote → Option (List ℕ)
-signers_of r id s v = option_or (first_some (signers_in v) s.came.ballots) (when (nat_le (quorum (size r.epochs (vote_epoch v))) (length (known r id s v))) (known r id s v))
+signers_of r id s v =
+    option_or (first_some (signers_in v) s.came.ballots)
+    (when (nat_le (quorum (size r.epochs (vote_epoch v))) (length (known r id s v)))
+    (known r id s v))
 
 -- 2. a certificate that isn't noted
 abbrev pub cert_owed : Rules → ℕ → State → Vote → Option Note
-cert_owed r id s v = if has_cert s.notes v then None else option_map (λ signers. Note.Cert (record { vote = v; signers = signers })) (signers_of r id s v)
+cert_owed r id s v =
+    if has_cert s.notes v then None
+    else option_map (λ signers. Note.Cert (record { vote = v; signers = signers }))
+    (signers_of r id s v)
 
 -- 3. a notarized proposal whose held block fits is certified
 abbrev pub certified_owed : Rules → State → Proposal → Option Note
 certified_owed r s p =
-    when (has_cert s.notes (Notarize p) && not (has_certified s.notes p) && block_fits r s.notes p) (Note.Certified p)
+    when (has_cert s.notes (Notarize p) && not (has_certified s.notes p) && block_fits r s.notes p)
+    (Note.Certified p)
 
 -- 4. a floor that is wished for, above those noted
 abbrev pub floor_owed : Rules → State → Commitment → Option Note
-floor_owed r s c = option_and_then (λ b. when (nat_le (next s) b.height && list_all (λ h. nat_lt h b.height) (filter_map floor_height s.notes)) (Note.Floor b.height)) (held r s.notes c)
+floor_owed r s c =
+    option_and_then
+    (λ b. when
+    (nat_le (next s) b.height
+    && list_all (λ h. nat_lt h b.height) (filter_map floor_height s.notes))
+    (Note.Floor b.height))
+    (held r s.notes c)
 
 -- the heights of the held blocks that noted finalizations have
 abbrev pub final_heights : Rules → List Note → List ℕ
-final_heights r notes = filter_map (λ p. option_map (λ b. b.height) (held r notes p.payload)) (filter_map finalization_of notes)
+final_heights r notes =
+    filter_map (λ p. option_map (λ b. b.height) (held r notes p.payload))
+    (filter_map finalization_of notes)
 
--- the note of the greatest epoch, up to that one and above the member's, whose last height before it is reached
+-- the note of the greatest epoch, up to that one and above the member's, whose last height before
+-- it is reached
 abbrev pub reached_epoch : Rules → List Note → ℕ → ℕ → Option Note
 reached_epoch r notes span zero = None
 reached_epoch r notes span (suc epoch) =
     if nat_le (suc epoch) (epoch_of notes) then None
-    else option_or (option_map (Note.Epoch (suc epoch)) (at_height r notes (suc epoch * span))) (reached_epoch r notes span epoch)
+    else option_or (option_map (Note.Epoch (suc epoch)) (at_height r notes (suc epoch * span)))
+    (reached_epoch r notes span epoch)
 
 -- no epoch above this one begins at or below a height that is reached
 abbrev pub top_epoch : Rules → List Note → ℕ → ℕ
@@ -117,7 +143,8 @@ top_epoch r notes span = greatest (final_heights r notes) / span
 
 -- 5. the greatest epoch whose beginning is reached
 abbrev pub epoch_owed : Rules → State → Option Note
-epoch_owed r s = option_and_then (λ span. reached_epoch r s.notes span (top_epoch r s.notes span)) r.epochs.span
+epoch_owed r s =
+    option_and_then (λ span. reached_epoch r s.notes span (top_epoch r s.notes span)) r.epochs.span
 
 -- the vote is of that view of that epoch
 abbrev pub is_of : ℕ → ℕ → Vote → Bool
@@ -161,17 +188,24 @@ is_row_at at c (Whole b) = false
 
 -- the chunk of the payload at the member's own place came
 abbrev pub has_own_row : Rules → ℕ → State → Proposal → Bool
-has_own_row r id s p = option_map_or (λ at. list_any (is_row_at at p.payload) s.came.parts) (place r.epochs p.epoch id) false
+has_own_row r id s p =
+    option_map_or (λ at. list_any (is_row_at at p.payload) s.came.parts) (place r.epochs p.epoch id)
+    false
 
 -- the payload is one for the proposal over the payload settled for its parent view
 abbrev pub is_payload_for : Rules → Proposal → Commitment → Bool
-is_payload_for r p c = same_counts p.payload.config (config r p.epoch) && same_digest p.payload.context (r.hash (r.context_bytes (context_for r p c)))
+is_payload_for r p c =
+    same_counts p.payload.config (config r p.epoch)
+    && same_digest p.payload.context (r.hash (r.context_bytes (context_for r p c)))
 
 -- the proposal is of the settled payload again, which is held as the last block of the epoch
 abbrev pub is_again : Rules → List Note → Proposal → Commitment → Bool
-is_again r notes p c = same_commitment p.payload c && nat_lt 0 p.parent && option_map_or (λ a. is_last r.epochs p.epoch a.height) (held r notes c) false
+is_again r notes p c =
+    same_commitment p.payload c && nat_lt 0 p.parent
+    && option_map_or (λ a. is_last r.epochs p.epoch a.height) (held r notes c) false
 
--- the member can vote for the proposal: its own chunk of a fitting payload came, or it is the last block again
+-- the member can vote for the proposal: its own chunk of a fitting payload came, or it is the last
+-- block again
 abbrev pub is_ready : Rules → ℕ → State → Proposal → Commitment → Bool
 is_ready r id s p c = (has_own_row r id s p && is_payload_for r p c) || is_again r s.notes p c
 
@@ -182,13 +216,18 @@ notarize_owed r id s p =
     && is_member r.epochs p.epoch id
     && list_any (is_single (leader r.epochs p.epoch p.view) (Notarize p)) s.came.ballots
     && not (has_voted s.notes p.epoch p.view)
-    && option_map_or (is_ready r id s p) (settled (genesis_commitment r) s.notes p.epoch p.parent) false
+    && option_map_or (is_ready r id s p) (settled (genesis_commitment r) s.notes p.epoch p.parent)
+    false
     && all_nullified s.notes p.epoch p.parent p.view)
     (Note.Vote (Notarize p))
 
 -- 7. a vote to finalize what is certified, where the view isn't closed
 abbrev pub finalize_owed : Rules → ℕ → State → Proposal → Option Note
-finalize_owed r id s p = when (has_certified s.notes p && is_member r.epochs p.epoch id && not (has_closed s.notes p.epoch p.view)) (Note.Vote (Finalize p))
+finalize_owed r id s p =
+    when
+    (has_certified s.notes p && is_member r.epochs p.epoch id
+    && not (has_closed s.notes p.epoch p.view))
+    (Note.Vote (Finalize p))
 
 -- the note that the member owes
 abbrev pub owed : Rules → ℕ → State → Option Note

@@ -25,7 +25,8 @@ pub record Rules : Type 0 where
   pub hash : List ℕ → Digest32
   pub block_bytes : Block → List ℕ
   pub context_bytes : Context → List ℕ
-  -- the k + m rows of a text's codeword, the root of the tree over digests, and the siblings on the way up from a place in it
+  -- the k + m rows of a text's codeword, the root of the tree over digests, and the siblings on the
+  -- way up from a place in it
   pub code : List ℕ → ℕ → ℕ → List (List ℕ)
   pub root : List Digest32 → Digest32
   pub path : List Digest32 → ℕ → List Digest32
@@ -68,16 +69,24 @@ rows_of r b = rows_under r (config r b.context.epoch) (r.block_bytes b)
 
 -- row i of these, with its way up in the tree over their digests
 abbrev pub chunk_at : Rules → List (List ℕ) → ℕ → List ℕ → Chunk
-chunk_at r rows i row = record { shard = row; index = i; leaf_count = length rows; siblings = r.path (map r.hash rows) i }
+chunk_at r rows i row =
+    record {
+      shard = row;
+      index = i;
+      leaf_count = length rows;
+      siblings = r.path (map r.hash rows) i;
+    }
 
 -- a block cut in chunks, in the order of their places
 abbrev pub chunks : Rules → Block → List Chunk
 chunks r b = map (λ at. chunk_at r (rows_of r b) at.0 at.1) (enumerate_from 0 (rows_of r b))
 
--- what a check of a chunk accepts: a place below k + m, an even width above zero, a tree of k + m leaves, and a way up to the root
+-- what a check of a chunk accepts: a place below k + m, an even width above zero, a tree of k + m
+-- leaves, and a way up to the root
 abbrev pub is_under : Rules → Commitment → Chunk → Bool
 is_under r c x =
-    nat_lt x.index (total_of c.config) && nat_lt 0 (length x.shard) && (length x.shard % 2 == 0) && (x.leaf_count == total_of c.config) && r.leads_to c.root x
+    nat_lt x.index (total_of c.config) && nat_lt 0 (length x.shard) && (length x.shard % 2 == 0)
+    && (x.leaf_count == total_of c.config) && r.leads_to c.root x
 
 -- the block whose bytes are the text of whose codeword these chunks are rows
 abbrev pub block_of : Rules → Counts → List Chunk → Option Block
@@ -89,7 +98,13 @@ digest r b = r.hash (r.block_bytes b)
 
 -- what names a block: its digest, the root of its chunks, the digest of its context, and its config
 abbrev pub commit : Rules → Block → Commitment
-commit r b = record { block = digest r b; root = r.root (map r.hash (rows_of r b)); context = r.hash (r.context_bytes b.context); config = config r b.context.epoch }
+commit r b =
+    record {
+      block = digest r b;
+      root = r.root (map r.hash (rows_of r b));
+      context = r.hash (r.context_bytes b.context);
+      config = config r b.context.epoch;
+    }
 
 -- the first block
 abbrev pub genesis : Rules → Block
@@ -97,4 +112,10 @@ genesis r = first.genesis r.hash
 
 -- what stands for genesis. It encodes to no root
 abbrev pub genesis_commitment : Rules → Commitment
-genesis_commitment r = record { block = digest r (genesis r); root = digest r (genesis r); context = r.hash (r.context_bytes (genesis r).context); config = first.uncut }
+genesis_commitment r =
+    record {
+      block = digest r (genesis r);
+      root = digest r (genesis r);
+      context = r.hash (r.context_bytes (genesis r).context);
+      config = first.uncut;
+    }

@@ -12,7 +12,8 @@ pub record TellsBlocks (r : Rules) : Type 0 where
   -- two such blocks of the same bytes are one
   pub blocks : (a b : Block) → IsBlock a → IsBlock b → r.block_bytes a ≡ r.block_bytes b → a ≡ b
   -- what chunks show is such a block
-  pub shown : (x : Counts) (chunks : List Chunk) (b : Block) → block_of r x chunks ≡ Some b → IsBlock b
+  pub shown : (x : Counts) (chunks : List Chunk) (b : Block) → block_of r x chunks ≡ Some b
+      → IsBlock b
   -- digests and roots have thirty-two bytes
   pub digests : (bytes : List ℕ) → IsDigest (r.hash bytes)
   pub roots : (rows : List (List ℕ)) → IsDigest (r.root (map r.hash rows))

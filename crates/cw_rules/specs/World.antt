@@ -64,7 +64,9 @@ is_to member (To.One i) = i == member
 
 -- the message of that number, where it is addressed to the member
 abbrev pub message_for : World → ℕ → ℕ → Option Message
-message_for w member number = option_and_then (λ s. if is_to member s.to then Some s.message else None) (slice_get w.pool number)
+message_for w member number =
+    option_and_then (λ s. if is_to member s.to then Some s.message else None)
+    (slice_get w.pool number)
 
 -- a finalization
 abbrev pub as_finalization : Message → Option Event
@@ -107,21 +109,43 @@ message_proposal _ = None
 abbrev pub voted_on : World → ℕ → Option Proposal
 voted_on w number = option_and_then (λ s. message_proposal s.message) (slice_get w.pool number)
 
--- what a faulty member sends. An offer is a block of height 1 over genesis, and raw bytes go as the message that they read as
+-- what a faulty member sends. An offer is a block of height 1 over genesis, and raw bytes go as the
+-- message that they read as
 abbrev pub fault_sends : Rules → World → ℕ → Fault → List Out
 fault_sends r w a Silent = []
 fault_sends r w a (Offer view payload) =
-    let b : Block = record { context = context_for r (record { epoch = 0; view = view; parent = 0; payload = genesis_commitment r }) (genesis_commitment r); parent = digest r (genesis r); height = 1; payload = payload } in
-    filter_map (chunk_out a (members_in r.epochs 0) (commit r b)) (chunks r b) ++ to_all (Message.Vote a (Notarize (record { epoch = 0; view = view; parent = 0; payload = commit r b }))) ∷ []
-fault_sends r w a (Notarize_of number) = option_map_or (λ p. to_all (Message.Vote a (Notarize p)) ∷ []) (voted_on w number) []
-fault_sends r w a (Finalize_of number) = option_map_or (λ p. to_all (Message.Vote a (Finalize p)) ∷ []) (voted_on w number) []
+    let b : Block =
+    record {
+      context = context_for r (record {
+        epoch = 0;
+        view = view;
+        parent = 0;
+        payload = genesis_commitment r;
+      }) (genesis_commitment r);
+      parent = digest r (genesis r);
+      height = 1;
+      payload = payload;
+    } in
+    filter_map (chunk_out a (members_in r.epochs 0) (commit r b)) (chunks r b)
+    ++ to_all (Message.Vote a (Notarize (record {
+      epoch = 0;
+      view = view;
+      parent = 0;
+      payload = commit r b;
+    }))) ∷ []
+fault_sends r w a (Notarize_of number) =
+    option_map_or (λ p. to_all (Message.Vote a (Notarize p)) ∷ []) (voted_on w number) []
+fault_sends r w a (Finalize_of number) =
+    option_map_or (λ p. to_all (Message.Vote a (Finalize p)) ∷ []) (voted_on w number) []
 fault_sends r w a (Nullify_of view) = to_all (Message.Vote a (Nullify 0 view)) ∷ []
 fault_sends r w a (Raw bytes) = to_all (message_of bytes) ∷ []
 
 -- what comes from a member, numbered on from there
 abbrev pub sent_from : ℕ → ℕ → List Out → List Sent
 sent_from number i [] = []
-sent_from number i (o ∷ outs) = record { number = number; from = i; to = o.to; message = o.message } ∷ sent_from (number + 1) i outs
+sent_from number i (o ∷ outs) =
+    record { number = number; from = i; to = o.to; message = o.message }
+    ∷ sent_from (number + 1) i outs
 
 -- what a member sends next in a world
 abbrev pub sent_now : World → ℕ → List Out → List Sent
@@ -131,10 +155,13 @@ sent_now w i outs = sent_from (length w.pool) i outs
 abbrev pub member_at : World → ℕ → Option Member
 member_at w i = option_and_then (λ o. o) (slice_get w.members i)
 
--- what a line makes of an honest member: nothing where it is stopped, or live at a restart, or where there is no such message
+-- what a line makes of an honest member: nothing where it is stopped, or live at a restart, or
+-- where there is no such message
 abbrev pub turned : Rules → World → ℕ → Line → Member → Option Stepped
-turned r w i (Do j ask) m = if m.live then option_map (step r i (signed w) m) (event_of w i ask) else None
-turned r w i (Cut a c x j ask) m = if m.live then option_map (cut_step r i (signed w) m a c x) (event_of w i ask) else None
+turned r w i (Do j ask) m =
+    if m.live then option_map (step r i (signed w) m) (event_of w i ask) else None
+turned r w i (Cut a c x j ask) m =
+    if m.live then option_map (cut_step r i (signed w) m a c x) (event_of w i ask) else None
 turned r w i (Restart j) m = if m.live then None else Some (start r i m.frames)
 turned r w i (Faulty j fault) m = None
 
@@ -147,11 +174,16 @@ line_member (Faulty i fault) = i
 
 -- what a line gives of its honest member
 abbrev pub done_by : Rules → World → Line → Option Stepped
-done_by r w line = option_and_then (turned r w (line_member line) line) (member_at w (line_member line))
+done_by r w line =
+    option_and_then (turned r w (line_member line) line) (member_at w (line_member line))
 
 -- the world with what a member did
 abbrev pub with_done : World → ℕ → Stepped → World
-with_done w i done = record { members = slice_set w.members i (Some done.member); pool = w.pool ++ sent_now w i done.sent }
+with_done w i done =
+    record {
+      members = slice_set w.members i (Some done.member);
+      pool = w.pool ++ sent_now w i done.sent;
+    }
 
 -- the world with what a faulty member sent
 abbrev pub with_sends : World → ℕ → List Out → World
@@ -174,7 +206,13 @@ faults i _ = false
 
 -- each honest member is started on an empty disk, which sends nothing
 abbrev pub opening : Rules → List Line → World
-opening r script = record { members = map (λ i. if list_any (faults i) script then None else Some (start r i []).member) (range_with_len 0 r.epochs.total); pool = [] }
+opening r script =
+    record {
+      members =
+          map (λ i. if list_any (faults i) script then None else Some (start r i []).member)
+          (range_with_len 0 r.epochs.total);
+      pool = [];
+    }
 
 -- the world that a script ends in
 abbrev pub world_of : Rules → List Line → World

@@ -1,4 +1,5 @@
--- Clusters with a hash that computes: a digest is the text itself. A codeword repeats its text, twice in each row.
+-- Clusters with a hash that computes: a digest is the text itself. A codeword repeats its text,
+-- twice in each row.
 use Rattle.std.specs.Prelude.{ℕ, ◌+◌, ◌/◌, ◌==◌, ◌&&◌, true, List, [], ◌∷◌, ◌++◌, map, filter_map, find, replicate, length, take, Option, Some, None, option_and_then, if◌then◌else◌, bytes_eq, drop}
 use Rattle.std.specs.List.{last_or, list_all}
 use Rattle.std.specs.Option.{option_map_or}
@@ -33,7 +34,9 @@ toy_hash xs = record { 0 = xs }
 -- the text of which these are k equal rows
 abbrev pub toy_text : Counts → List Chunk → Option (List ℕ)
 toy_text x [] = None
-toy_text x (c ∷ cs) = if (length (c ∷ cs) == x.minimum) && list_all (λ d. bytes_eq d.shard c.shard) cs then Some (take (length c.shard / 2) c.shard) else None
+toy_text x (c ∷ cs) =
+    if (length (c ∷ cs) == x.minimum) && list_all (λ d. bytes_eq d.shard c.shard) cs
+    then Some (take (length c.shard / 2) c.shard) else None
 
 -- the one of these blocks that a text is
 abbrev pub toy_read : List Block → List ℕ → Option Block
@@ -90,11 +93,13 @@ proposal_in _ = None
 
 -- which block each vote and certificate for one names: the last byte of its payload
 abbrev pub payloads : List Sent → List ℕ
-payloads = filter_map (λ s. option_and_then (λ p. last_or None p.payload.block.0) (proposal_in s.message))
+payloads =
+    filter_map (λ s. option_and_then (λ p. last_or None p.payload.block.0) (proposal_in s.message))
 
 -- how many notes each member has, and how many blocks it handed out since its start
 abbrev pub counts : World → List (ℕ × ℕ)
-counts w = map (λ o. option_map_or (λ m. (length (member_notes m), length m.given)) o (0, 0)) w.members
+counts w =
+    map (λ o. option_map_or (λ m. (length (member_notes m), length m.given)) o (0, 0)) w.members
 
 -- to whom a message goes: 100 stands for all
 abbrev pub goes : To → ℕ
@@ -107,7 +112,8 @@ of_vote (Notarize p) = 0 ∷ p.epoch ∷ p.view ∷ p.parent ∷ []
 of_vote (Nullify epoch view) = 1 ∷ epoch ∷ view ∷ []
 of_vote (Finalize p) = 2 ∷ p.epoch ∷ p.view ∷ p.parent ∷ []
 
--- what a message says: its tag, and a chunk's place, a vote with its signer or the number of its signers, who asks for what, or a height
+-- what a message says: its tag, and a chunk's place, a vote with its signer or the number of its
+-- signers, who asks for what, or a height
 abbrev pub says : Message → List ℕ
 says (Message.Shard c x) = 0 ∷ x.index ∷ []
 says (Message.Vote i v) = 1 ∷ i ∷ of_vote v

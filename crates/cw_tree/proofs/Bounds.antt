@@ -13,7 +13,8 @@ within_short : (more n : ℕ) → length (varint_within more n) ≤ more
 within_short zero n = omega arith
 within_short (suc more) n = go (nat_lt n 128) (within_short more (n / 128))
   where
-    go : (t : Bool) → length (varint_within more (n / 128)) ≤ more → length (cond t (n ∷ []) ((n % 128 + 128) ∷ varint_within more (n / 128))) ≤ suc more
+    go : (t : Bool) → length (varint_within more (n / 128)) ≤ more
+        → length (cond t (n ∷ []) ((n % 128 + 128) ∷ varint_within more (n / 128))) ≤ suc more
     go true h = omega arith
     go false h = omega arith
 
@@ -22,7 +23,9 @@ unfolding varint
 length-varint-le n = within_short 5 n
 
 pub length-chunk_bytes : {D : Type 0} (content : D → List ℕ) (p : Piece D) →
-    length (chunk_bytes content p) ≡ length (varint (length p.shard % 2 ^ 32)) + length p.shard + 7 + length (flat_map content p.siblings)
+    length (chunk_bytes content p)
+    ≡ length (varint (length p.shard % 2 ^ 32)) + length p.shard + 7
+    + length (flat_map content p.siblings)
 unfolding chunk_bytes proof_bytes
 length-chunk_bytes content p =
     let head : List ℕ = varint (length p.shard % 2 ^ 32) in
@@ -37,7 +40,8 @@ length-chunk_bytes content p =
       length-be32 p.leaf_count,
     )
 
-length-digests : {D : Type 0} (content : D → List ℕ) (size : ℕ) (ds : List D) → AreSized content size ds → length (flat_map content ds) ≡ size * length ds
+length-digests : {D : Type 0} (content : D → List ℕ) (size : ℕ) (ds : List D)
+    → AreSized content size ds → length (flat_map content ds) ≡ size * length ds
 length-digests content size [] sized = omega arith
 length-digests content size (d ∷ ds) sized =
     let e = length-digests content size ds sized.1 in
@@ -46,7 +50,8 @@ length-digests content size (d ∷ ds) sized =
     length-append (content d) (flat_map content ds) ∙ omega arith
 
 -- a proof with at most h siblings of one size
-pub proof_bytes-le : {D : Type 0} (content : D → List ℕ) (size h leaf_count : ℕ) (siblings : List D) → AreSized content size siblings → length siblings ≤ h →
+pub proof_bytes-le : {D : Type 0} (content : D → List ℕ) (size h leaf_count : ℕ) (siblings : List D)
+    → AreSized content size siblings → length siblings ≤ h →
     length (proof_bytes content leaf_count siblings) ≤ 5 + size * h
 unfolding proof_bytes
 proof_bytes-le content size h leaf_count siblings sized few =
@@ -56,27 +61,32 @@ proof_bytes-le content size h leaf_count siblings sized few =
     omega (arith, length-append (be32 leaf_count) tail, length-be32 leaf_count)
 
 -- a chunk with at most h siblings of one size
-pub chunk_bytes-le : {D : Type 0} (content : D → List ℕ) (size h : ℕ) (p : Piece D) → AreSized content size p.siblings → length p.siblings ≤ h →
+pub chunk_bytes-le : {D : Type 0} (content : D → List ℕ) (size h : ℕ) (p : Piece D)
+    → AreSized content size p.siblings → length p.siblings ≤ h →
     length (chunk_bytes content p) ≤ 12 + length p.shard + size * h
 chunk_bytes-le content size h p sized few =
     let digests = length-digests content size p.siblings sized in
     let most : size * length p.siblings ≤ size * h = mul-le-mul_left size few in
     omega (arith, length-chunk_bytes content p, length-varint-le (length p.shard % 2 ^ 32))
 
-sized_append : {D : Type 0} (content : D → List ℕ) (size : ℕ) (xs ys : List D) → AreSized content size xs → AreSized content size ys → AreSized content size (xs ++ ys)
+sized_append : {D : Type 0} (content : D → List ℕ) (size : ℕ) (xs ys : List D)
+    → AreSized content size xs → AreSized content size ys → AreSized content size (xs ++ ys)
 sized_append content size [] ys a b = b
 sized_append content size (x ∷ xs) ys a b = (a.0, sized_append content size xs ys a.1 b)
 
-sized_drop : {D : Type 0} (content : D → List ℕ) (size n : ℕ) (xs : List D) → AreSized content size xs → AreSized content size (drop n xs)
+sized_drop : {D : Type 0} (content : D → List ℕ) (size n : ℕ) (xs : List D)
+    → AreSized content size xs → AreSized content size (drop n xs)
 sized_drop content size zero xs a = a
 sized_drop content size (suc n) [] a = a
 sized_drop content size (suc n) (x ∷ xs) a = sized_drop content size n xs a.1
 
-sized_one : {D : Type 0} (content : D → List ℕ) (size : ℕ) (xs : List D) → AreSized content size xs → AreSized content size (take 1 xs)
+sized_one : {D : Type 0} (content : D → List ℕ) (size : ℕ) (xs : List D) → AreSized content size xs
+    → AreSized content size (take 1 xs)
 sized_one content size [] a = a
 sized_one content size (x ∷ xs) a = (a.0, tt)
 
-module _ {D : Type 0} (hash : List ℕ → D) (content : D → List ℕ) (size : ℕ) (sized : (bytes : List ℕ) → length (content (hash bytes)) ≡ size) where
+module _ {D : Type 0} (hash : List ℕ → D) (content : D → List ℕ) (size : ℕ)
+    (sized : (bytes : List ℕ) → length (content (hash bytes)) ≡ size) where
   sized_leaves : (i : ℕ) (ds : List D) → AreSized content size (leaves_from hash content i ds)
   unfolding leaf
   sized_leaves i [] = tt
@@ -88,17 +98,24 @@ module _ {D : Type 0} (hash : List ℕ → D) (content : D → List ℕ) (size :
   sized_pairs (a ∷ []) = (sized (content a ++ content a), tt)
   sized_pairs (a ∷ (b ∷ rest)) = (sized (content a ++ content b), sized_pairs rest)
 
-  sized_beside : (i : ℕ) (level : List D) → AreSized content size level → AreSized content size (beside i level)
+  sized_beside : (i : ℕ) (level : List D) → AreSized content size level
+      → AreSized content size (beside i level)
   sized_beside i level a = go (eqb (i % 2) 0)
     where
-      go : (t : Bool) → AreSized content size (cond t (take 1 (drop (i + 1) level)) (take 1 (drop (i - 1) level)))
-      go true = sized_one content size (drop (i + 1) level) (sized_drop content size (i + 1) level a)
-      go false = sized_one content size (drop (i - 1) level) (sized_drop content size (i - 1) level a)
+      go : (t : Bool)
+          → AreSized content size
+          (cond t (take 1 (drop (i + 1) level)) (take 1 (drop (i - 1) level)))
+      go true =
+          sized_one content size (drop (i + 1) level) (sized_drop content size (i + 1) level a)
+      go false =
+          sized_one content size (drop (i - 1) level) (sized_drop content size (i - 1) level a)
 
-  sized_within : (n i : ℕ) (level : List D) → AreSized content size level → AreSized content size (path_within hash content n i level)
+  sized_within : (n i : ℕ) (level : List D) → AreSized content size level
+      → AreSized content size (path_within hash content n i level)
   sized_within zero i level a = tt
   sized_within (suc n) i level a =
-      sized_append content size (beside i level) _ (sized_beside i level a) (sized_within n (i / 2) (paired hash content level) (sized_pairs level))
+      sized_append content size (beside i level) _ (sized_beside i level a)
+      (sized_within n (i / 2) (paired hash content level) (sized_pairs level))
 
   -- the siblings of a proof are hashes
   pub sized_path : (i : ℕ) (ds : List D) → AreSized content size (path_of hash content i ds)

@@ -44,11 +44,14 @@ pub shard_len-mono : (n m k : ℕ) → 1 ≤ k → n ≤ m → shard_len n k ≤
 unfolding shard_len
 shard_len-mono n m k some h =
     let low : k * ((n + 4 + (k - 1)) / k) ≤ n + 4 + (k - 1) = omega arith in
-    go k ((n + 4 + (k - 1)) / k) ((m + 4 + (k - 1)) / k) (n + 4 + (k - 1)) (m + 4 + (k - 1)) some low (omega arith) (omega arith)
+    go k ((n + 4 + (k - 1)) / k) ((m + 4 + (k - 1)) / k) (n + 4 + (k - 1)) (m + 4 + (k - 1)) some
+    low (omega arith) (omega arith)
   where
     go : (k a b x y : ℕ) → 1 ≤ k → k * a ≤ x → x ≤ y → y < k * b + k → a + a % 2 ≤ b + b % 2
     go k a b x y some low between high =
         elim (cases_lt b a) [
-          | inl more ↦ absurd (let next : b + 1 ≤ a = omega arith in let step : k * (b + 1) ≤ k * a = mul-le-mul_left k next in omega arith)
+          | inl more ↦ absurd
+              (let next : b + 1 ≤ a = omega arith in
+              let step : k * (b + 1) ≤ k * a = mul-le-mul_left k next in omega arith)
           | inr less ↦ omega arith
         ]

@@ -7,14 +7,18 @@ use Rattle.cw_base.specs.declared.reader.CodecError.TheVariants.{TooLong}
 use Rattle.cw_tree.specs.Chunks.{Piece}
 use Rattle.cw_tree.specs.Widths.{shard_len}
 
--- A proof: four bytes of leaf count, a byte for the number of siblings, and the siblings. content gives a digest's bytes.
-unfoldable pub proof_bytes : {D : Type 0} → (content : D → List ℕ) → (leaf_count : ℕ) (siblings : List D) → List ℕ
-proof_bytes content leaf_count siblings = be32 leaf_count ++ (length siblings % 2 ^ 8) ∷ flat_map content siblings
+-- A proof: four bytes of leaf count, a byte for the number of siblings, and the siblings. content
+-- gives a digest's bytes.
+unfoldable pub proof_bytes : {D : Type 0} → (content : D → List ℕ)
+    → (leaf_count : ℕ) (siblings : List D) → List ℕ
+proof_bytes content leaf_count siblings =
+    be32 leaf_count ++ (length siblings % 2 ^ 8) ∷ flat_map content siblings
 
 -- A chunk: the shard's length as a varint, the shard, two bytes of index, and the proof.
 unfoldable pub chunk_bytes : {D : Type 0} → (content : D → List ℕ) → Piece D → List ℕ
 chunk_bytes content p =
-    varint (length p.shard % 2 ^ 32) ++ p.shard ++ be16 p.index ++ proof_bytes content p.leaf_count p.siblings
+    varint (length p.shard % 2 ^ 32) ++ p.shard ++ be16 p.index
+    ++ proof_bytes content p.leaf_count p.siblings
 
 -- so many digests of size bytes each
 abbrev pub digests_at : (size n : ℕ) → List ℕ → Reading (List (List ℕ))
@@ -52,8 +56,22 @@ chunk_at size bound bytes = do
   shard ← shard_at bound bytes
   index ← be16_at shard.1
   proof ← proof_at size index.1
-  Ok (record { shard = shard.0; index = index.0; leaf_count = proof.0.0; siblings = proof.0.1 }, proof.1)
+  Ok (
+    record {
+      shard = shard.0;
+      index = index.0;
+      leaf_count = proof.0.0;
+      siblings = proof.0.1;
+    },
+    proof.1,
+  )
 
 -- a chunk, seen with the bytes of its siblings
 abbrev pub piece_of_bytes : {D : Type 0} → (content : D → List ℕ) → Piece D → Piece (List ℕ)
-piece_of_bytes content p = record { shard = p.shard; index = p.index; leaf_count = p.leaf_count; siblings = map content p.siblings }
+piece_of_bytes content p =
+    record {
+      shard = p.shard;
+      index = p.index;
+      leaf_count = p.leaf_count;
+      siblings = map content p.siblings;
+    }

@@ -42,14 +42,17 @@ module _ {D : Type 0} (hash : List ℕ → D) (content : D → List ℕ) where
   rooted_some count None = None
   rooted_some count (Some top) = Some (rooted count top)
 
-  -- The root of a list of digests: there is one where the list isn't empty. A tree has fewer levels than leaves
+  -- The root of a list of digests: there is one where the list isn't empty. A tree has fewer levels
+  -- than leaves
   unfoldable pub root_of : List D → Option D
-  root_of digests = rooted_some (length digests) (top_within (length digests) (leaves_from 0 digests))
+  root_of digests =
+      rooted_some (length digests) (top_within (length digests) (leaves_from 0 digests))
 
   -- a level and those above it, as far as they have more than one node
   abbrev pub AreLevels : List D → List (List D) → Type 0
   AreLevels level [] = length level ≤ 1
-  AreLevels level (first ∷ others) = (first ≡ level) × (1 < length level) × AreLevels (paired level) others
+  AreLevels level (first ∷ others) =
+      (first ≡ level) × (1 < length level) × AreLevels (paired level) others
 
   -- the nodes beside the way up from node i of a level
   abbrev pub path_within : ℕ → ℕ → List D → List D
@@ -65,8 +68,9 @@ abbrev pub first_and_rest : {D : Type 0} → List D → Option (D × List D)
 first_and_rest [] = None
 first_and_rest (x ∷ rest) = Some (x, rest)
 
--- What x, node i of a level of so many nodes, is paired with, and the siblings that are left for the levels
--- above: an odd last node with itself, any other with the first sibling, where there is one
+-- What x, node i of a level of so many nodes, is paired with, and the siblings that are left for
+-- the levels above: an odd last node with itself, any other with the first sibling, where there is
+-- one
 abbrev pub partner_of : {D : Type 0} → (width i : ℕ) → D → List D → Option (D × List D)
 partner_of width i x siblings =
     if (i % 2 == 0) && (i + 1 == width) then Some (x, siblings) else first_and_rest siblings
@@ -86,26 +90,31 @@ abbrev ◌>>=◌ : {A B : Type 0} → Option A → (A → Option B) → Option B
 o >>= f = option_and_then f o
 
 module _ {D : Type 0} (hash : List ℕ → D) (content : D → List ℕ) where
-  -- The texts that are hashed on the way up from x, node i of a level of so many nodes, to the root of so
-  -- many leaves: each pair, and at the top the number of leaves and the one node. None where siblings are
-  -- missing or left over. At most n levels up
+  -- The texts that are hashed on the way up from x, node i of a level of so many nodes, to the root
+  -- of so many leaves: each pair, and at the top the number of leaves and the one node. None where
+  -- siblings are missing or left over. At most n levels up
   abbrev pub way_from : (leaves n width i : ℕ) → D → List D → Option (List (List ℕ))
   way_from leaves zero width i x siblings = None
   way_from leaves (suc n) width i x siblings =
-      if nat_le width 1 then (if length siblings == 0 then Some ((be32 leaves ++ content x) ∷ []) else None)
+      if nat_le width 1
+      then (if length siblings == 0 then Some ((be32 leaves ++ content x) ∷ []) else None)
       else do
         partner ← partner_of width i x siblings
-        texts ← way_from leaves n ((width + 1) / 2) (i / 2) (hash (pair_bytes content i x partner.0)) partner.1
+        texts ← way_from leaves n ((width + 1) / 2) (i / 2)
+            (hash (pair_bytes content i x partner.0)) partner.1
         Some (pair_bytes content i x partner.0 ∷ texts)
 
-  -- The texts that are hashed from a digest as leaf i of so many leaves, with these siblings: its leaf's,
-  -- and those on the way up
-  unfoldable pub way_by : (count : ℕ) (siblings : List D) (i : ℕ) (digest : D) → Option (List (List ℕ))
+  -- The texts that are hashed from a digest as leaf i of so many leaves, with these siblings: its
+  -- leaf's, and those on the way up
+  unfoldable pub way_by : (count : ℕ) (siblings : List D) (i : ℕ) (digest : D)
+      → Option (List (List ℕ))
   way_by count siblings i digest =
       if nat_lt i count
-      then option_map (λ texts. (be32 i ++ content digest) ∷ texts) (way_from count count count i (leaf hash content i digest) siblings)
+      then option_map (λ texts. (be32 i ++ content digest) ∷ texts)
+      (way_from count count count i (leaf hash content i digest) siblings)
       else None
 
   -- the root that it leads to then: the digest of the last of these texts
   unfoldable pub root_by : (count : ℕ) (siblings : List D) (i : ℕ) (digest : D) → Option D
-  root_by count siblings i digest = option_map (last_digest hash digest) (way_by count siblings i digest)
+  root_by count siblings i digest =
+      option_map (last_digest hash digest) (way_by count siblings i digest)

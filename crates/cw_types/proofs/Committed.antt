@@ -18,13 +18,15 @@ module _ (hash : List ℕ → Digest32) (n : ℕ) (b : Block) where
   root_is x text root pieces made = ap (λ o. unwrap_or o empty_digest) made.rooted
 
   -- the parts of an encoding make the commitment
-  pub commitment_is : (x : Counts) (text : List ℕ) (d root e : Digest32) (pieces : List (Piece Digest32))
+  pub commitment_is : (x : Counts) (text : List ℕ) (d root e : Digest32)
+      (pieces : List (Piece Digest32))
       → x ≡ config_for n → text ≡ block_bytes b → d ≡ hash text → e ≡ hash (context_bytes b.context)
       → IsEncoding hash digest_bytes x text root pieces
       → record { block = d; root = root; context = e; config = x } ≡ commit hash n b
   commitment_is x text d root e pieces isx is isd ise made =
       let own : root ≡ text_root hash (config_for n) (block_bytes b) =
-      sym (root_is x text root pieces made) ∙ (ap (text_root hash x) is ∙ ap (λ y. text_root hash y (block_bytes b)) isx) in
+      sym (root_is x text root pieces made)
+      ∙ (ap (text_root hash x) is ∙ ap (λ y. text_root hash y (block_bytes b)) isx) in
       let block : d ≡ hash (block_bytes b) = isd ∙ ap hash is in
       λ i. record { block = block i; root = own i; context = ise i; config = isx i }
 

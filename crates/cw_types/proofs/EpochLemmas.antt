@@ -16,7 +16,8 @@ use Rattle.cw_types.specs.Epochs.{single}
 pub each_passes : {X : Type 0} (p : X → Bool) (xs : List X) (i : ℕ) (x : X) → list_all p xs ≡ true
     → slice_get xs i ≡ Some x → p x ≡ true
 each_passes p [] i x a h = cc
-each_passes p (y ∷ ys) zero x a h = let e : y ≡ x = cc in subst (λ z. p z ≡ true) e (and_parts (p y) (list_all p ys) a).0
+each_passes p (y ∷ ys) zero x a h =
+    let e : y ≡ x = cc in subst (λ z. p z ≡ true) e (and_parts (p y) (list_all p ys) a).0
 each_passes p (y ∷ ys) (suc i) x a h = each_passes p ys i x (and_parts (p y) (list_all p ys) a).1 h
 
 -- a place below the length has an element
@@ -36,7 +37,8 @@ list_passes p lists epoch some all = go (slice_get lists epoch) refl
     go (Some list) e = each_passes p lists epoch list all e
     go None e =
         let (list, at) = get-within lists (length lists - 1) (omega arith) in
-        subst (λ o. p (unwrap_or o []) ≡ true) (sym at) (each_passes p lists (length lists - 1) list all at)
+        subst (λ o. p (unwrap_or o []) ≡ true) (sym at)
+        (each_passes p lists (length lists - 1) list all at)
 
 -- numbers that rise from low and stay below the total are no more than lie between
 rise_fits : (low total : ℕ) (xs : List ℕ) → rises_from low xs ≡ true
@@ -60,7 +62,9 @@ pub record HasSize (total : ℕ) (list : List ℕ) : Type 0 where
 pub committee_size : (total : ℕ) (list : List ℕ) → is_committee total list ≡ true
     → HasSize total list
 committee_size total list h =
-    let p = and_parts (nat_le 4 (length list) && rises_from 0 list) (list_all (λ i. nat_lt i total) list) h in
+    let p =
+    and_parts (nat_le 4 (length list) && rises_from 0 list)
+    (list_all (λ i. nat_lt i total) list) h in
     let q = and_parts (nat_le 4 (length list)) (rises_from 0 list) p.0 in
     let four = leb-true 4 (length list) q.0 in
     record { enough = four; within = go (rise_fits 0 total list q.1 p.1) four }
@@ -71,18 +75,28 @@ committee_size total list h =
 
 range_rises : (low n : ℕ) → rises_from low (range_with_len low n) ≡ true
 range_rises low zero = refl
-range_rises low (suc n) = and_from (nat_le low low) (rises_from (low + 1) (range_with_len (low + 1) n)) (le-leb low low (omega arith)) (range_rises (low + 1) n)
+range_rises low (suc n) =
+    and_from (nat_le low low) (rises_from (low + 1) (range_with_len (low + 1) n))
+    (le-leb low low (omega arith)) (range_rises (low + 1) n)
 
 range_below : (low n total : ℕ) → low + n ≤ total
     → list_all (λ i. nat_lt i total) (range_with_len low n) ≡ true
 range_below low zero total h = refl
-range_below low (suc n) total h = and_from (nat_lt low total) (list_all (λ i. nat_lt i total) (range_with_len (low + 1) n)) (lt-ltb low total (omega arith)) (range_below (low + 1) n total (omega arith))
+range_below low (suc n) total h =
+    and_from (nat_lt low total) (list_all (λ i. nat_lt i total) (range_with_len (low + 1) n))
+    (lt-ltb low total (omega arith)) (range_below (low + 1) n total (omega arith))
 
 -- one epoch of at least four members is sound
 pub single_sound : (n : ℕ) → 4 ≤ n → is_sound (single n) ≡ true
 single_sound n four =
-    let size : nat_le 4 (length (range_with_len 0 n)) ≡ true = le-leb 4 (length (range_with_len 0 n)) (omega (arith, length-range_with_len 0 n)) in
-    let committee : is_committee n (range_with_len 0 n) ≡ true = and_from (nat_le 4 (length (range_with_len 0 n)) && rises_from 0 (range_with_len 0 n)) (list_all (λ i. nat_lt i n) (range_with_len 0 n)) (and_from (nat_le 4 (length (range_with_len 0 n))) (rises_from 0 (range_with_len 0 n)) size (range_rises 0 n)) (range_below 0 n n (omega arith)) in
+    let size : nat_le 4 (length (range_with_len 0 n)) ≡ true =
+    le-leb 4 (length (range_with_len 0 n)) (omega (arith, length-range_with_len 0 n)) in
+    let committee : is_committee n (range_with_len 0 n) ≡ true =
+    and_from (nat_le 4 (length (range_with_len 0 n)) && rises_from 0 (range_with_len 0 n))
+    (list_all (λ i. nat_lt i n) (range_with_len 0 n))
+    (and_from (nat_le 4 (length (range_with_len 0 n))) (rises_from 0 (range_with_len 0 n))
+    size (range_rises 0 n))
+    (range_below 0 n n (omega arith)) in
     ap (λ b. (b && true) && true) committee
 
 -- one more number
@@ -97,8 +111,14 @@ range_more low (suc n) next e =
 pub members_committee : (x : Epochs) (epoch : ℕ) → is_sound x ≡ true
     → is_committee x.total (members_in x epoch) ≡ true
 members_committee x epoch h =
-    let p = and_parts (nat_lt 0 (length x.lists) && nat_le (length x.lists) 64 && list_all (is_committee x.total) x.lists) (option_map_or (λ span. nat_lt 0 span) x.span true) h in
-    let q = and_parts (nat_lt 0 (length x.lists) && nat_le (length x.lists) 64) (list_all (is_committee x.total) x.lists) p.0 in
+    let p =
+    and_parts
+    (nat_lt 0 (length x.lists) && nat_le (length x.lists) 64
+    && list_all (is_committee x.total) x.lists)
+    (option_map_or (λ span. nat_lt 0 span) x.span true) h in
+    let q =
+    and_parts (nat_lt 0 (length x.lists) && nat_le (length x.lists) 64)
+    (list_all (is_committee x.total) x.lists) p.0 in
     let s = and_parts (nat_lt 0 (length x.lists)) (nat_le (length x.lists) 64) q.0 in
     list_passes (is_committee x.total) x.lists epoch (ltb-true 0 (length x.lists) s.0) q.1
 
@@ -119,7 +139,9 @@ pub record AreMembers (total : ℕ) (list : List ℕ) : Type 0 where
 pub committee_members : (total : ℕ) (list : List ℕ) → is_committee total list ≡ true
     → AreMembers total list
 committee_members total list h =
-    let p = and_parts (nat_le 4 (length list) && rises_from 0 list) (list_all (λ i. nat_lt i total) list) h in
+    let p =
+    and_parts (nat_le 4 (length list) && rises_from 0 list)
+    (list_all (λ i. nat_lt i total) list) h in
     let q = and_parts (nat_le 4 (length list)) (rises_from 0 list) p.0 in
     record { enough = leb-true 4 (length list) q.0; rising = q.1; there = all_below total list p.1 }
 
@@ -127,25 +149,43 @@ committee_members total list h =
 pub place_below : (p : ℕ → Bool) (xs : List ℕ) (i : ℕ) → position p xs ≡ Some i → i < length xs
 place_below p xs i h = go (cases_Bool (nat_lt (position_or_len p xs) (length xs)))
   where
-    go : (nat_lt (position_or_len p xs) (length xs) ≡ true) ⊎ (nat_lt (position_or_len p xs) (length xs) ≡ false)
+    go : (nat_lt (position_or_len p xs) (length xs) ≡ true)
+        ⊎ (nat_lt (position_or_len p xs) (length xs) ≡ false)
         → i < length xs
     go (inl t) =
-        let e : position_or_len p xs ≡ i = same_Some (position_or_len p xs) i (sym (cond-true (nat_lt (position_or_len p xs) (length xs)) (Some (position_or_len p xs)) None t) ∙ h) in
+        let e : position_or_len p xs ≡ i =
+        same_Some (position_or_len p xs) i
+        (sym
+        (cond-true (nat_lt (position_or_len p xs) (length xs))
+        (Some (position_or_len p xs)) None t)
+        ∙ h) in
         subst (λ j. j < length xs) e (ltb-true (position_or_len p xs) (length xs) t)
-    go (inr f) = cc (cond-false (nat_lt (position_or_len p xs) (length xs)) (Some (position_or_len p xs)) None f)
+    go (inr f) =
+        cc
+        (cond-false (nat_lt (position_or_len p xs) (length xs)) (Some (position_or_len p xs))
+        None f)
 
 -- committees that cover this many heights are sound where each list is
 pub new_sound : (total span : ℕ) (lists : List (List ℕ)) → 1 ≤ span → 1 ≤ length lists
     → length lists ≤ 64 → list_all (is_committee total) lists ≡ true
     → is_sound (record { total = total; span = Some span; lists = lists }) ≡ true
 new_sound total span lists covers some few all =
-    and_from (nat_lt 0 (length lists) && nat_le (length lists) 64 && list_all (is_committee total) lists) (nat_lt 0 span)
-    (and_from (nat_lt 0 (length lists) && nat_le (length lists) 64) (list_all (is_committee total) lists)
-    (and_from (nat_lt 0 (length lists)) (nat_le (length lists) 64) (lt-ltb 0 (length lists) some) (le-leb (length lists) 64 few)) all)
+    and_from
+    (nat_lt 0 (length lists) && nat_le (length lists) 64 && list_all (is_committee total) lists)
+    (nat_lt 0 span)
+    (and_from (nat_lt 0 (length lists) && nat_le (length lists) 64)
+    (list_all (is_committee total) lists)
+    (and_from (nat_lt 0 (length lists)) (nat_le (length lists) 64) (lt-ltb 0 (length lists) some)
+    (le-leb (length lists) 64 few))
+    all)
     (lt-ltb 0 span covers)
 
 -- the span of sound committees is above 0
 pub span_positive : (x : Epochs) (span : ℕ) → is_sound x ≡ true → x.span ≡ Some span → 1 ≤ span
 span_positive x span h e =
-    let p = and_parts (nat_lt 0 (length x.lists) && nat_le (length x.lists) 64 && list_all (is_committee x.total) x.lists) (option_map_or (λ s. nat_lt 0 s) x.span true) h in
+    let p =
+    and_parts
+    (nat_lt 0 (length x.lists) && nat_le (length x.lists) 64
+    && list_all (is_committee x.total) x.lists)
+    (option_map_or (λ s. nat_lt 0 s) x.span true) h in
     ltb-true 0 span (subst (λ o. option_map_or (λ s. nat_lt 0 s) o true ≡ true) e p.1)

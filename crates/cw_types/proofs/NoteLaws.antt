@@ -34,7 +34,8 @@ IsOrdered e p = IsProposal e p × (is_ordered p ≡ true)
 
 ordered_reads_back : (e : ℕ) → ReadsBack proposal_bytes (IsOrdered e) (ordered_at e)
 unfolding ordered_at
-ordered_reads_back e = tested proposal_bytes (IsProposal e) (proposal_at e) is_ordered (proposal_reads_back e)
+ordered_reads_back e =
+    tested proposal_bytes (IsProposal e) (proposal_at e) is_ordered (proposal_reads_back e)
 
 abbrev IsFormed : Vote → Type 0
 IsFormed v = IsVote v × (well_formed v ≡ true)
@@ -53,11 +54,16 @@ IsFormedCert c = IsCert c × (well_formed c.vote ≡ true)
 formed_cert_reads_back : ReadsBack cert_bytes IsFormedCert formed_cert_at
 unfolding cert_bytes
 formed_cert_reads_back = alike _ _ _ _ formed_cert_at regrouped to from (
-    behind _ _ _ (λ c. c.vote) signed_bytes Signed _ (λ vote c (signers, is). ap (λ x. x.vote) is) formed_reads_back λ vote first. signed_reads_back vote)
+    behind _ _ _ (λ c. c.vote) signed_bytes Signed _ (λ vote c (signers, is). ap (λ x. x.vote) is)
+    formed_reads_back λ vote first. signed_reads_back vote)
   where
     regrouped : (c : Cert) → IsFormed c.vote × Signed c.vote c
-        → vote_bytes c.vote ++ signed_bytes c ≡ vote_bytes c.vote ++ be16 (length c.signers % 2 ^ 16) ++ flat_map be16 c.signers
-    regrouped c h = sym (append_assoc (vote_bytes c.vote) (be16 (length c.signers % 2 ^ 16)) (flat_map be16 c.signers))
+        → vote_bytes c.vote ++ signed_bytes c
+        ≡ vote_bytes c.vote ++ be16 (length c.signers % 2 ^ 16) ++ flat_map be16 c.signers
+    regrouped c h =
+        sym
+        (append_assoc (vote_bytes c.vote) (be16 (length c.signers % 2 ^ 16))
+        (flat_map be16 c.signers))
 
     to : (c : Cert) → IsFormed c.vote × Signed c.vote c → IsFormedCert c
     to c ((vote, formed), (signers, is)) = (record { vote = vote; signers = signers }, formed)
@@ -71,9 +77,17 @@ through : {A B D : Type 0} (make : B → D) (read : Reading A) (s : A → List �
 through make (Ok a) s = refl
 through make (Err e) s = refl
 
-blocks : IsForm (λ p. commitment_bytes p.0 ++ block_bytes p.1) (λ p. IsCommitment p.0 × IsBlock p.1) (pair_at commitment_at (λ _. block_at)) (λ p. note.Block p.0 p.1) note_bytes IsNote 0
+blocks : IsForm (λ p. commitment_bytes p.0 ++ block_bytes p.1) (λ p. IsCommitment p.0 × IsBlock p.1)
+    (pair_at commitment_at (λ _. block_at)) (λ p. note.Block p.0 p.1) note_bytes IsNote 0
 unfolding note_bytes
-blocks = record { part = pair_reads_back _ _ _ _ (λ _. IsBlock) (λ _. block_at) commitment_reads_back (λ _ h. block_reads_back); form = λ p h. refl; fits = λ p h. h }
+blocks =
+    record {
+      part =
+          pair_reads_back _ _ _ _ (λ _. IsBlock) (λ _. block_at) commitment_reads_back
+          (λ _ h. block_reads_back);
+      form = λ p h. refl;
+      fits = λ p h. h;
+    }
 
 votes : IsForm vote_bytes IsFormed formed_vote_at note.Vote note_bytes IsNote 3
 unfolding note_bytes
@@ -95,31 +109,45 @@ prunes : IsForm be64 IsBlockHeight height_at note.Prune note_bytes IsNote 7
 unfolding note_bytes
 prunes = record { part = height_reads_back; form = λ p h. refl; fits = λ p h. h }
 
-epochs : IsForm (λ p. be64 p.0 ++ commitment_bytes p.1) (λ p. IsLaterEpoch p.0 × IsCommitment p.1) (pair_at later_epoch_at (λ _. commitment_at)) (λ p. note.Epoch p.0 p.1) note_bytes IsNote 8
+epochs : IsForm (λ p. be64 p.0 ++ commitment_bytes p.1) (λ p. IsLaterEpoch p.0 × IsCommitment p.1)
+    (pair_at later_epoch_at (λ _. commitment_at)) (λ p. note.Epoch p.0 p.1) note_bytes IsNote 8
 unfolding note_bytes
-epochs = record { part = pair_reads_back _ _ _ _ (λ _. IsCommitment) (λ _. commitment_at) later_epoch_reads_back (λ _ h. commitment_reads_back); form = λ p h. refl; fits = λ p h. h }
+epochs =
+    record {
+      part =
+          pair_reads_back _ _ _ _ (λ _. IsCommitment) (λ _. commitment_at) later_epoch_reads_back
+          (λ _ h. commitment_reads_back);
+      form = λ p h. refl;
+      fits = λ p h. h;
+    }
 
 certifies : IsKind proposal_bytes IsOrdered ordered_at (λ e. note.Certified) note_bytes IsNote 2 9
 unfolding note_bytes epoch_tag_bytes
 certifies = record {
   part = ordered_reads_back;
   form = λ e p h. rw h.0.epoch refl;
-  fits = λ e p small h. (subst (λ (x : ℕ). x < 2 ^ 64) (sym h.0.epoch) small, (own_epoch e p h.0, h.1));
+  fits =
+      λ e p small h.
+      (subst (λ (x : ℕ). x < 2 ^ 64) (sym h.0.epoch) small, (own_epoch e p h.0, h.1));
 }
 
 abbrev view_and_commitment_at : List ℕ → Reading (ℕ × Commitment)
 view_and_commitment_at = pair_at be64_at (λ _. commitment_at)
 
-verifies : IsKind (λ p. be64 p.0 ++ commitment_bytes p.1) (λ _ p. (p.0 < 2 ^ 64) × IsCommitment p.1) (λ _. view_and_commitment_at) (λ e p. note.Verified e p.0 p.1) note_bytes IsNote 1 10
+verifies : IsKind (λ p. be64 p.0 ++ commitment_bytes p.1) (λ _ p. (p.0 < 2 ^ 64) × IsCommitment p.1)
+    (λ _. view_and_commitment_at) (λ e p. note.Verified e p.0 p.1) note_bytes IsNote 1 10
 unfolding note_bytes epoch_tag_bytes
 verifies = record {
-  part = λ e. pair_reads_back _ _ _ _ (λ _. IsCommitment) (λ _. commitment_at) be64_reads_back (λ _ h. commitment_reads_back);
+  part =
+      λ e. pair_reads_back _ _ _ _ (λ _. IsCommitment) (λ _. commitment_at) be64_reads_back
+      (λ _ h. commitment_reads_back);
   form = λ e p h. append_assoc (front_of 1 10 e) (be64 p.0) (commitment_bytes p.1);
   fits = λ e p small h. (small, h);
 }
 
 verified_as : (e : ℕ) (left : List ℕ)
-    → verified_at e left ≡ as_read (λ (p : ℕ × Commitment). note.Verified e p.0 p.1) (view_and_commitment_at left)
+    → verified_at e left
+    ≡ as_read (λ (p : ℕ × Commitment). note.Verified e p.0 p.1) (view_and_commitment_at left)
 verified_as e left = paired (be64_at left) (λ _. commitment_at) (note.Verified e)
 
 pub note_reads_back : ReadsBack note_bytes IsNote note_at
@@ -130,15 +158,18 @@ note_reads_back = record { found = tag_found note_bytes IsNote note_behind chose
         → note_behind n bytes ≡ Ok (x, rest) → (n ∷ bytes ≡ note_bytes x ++ rest) × IsNote x
     chosen n bytes rest x fits e =
         elim (pick n 0 _ _ _ e) [
-          | inl h ↦ form_found _ _ _ _ _ _ _ blocks n bytes rest x fits h.0 (sym (paired (commitment_at bytes) (λ _. block_at) note.Block) ∙ h.1)
+          | inl h ↦ form_found _ _ _ _ _ _ _ blocks n bytes rest x fits h.0
+              (sym (paired (commitment_at bytes) (λ _. block_at) note.Block) ∙ h.1)
           | inr e ↦ elim (pick n 1 _ _ _ e) [
-            | inl h ↦ kind_first _ _ _ _ _ _ _ _ verifies n bytes rest x fits h.0 (sym (verified_as 0 bytes) ∙ h.1)
+            | inl h ↦ kind_first _ _ _ _ _ _ _ _ verifies n bytes rest x fits h.0
+                (sym (verified_as 0 bytes) ∙ h.1)
             | inr e ↦ elim (pick n 2 _ _ _ e) [
               | inl h ↦ kind_first _ _ _ _ _ _ _ _ certifies n bytes rest x fits h.0 h.1
               | inr e ↦ elim (pick n 3 _ _ _ e) [
                 | inl h ↦ form_found _ _ _ _ _ _ _ votes n bytes rest x fits h.0 h.1
                 | inr e ↦ elim (pick n 4 _ _ _ e) [
-                  | inl h ↦ form_found _ _ _ _ _ _ _ certs n bytes rest x fits h.0 (sym (through note.Cert (formed_vote_at bytes) signed_at) ∙ h.1)
+                  | inl h ↦ form_found _ _ _ _ _ _ _ certs n bytes rest x fits h.0
+                      (sym (through note.Cert (formed_vote_at bytes) signed_at) ∙ h.1)
                   | inr e ↦ elim (pick n 5 _ _ _ e) [
                     | inl h ↦ form_found _ _ _ _ _ _ _ acks n bytes rest x fits h.0 h.1
                     | inr e ↦ elim (pick n 6 _ _ _ e) [
@@ -146,11 +177,21 @@ note_reads_back = record { found = tag_found note_bytes IsNote note_behind chose
                       | inr e ↦ elim (pick n 7 _ _ _ e) [
                         | inl h ↦ form_found _ _ _ _ _ _ _ prunes n bytes rest x fits h.0 h.1
                         | inr e ↦ elim (pick n 8 _ _ _ e) [
-                          | inl h ↦ form_found _ _ _ _ _ _ _ epochs n bytes rest x fits h.0 (sym (paired (later_epoch_at bytes) (λ _. commitment_at) note.Epoch) ∙ h.1)
+                          | inl h ↦ form_found _ _ _ _ _ _ _ epochs n bytes rest x fits h.0
+                              (sym (paired (later_epoch_at bytes) (λ _. commitment_at) note.Epoch)
+                              ∙ h.1)
                           | inr e ↦ elim (pick n 9 _ _ _ e) [
-                            | inl h ↦ kind_later _ _ _ _ _ _ _ _ certifies n bytes rest x fits h.0 h.1
+                            | inl h ↦ kind_later _ _ _ _ _ _ _ _ certifies n bytes rest x fits h.0
+                                h.1
                             | inr e ↦ elim (pick n 10 _ _ _ e) [
-                              | inl h ↦ kind_later _ _ _ _ _ _ _ _ verifies n bytes rest x fits h.0 (sym (later_alike verified_at (λ e left. as_read (λ (p : ℕ × Commitment). note.Verified e p.0 p.1) (view_and_commitment_at left)) verified_as bytes) ∙ h.1)
+                              | inl h ↦ kind_later _ _ _ _ _ _ _ _ verifies n bytes rest x fits h.0
+                                  (sym
+                                  (later_alike verified_at
+                                  (λ e left. as_read
+                                  (λ (p : ℕ × Commitment). note.Verified e p.0 p.1)
+                                  (view_and_commitment_at left))
+                                  verified_as bytes)
+                                  ∙ h.1)
                               | inr e ↦ absurd cc
                             ]
                           ]
@@ -166,14 +207,31 @@ note_reads_back = record { found = tag_found note_bytes IsNote note_behind chose
 
     again : (x : Note) (rest : List ℕ) → IsNote x
         → byte_at (note_bytes x ++ rest) >>= (λ t. note_behind t.0 t.1) ≡ Ok (x, rest)
-    again (note.Block c b) rest fits = form_again _ _ _ _ _ _ _ blocks note_behind (λ left. paired (commitment_at left) (λ _. block_at) note.Block) (c, b) rest fits
+    again (note.Block c b) rest fits =
+        form_again _ _ _ _ _ _ _ blocks note_behind
+        (λ left. paired (commitment_at left) (λ _. block_at) note.Block) (c, b) rest fits
     again (note.Verified epoch view c) rest fits =
-        kind_again _ _ _ _ _ _ _ _ verifies note_behind (verified_as 0) (later_alike verified_at (λ e left. as_read (λ (p : ℕ × Commitment). note.Verified e p.0 p.1) (view_and_commitment_at left)) verified_as)
+        kind_again _ _ _ _ _ _ _ _ verifies note_behind (verified_as 0)
+        (later_alike verified_at
+        (λ e left. as_read (λ (p : ℕ × Commitment). note.Verified e p.0 p.1)
+        (view_and_commitment_at left))
+        verified_as)
         epoch (view, c) rest fits.0 fits.1
-    again (note.Certified p) rest fits = kind_again _ _ _ _ _ _ _ _ certifies note_behind (λ left. refl) (λ left. refl) p.epoch p rest fits.0 fits.1
-    again (note.Vote v) rest fits = form_again _ _ _ _ _ _ _ votes note_behind (λ left. refl) v rest fits
-    again (note.Cert c) rest fits = form_again _ _ _ _ _ _ _ certs note_behind (λ left. through note.Cert (formed_vote_at left) signed_at) c rest fits
-    again (note.Ack height) rest fits = form_again _ _ _ _ _ _ _ acks note_behind (λ left. refl) height rest fits
-    again (note.Floor height) rest fits = form_again _ _ _ _ _ _ _ floors note_behind (λ left. refl) height rest fits
-    again (note.Prune height) rest fits = form_again _ _ _ _ _ _ _ prunes note_behind (λ left. refl) height rest fits
-    again (note.Epoch epoch c) rest fits = form_again _ _ _ _ _ _ _ epochs note_behind (λ left. paired (later_epoch_at left) (λ _. commitment_at) note.Epoch) (epoch, c) rest fits
+    again (note.Certified p) rest fits =
+        kind_again _ _ _ _ _ _ _ _ certifies note_behind (λ left. refl) (λ left. refl) p.epoch p
+        rest fits.0 fits.1
+    again (note.Vote v) rest fits =
+        form_again _ _ _ _ _ _ _ votes note_behind (λ left. refl) v rest fits
+    again (note.Cert c) rest fits =
+        form_again _ _ _ _ _ _ _ certs note_behind
+        (λ left. through note.Cert (formed_vote_at left) signed_at) c rest fits
+    again (note.Ack height) rest fits =
+        form_again _ _ _ _ _ _ _ acks note_behind (λ left. refl) height rest fits
+    again (note.Floor height) rest fits =
+        form_again _ _ _ _ _ _ _ floors note_behind (λ left. refl) height rest fits
+    again (note.Prune height) rest fits =
+        form_again _ _ _ _ _ _ _ prunes note_behind (λ left. refl) height rest fits
+    again (note.Epoch epoch c) rest fits =
+        form_again _ _ _ _ _ _ _ epochs note_behind
+        (λ left. paired (later_epoch_at left) (λ _. commitment_at) note.Epoch) (epoch, c) rest
+        fits

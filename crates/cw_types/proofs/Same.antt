@@ -34,8 +34,14 @@ same_counts_self a = and_from _ _ (eq-eqb a.minimum a.minimum refl) (eq-eqb a.ex
 pub same_commitment-true : (a b : Commitment) → same_commitment a b ≡ true → a ≡ b
 unfolding same_commitment
 same_commitment-true a b h =
-    let p = and_parts (same_digest a.block b.block) (same_digest a.root b.root && (same_digest a.context b.context && same_counts a.config b.config)) h in
-    let q = and_parts (same_digest a.root b.root) (same_digest a.context b.context && same_counts a.config b.config) p.1 in
+    let p =
+    and_parts (same_digest a.block b.block)
+    (same_digest a.root b.root
+    && (same_digest a.context b.context && same_counts a.config b.config))
+    h in
+    let q =
+    and_parts (same_digest a.root b.root)
+    (same_digest a.context b.context && same_counts a.config b.config) p.1 in
     let r = and_parts (same_digest a.context b.context) (same_counts a.config b.config) q.1 in
     let e0 = same_digest-true a.block b.block p.0 in
     let e1 = same_digest-true a.root b.root q.0 in
@@ -45,14 +51,28 @@ same_commitment-true a b h =
 
 pub same_commitment_self : (a : Commitment) → same_commitment a a ≡ true
 unfolding same_commitment
-same_commitment_self a = and_from _ _ (same_digest_self a.block) (and_from _ _ (same_digest_self a.root) (and_from _ _ (same_digest_self a.context) (same_counts_self a.config)))
+same_commitment_self a =
+    and_from _ _ (same_digest_self a.block)
+    (and_from _ _ (same_digest_self a.root)
+    (and_from _ _ (same_digest_self a.context) (same_counts_self a.config)))
 
 pub same_context-true : (a b : Context) → same_context a b ≡ true → a ≡ b
 unfolding same_context
 same_context-true a b h =
-    let p = and_parts (a.epoch == b.epoch) ((a.view == b.view) && ((a.leader == b.leader) && ((a.parent_view == b.parent_view) && same_commitment a.parent b.parent))) h in
-    let q = and_parts (a.view == b.view) ((a.leader == b.leader) && ((a.parent_view == b.parent_view) && same_commitment a.parent b.parent)) p.1 in
-    let r = and_parts (a.leader == b.leader) ((a.parent_view == b.parent_view) && same_commitment a.parent b.parent) q.1 in
+    let p =
+    and_parts (a.epoch == b.epoch)
+    ((a.view == b.view)
+    && ((a.leader == b.leader)
+    && ((a.parent_view == b.parent_view) && same_commitment a.parent b.parent)))
+    h in
+    let q =
+    and_parts (a.view == b.view)
+    ((a.leader == b.leader)
+    && ((a.parent_view == b.parent_view) && same_commitment a.parent b.parent))
+    p.1 in
+    let r =
+    and_parts (a.leader == b.leader)
+    ((a.parent_view == b.parent_view) && same_commitment a.parent b.parent) q.1 in
     let s = and_parts (a.parent_view == b.parent_view) (same_commitment a.parent b.parent) r.1 in
     let e0 = eqb-true a.epoch b.epoch p.0 in
     let e1 = eqb-true a.view b.view q.0 in
@@ -64,13 +84,22 @@ same_context-true a b h =
 pub same_context_self : (a : Context) → same_context a a ≡ true
 unfolding same_context
 same_context_self a =
-    and_from _ _ (eq-eqb a.epoch a.epoch refl) (and_from _ _ (eq-eqb a.view a.view refl) (and_from _ _ (eq-eqb a.leader a.leader refl) (and_from _ _ (eq-eqb a.parent_view a.parent_view refl) (same_commitment_self a.parent))))
+    and_from _ _ (eq-eqb a.epoch a.epoch refl)
+    (and_from _ _ (eq-eqb a.view a.view refl)
+    (and_from _ _ (eq-eqb a.leader a.leader refl)
+    (and_from _ _ (eq-eqb a.parent_view a.parent_view refl)
+    (same_commitment_self a.parent))))
 
 pub same_proposal-true : (a b : Proposal) → same_proposal a b ≡ true → a ≡ b
 unfolding same_proposal
 same_proposal-true a b h =
-    let p = and_parts (a.epoch == b.epoch) ((a.view == b.view) && ((a.parent == b.parent) && same_commitment a.payload b.payload)) h in
-    let q = and_parts (a.view == b.view) ((a.parent == b.parent) && same_commitment a.payload b.payload) p.1 in
+    let p =
+    and_parts (a.epoch == b.epoch)
+    ((a.view == b.view) && ((a.parent == b.parent) && same_commitment a.payload b.payload))
+    h in
+    let q =
+    and_parts (a.view == b.view) ((a.parent == b.parent) && same_commitment a.payload b.payload)
+    p.1 in
     let r = and_parts (a.parent == b.parent) (same_commitment a.payload b.payload) q.1 in
     let e0 = eqb-true a.epoch b.epoch p.0 in
     let e1 = eqb-true a.view b.view q.0 in
@@ -80,12 +109,17 @@ same_proposal-true a b h =
 
 pub same_proposal_self : (a : Proposal) → same_proposal a a ≡ true
 unfolding same_proposal
-same_proposal_self a = and_from _ _ (eq-eqb a.epoch a.epoch refl) (and_from _ _ (eq-eqb a.view a.view refl) (and_from _ _ (eq-eqb a.parent a.parent refl) (same_commitment_self a.payload)))
+same_proposal_self a =
+    and_from _ _ (eq-eqb a.epoch a.epoch refl)
+    (and_from _ _ (eq-eqb a.view a.view refl)
+    (and_from _ _ (eq-eqb a.parent a.parent refl) (same_commitment_self a.payload)))
 
 pub same_vote-true : (a b : Vote) → same_vote a b ≡ true → a ≡ b
 unfolding same_vote
 same_vote-true (Notarize p) (Notarize q) h = let e = same_proposal-true p q h in λ i. Notarize (e i)
-same_vote-true (Nullify d v) (Nullify e w) h = let p = and_parts (d == e) (v == w) h in let s = eqb-true d e p.0 in let t = eqb-true v w p.1 in λ i. Nullify (s i) (t i)
+same_vote-true (Nullify d v) (Nullify e w) h =
+    let p = and_parts (d == e) (v == w) h in
+    let s = eqb-true d e p.0 in let t = eqb-true v w p.1 in λ i. Nullify (s i) (t i)
 same_vote-true (Finalize p) (Finalize q) h = let e = same_proposal-true p q h in λ i. Finalize (e i)
 same_vote-true _ _ h = absurd (false≢true h)
 
@@ -105,13 +139,20 @@ same_cert-true a b h =
 
 pub same_cert_self : (a : Cert) → same_cert a a ≡ true
 unfolding same_cert
-same_cert_self a = and_from _ _ (same_vote_self a.vote) ((bytes_eq-Decides a.signers a.signers).1 refl)
+same_cert_self a =
+    and_from _ _ (same_vote_self a.vote) ((bytes_eq-Decides a.signers a.signers).1 refl)
 
 pub same_block-true : (a b : Block) → same_block a b ≡ true → a ≡ b
 unfolding same_block
 same_block-true a b h =
-    let p = and_parts (same_context a.context b.context) (same_digest a.parent b.parent && ((a.height == b.height) && bytes_eq a.payload b.payload)) h in
-    let q = and_parts (same_digest a.parent b.parent) ((a.height == b.height) && bytes_eq a.payload b.payload) p.1 in
+    let p =
+    and_parts (same_context a.context b.context)
+    (same_digest a.parent b.parent
+    && ((a.height == b.height) && bytes_eq a.payload b.payload))
+    h in
+    let q =
+    and_parts (same_digest a.parent b.parent)
+    ((a.height == b.height) && bytes_eq a.payload b.payload) p.1 in
     let r = and_parts (a.height == b.height) (bytes_eq a.payload b.payload) q.1 in
     let e0 = same_context-true a.context b.context p.0 in
     let e1 = same_digest-true a.parent b.parent q.0 in
@@ -121,4 +162,8 @@ same_block-true a b h =
 
 pub same_block_self : (a : Block) → same_block a a ≡ true
 unfolding same_block
-same_block_self a = and_from _ _ (same_context_self a.context) (and_from _ _ (same_digest_self a.parent) (and_from _ _ (eq-eqb a.height a.height refl) ((bytes_eq-Decides a.payload a.payload).1 refl)))
+same_block_self a =
+    and_from _ _ (same_context_self a.context)
+    (and_from _ _ (same_digest_self a.parent)
+    (and_from _ _ (eq-eqb a.height a.height refl)
+    ((bytes_eq-Decides a.payload a.payload).1 refl)))

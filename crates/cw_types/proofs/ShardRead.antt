@@ -10,8 +10,13 @@ use Rattle.cw_types.proofs.MessageLaws.{digests_back}
 use Rattle.cw_types.specs.Commit.{digest_bytes}
 use Rattle.cw_types.specs.Reading.{as_read, with_digests}
 
-pub gives_digests : (result : Result (Piece Digest32) CodecError) (left : List ℕ) (read : Reading (Piece (List ℕ))) →
-    Gives (λ p. piece_of_bytes digest_bytes p) result left read → Gives (λ p. p) result left (as_read with_digests read)
+pub gives_digests : (result : Result (Piece Digest32) CodecError) (left : List ℕ)
+    (read : Reading (Piece (List ℕ)))
+    →
+    Gives (λ p. piece_of_bytes digest_bytes p) result left read
+    → Gives (λ p. p) result left (as_read with_digests read)
 gives_digests (Ok p) left read h =
-    ap (as_read with_digests) h ∙ ap (λ (q : Piece Digest32). let x : Reading (Piece Digest32) = Ok (q, left) in x) (digests_back p)
+    ap (as_read with_digests) h
+    ∙ ap (λ (q : Piece Digest32). let x : Reading (Piece Digest32) = Ok (q, left) in x)
+    (digests_back p)
 gives_digests (Err e) left read h = refused_as with_digests e left read h

@@ -15,16 +15,20 @@ regroup : (front : List ℕ) (d : ℕ) (read : Reading (List ℕ))
 regroup front d (Ok x) = ap (λ (ds : List ℕ). Ok (ds, x.1)) (simp append_assoc)
 regroup front d (Err f) = refl
 
-pub goes_on : (front : List ℕ) (count i : ℕ) (bytes : List ℕ) (d : ℕ) (after : List ℕ) (total : Reading (List ℕ))
+pub goes_on : (front : List ℕ) (count i : ℕ) (bytes : List ℕ) (d : ℕ) (after : List ℕ)
+    (total : Reading (List ℕ))
     → i < count → be16_at bytes ≡ Ok (d, after)
     → with_front front (signers_at (count - i) bytes) ≡ total
     → with_front (front ++ d ∷ []) (signers_at (count - (i + 1)) after) ≡ total
 goes_on front count i bytes d after total lt h so_far =
     let k : count - i ≡ suc (count - (i + 1)) = omega arith in
-    let one : with_front front (signers_at (count - i) bytes) ≡ with_front (front ++ d ∷ []) (signers_at (count - (i + 1)) after) = rw (k, h) (regroup front d (signers_at (count - (i + 1)) after)) in
+    let one : with_front front (signers_at (count - i) bytes)
+    ≡ with_front (front ++ d ∷ []) (signers_at (count - (i + 1)) after) =
+    rw (k, h) (regroup front d (signers_at (count - (i + 1)) after)) in
     sym one ∙ so_far
 
-pub ends : (e : CodecError) (front : List ℕ) (count i : ℕ) (bytes left : List ℕ) (total : Reading (List ℕ))
+pub ends : (e : CodecError) (front : List ℕ) (count i : ℕ) (bytes left : List ℕ)
+    (total : Reading (List ℕ))
     → i < count → be16_at bytes ≡ Err (e, left)
     → with_front front (signers_at (count - i) bytes) ≡ total → IsRefused e left total
 ends e front count i bytes left total lt h so_far =
@@ -41,7 +45,9 @@ pub refused_more : (count i : ℕ) (bytes : List ℕ) (d : ℕ) (after left : Li
     → IsRefused e left (signers_at (count - i) bytes)
 refused_more count i bytes d after left e lt h more =
     let k : count - i ≡ suc (count - (i + 1)) = omega arith in
-    rw (k, h) (refused_made e left (signers_at (count - (i + 1)) after) (λ x. Ok (d ∷ x.0, x.1)) (λ x. refl) more)
+    rw (k, h)
+    (refused_made e left (signers_at (count - (i + 1)) after) (λ x. Ok (d ∷ x.0, x.1))
+    (λ x. refl) more)
 
 -- the next one is refused
 pub refused_here : (count i : ℕ) (bytes left : List ℕ) (e : CodecError) → i < count
@@ -51,7 +57,8 @@ refused_here count i bytes left e lt h =
     refused_is e left (signers_at (count - i) bytes) (rw (k, h) refl)
 
 -- what refuses those that are skipped refuses them all
-pub refused_all : (e : CodecError) (front : List ℕ) (count i : ℕ) (bytes : List ℕ) (d : ℕ) (after left : List ℕ) (total : Reading (List ℕ))
+pub refused_all : (e : CodecError) (front : List ℕ) (count i : ℕ) (bytes : List ℕ) (d : ℕ)
+    (after left : List ℕ) (total : Reading (List ℕ))
     → i < count → be16_at bytes ≡ Ok (d, after)
     → with_front front (signers_at (count - i) bytes) ≡ total
     → IsRefused e left (signers_at (count - i - 1) after) → IsRefused e left total
@@ -59,4 +66,6 @@ refused_all e front count i bytes d after left total lt h so_far skip =
     let n : count - i - 1 ≡ count - (i + 1) = omega arith in
     let more : IsRefused e left (signers_at (count - (i + 1)) after) = rw n at skip in
     let here = refused_more count i bytes d after left e lt h more in
-    subst (λ (r : Reading (List ℕ)). IsRefused e left r) so_far (refused_made e left (signers_at (count - i) bytes) (λ x. Ok (front ++ x.0, x.1)) (λ x. refl) here)
+    subst (λ (r : Reading (List ℕ)). IsRefused e left r) so_far
+    (refused_made e left (signers_at (count - i) bytes) (λ x. Ok (front ++ x.0, x.1))
+    (λ x. refl) here)

@@ -22,7 +22,8 @@ varint_short zero (suc fuel) n small = go (nat_lt n 128) refl
         → length (cond t (n ∷ []) ((n % 128 + 128) ∷ varint_within fuel (n / 128))) ≤ 1
     go true is = omega arith
     go false is = absurd (let large : 128 ≤ n = ltb-false n 128 is in omega arith)
-varint_short (suc more) (suc fuel) n small = go (nat_lt n 128) (varint_short more fuel (n / 128) (omega arith))
+varint_short (suc more) (suc fuel) n small =
+    go (nat_lt n 128) (varint_short more fuel (n / 128) (omega arith))
   where
     go : (t : Bool) → length (varint_within fuel (n / 128)) ≤ suc more
         → length (cond t (n ∷ []) ((n % 128 + 128) ∷ varint_within fuel (n / 128))) ≤ suc (suc more)
@@ -44,7 +45,8 @@ length-commitment c fits = omega (
   fits.block,
   fits.root,
   fits.context,
-  length-append (c.block.0 ++ c.root.0 ++ c.context.0) (be16 c.config.minimum ++ be16 c.config.extra),
+  length-append (c.block.0 ++ c.root.0 ++ c.context.0)
+      (be16 c.config.minimum ++ be16 c.config.extra),
   length-append (c.block.0 ++ c.root.0) c.context.0,
   length-append c.block.0 c.root.0,
   length-append (be16 c.config.minimum) (be16 c.config.extra),
@@ -88,9 +90,11 @@ length-block b fits =
 
 -- no block has more than 1,048,745 bytes
 pub block_within : (b : Block) → IsBlock b → length (block_bytes b) ≤ 1048745
-block_within b fits = omega (arith, length-block b fits, length-varint (length b.payload) fits.payload, fits.payload)
+block_within b fits =
+    omega (arith, length-block b fits, length-varint (length b.payload) fits.payload, fits.payload)
 
 -- a block with the longest payload has as many
 pub block_reaches : (b : Block) → IsBlock b → length b.payload ≡ 1048576
     → length (block_bytes b) ≡ 1048745
-block_reaches b fits full = omega (arith, length-block b fits, ap (λ n. length (varint n)) full, length-greatest, full)
+block_reaches b fits full =
+    omega (arith, length-block b fits, ap (λ n. length (varint n)) full, length-greatest, full)

@@ -28,7 +28,8 @@ limit_of _ = None
 
 -- ---- what the archive holds
 
--- the archive after a message: the chunk of a shard message is put, and no other message changes anything
+-- the archive after a message: the chunk of a shard message is put, and no other message changes
+-- anything
 abbrev pub after_message : (List ℕ → Digest32) → Archived → Message → Archived
 after_message hash a (Shard c x) = after_put hash a c x
 after_message hash a _ = a
@@ -41,17 +42,21 @@ after_entry hash a e = fold (after_sent hash) a e.sent
 
 -- the archive of that limit after all messages of a report, in the order in which they were sent
 abbrev pub filled : (List ℕ → Digest32) → ℕ → Reported → Archived
-filled hash limit r = fold (after_entry hash) (record { limit = limit; kept = [] }) (r.opening ++ r.steps)
+filled hash limit r =
+    fold (after_entry hash) (record { limit = limit; kept = [] }) (r.opening ++ r.steps)
 
 -- ---- what is written
 
 -- the archive gives the link back for its commitment
 abbrev pub is_given_back : (List ℕ → Digest32) → Epochs → Archived → Block → Bool
-is_given_back hash epochs a b = option_map_or (λ found. same_block found b) (given_back hash (commit (rules_of hash epochs) b) a.kept) false
+is_given_back hash epochs a b =
+    option_map_or (λ found. same_block found b)
+    (given_back hash (commit (rules_of hash epochs) b) a.kept) false
 
 -- `archive H yes` or `archive H no`
 unfoldable pub answer_line : ℕ → Bool → List ℕ
-answer_line height given = line (codes "archive " ++ decimal height ++ (if given then codes " yes" else codes " no"))
+answer_line height given =
+    line (codes "archive " ++ decimal height ++ (if given then codes " yes" else codes " no"))
 
 -- `used U`
 unfoldable pub used_line : ℕ → List ℕ
@@ -62,14 +67,17 @@ link_line hash epochs a b = answer_line b.height (is_given_back hash epochs a b)
 
 -- a line for each link above genesis, and how many bytes the archive holds
 abbrev pub archive_text : (List ℕ → Digest32) → Epochs → Archived → List Block → List ℕ
-archive_text hash epochs a chain = flat_map (link_line hash epochs a) (drop 1 chain) ++ used_line (used_of a.kept)
+archive_text hash epochs a chain =
+    flat_map (link_line hash epochs a) (drop 1 chain) ++ used_line (used_of a.kept)
 
 -- `usage: hail_archive`
 abbrev pub usage_line : List ℕ
 usage_line = line (codes "usage: hail_archive")
 
--- What is handed back and written where all goes well: the report of the script's run, the archive that its messages fill, and the lines of what that archive gives back.
-pub record IsDone {H : Type 0} (hash : List ℕ → Digest32) (limit : ℕ) (text : List ℕ) (done : Report H × Archived) (due : List ℕ) : Type 0 where
+-- What is handed back and written where all goes well: the report of the script's run, the archive
+-- that its messages fill, and the lines of what that archive gives back.
+pub record IsDone {H : Type 0} (hash : List ℕ → Digest32) (limit : ℕ) (text : List ℕ)
+    (done : Report H × Archived) (due : List ℕ) : Type 0 where
   pub script : Scenario
   pub spells : script_of text ≡ Ok script
   pub run : IsRun hash script done.0

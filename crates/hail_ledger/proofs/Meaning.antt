@@ -13,26 +13,42 @@ use Rattle.hail_ledger.specs.Ledgers.{AreDone, members_of}
 use Rattle.hail_ledger.specs.Text.{ledger_text}
 use Rattle.hail_ledger.proofs.Ends.{all_ledgers}
 
-module _ {H : Type 0} (report : Report H) (replicas : List (Ledger MemoryState)) (given : map (λ r. r.payloads) replicas ≡ payloads_of_all (shown_report report)) where
+module _ {H : Type 0} (report : Report H) (replicas : List (Ledger MemoryState))
+    (given : map (λ r. r.payloads) replicas ≡ payloads_of_all (shown_report report)) where
   -- there is a replica for each honest member
   as_many : length report.acked ≡ length replicas
   as_many =
-      sym (length-map (members_of (shown_report report)) (payloads_of (shown_report report)) ∙ length-map report.acked (λ a. a.member))
+      sym
+      (length-map (members_of (shown_report report)) (payloads_of (shown_report report))
+      ∙ length-map report.acked (λ a. a.member))
       ∙ ap (λ (l : List (List (List ℕ))). length l) (sym given)
       ∙ length-map replicas (λ r. r.payloads)
 
   -- of these members and replicas, read as slices
-  module _ (acked : List Acked) (shown : List (Ledger MemoryState)) (members_are : acked ≡ report.acked) (replicas_are : shown ≡ replicas) where
+  module _ (acked : List Acked) (shown : List (Ledger MemoryState))
+      (members_are : acked ≡ report.acked) (replicas_are : shown ≡ replicas) where
     pub are_as_many : length acked ≡ length shown
-    are_as_many = ap (λ (l : List Acked). length l) members_are ∙ as_many ∙ sym (ap (λ (l : List (Ledger MemoryState)). length l) replicas_are)
+    are_as_many =
+        ap (λ (l : List Acked). length l) members_are ∙ as_many
+        ∙ sym (ap (λ (l : List (Ledger MemoryState)). length l) replicas_are)
 
     -- these are the replicas of the run of a text, and what is due is their text
-    pub is_done : (hash : List ℕ → Digest32) (text due : List ℕ) → IsReport hash text report → due ≡ ledger_text (map (λ a. a.member) acked) (map (λ r. r.payloads) shown) → AreDone hash text (report, replicas) due
+    pub is_done : (hash : List ℕ → Digest32) (text due : List ℕ) → IsReport hash text report
+        → due ≡ ledger_text (map (λ a. a.member) acked) (map (λ r. r.payloads) shown)
+        → AreDone hash text (report, replicas) due
     is_done hash text due is lines = record {
       report = is;
-      ledgers = all_ledgers (rules_of hash is.script) is.script.lines is.run.world (shown_report report) is.run.told is.run.ends is.chain replicas given;
+      ledgers =
+          all_ledgers (rules_of hash is.script) is.script.lines is.run.world (shown_report report)
+          is.run.told is.run.ends is.chain replicas given;
       lines =
           lines
-          ∙ ap (λ (l : List Acked). ledger_text (map (λ a. a.member) l) (map (λ (r : Ledger MemoryState). r.payloads) shown)) members_are
-          ∙ ap (λ (l : List (Ledger MemoryState)). ledger_text (map (λ (a : Acked). a.member) report.acked) (map (λ r. r.payloads) l)) replicas_are;
+          ∙ ap
+          (λ (l : List Acked). ledger_text (map (λ a. a.member) l)
+          (map (λ (r : Ledger MemoryState). r.payloads) shown))
+          members_are
+          ∙ ap
+          (λ (l : List (Ledger MemoryState)). ledger_text
+          (map (λ (a : Acked). a.member) report.acked) (map (λ r. r.payloads) l))
+          replicas_are;
     }

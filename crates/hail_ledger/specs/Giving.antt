@@ -21,6 +21,7 @@ payloads_of r member = given_all r.chain [] (handed_to r member)
 abbrev pub payloads_of_all : Reported → List (List (List ℕ))
 payloads_of_all r = map (payloads_of r) (members_of r)
 
--- no call of the replica is refused but for memory: no earlier call left its disk in doubt, and no call of the disk fails
+-- no call of the replica is refused but for memory: no earlier call left its disk in doubt, and no
+-- call of the disk fails
 abbrev pub NeverFails : Ledger MemoryState → Type 0
 NeverFails r = (r.failed ≡ false) × (is_calm r.disk ≡ true)

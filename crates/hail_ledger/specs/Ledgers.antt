@@ -27,8 +27,10 @@ handed_in_entries member entries = flat_map (handed_by member) entries
 abbrev pub handed_to : Reported → ℕ → List ℕ
 handed_to r member = handed_in_entries member (r.opening ++ r.steps)
 
--- The payloads of a member's replica: those of the links of heights 0 to H, the greatest height such that all of these were handed out to it.
-pub record IsLedgerOf (chain : List Block) (heights : List ℕ) (payloads : List (List ℕ)) : Type 0 where
+-- The payloads of a member's replica: those of the links of heights 0 to H, the greatest height
+-- such that all of these were handed out to it.
+pub record IsLedgerOf (chain : List Block) (heights : List ℕ)
+    (payloads : List (List ℕ)) : Type 0 where
   pub links : payloads ≡ map (λ b. b.payload) (take (length payloads) chain)
   pub all_handed : (height : ℕ) → height < length payloads → In height heights
   pub no_more : In (length payloads) heights → ⊥
@@ -36,15 +38,18 @@ pub record IsLedgerOf (chain : List Block) (heights : List ℕ) (payloads : List
 -- so for each of these members
 abbrev pub AreLedgers : Reported → List ℕ → List (Ledger MemoryState) → Type 0
 AreLedgers r [] [] = Unit {0}
-AreLedgers r (member ∷ members) (ledger ∷ ledgers) = IsLedgerOf r.chain (handed_to r member) ledger.payloads × AreLedgers r members ledgers
+AreLedgers r (member ∷ members) (ledger ∷ ledgers) =
+    IsLedgerOf r.chain (handed_to r member) ledger.payloads × AreLedgers r members ledgers
 AreLedgers r _ _ = ⊥
 
 -- the numbers of the honest members
 abbrev pub members_of : Reported → List ℕ
 members_of r = map (λ a. a.member) r.acked
 
--- What is handed back and written of a script of this text: the report of its run, the replica of each honest member, and the lines of these.
-pub record AreDone {H : Type 0} (hash : List ℕ → Digest32) (text : List ℕ) (done : Report H × List (Ledger MemoryState)) (due : List ℕ) : Type 0 where
+-- What is handed back and written of a script of this text: the report of its run, the replica of
+-- each honest member, and the lines of these.
+pub record AreDone {H : Type 0} (hash : List ℕ → Digest32) (text : List ℕ)
+    (done : Report H × List (Ledger MemoryState)) (due : List ℕ) : Type 0 where
   pub report : IsReport hash text done.0
   pub ledgers : AreLedgers (shown_report done.0) (members_of (shown_report done.0)) done.1
   pub lines : due ≡ ledger_text (members_of (shown_report done.0)) (map (λ r. r.payloads) done.1)

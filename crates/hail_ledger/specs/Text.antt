@@ -9,20 +9,27 @@ use Rattle.hailstorm.specs.Text.{line}
 
 -- `ledger M H`, H the height that was applied last
 unfoldable pub height_line : ℕ → Option ℕ → List ℕ
-height_line member (Some height) = line (codes "ledger " ++ decimal member ++ codes " " ++ decimal height)
+height_line member (Some height) =
+    line (codes "ledger " ++ decimal member ++ codes " " ++ decimal height)
 height_line member None = line (codes "ledger " ++ decimal member ++ codes " none")
 
 -- `balance M A V`, V what the account A holds
 unfoldable pub balance_line : ℕ → Holding → List ℕ
-balance_line member h = line (codes "balance " ++ decimal member ++ codes " " ++ decimal h.account ++ codes " " ++ decimal h.amount)
+balance_line member h =
+    line
+    (codes "balance " ++ decimal member ++ codes " " ++ decimal h.account ++ codes " "
+    ++ decimal h.amount)
 
 -- a member's replica that applied these payloads
 abbrev pub replica_text : ℕ → List (List ℕ) → List ℕ
-replica_text member payloads = height_line member (last_height (length payloads)) ++ flat_map (balance_line member) (holdings (balances payloads))
+replica_text member payloads =
+    height_line member (last_height (length payloads))
+    ++ flat_map (balance_line member) (holdings (balances payloads))
 
 -- those of all members, one behind the other
 abbrev pub ledger_text : List ℕ → List (List (List ℕ)) → List ℕ
-ledger_text (member ∷ members) (payloads ∷ more) = replica_text member payloads ++ ledger_text members more
+ledger_text (member ∷ members) (payloads ∷ more) =
+    replica_text member payloads ++ ledger_text members more
 ledger_text _ _ = []
 
 -- the answer to words

@@ -32,16 +32,24 @@ yes_line height d = line (codes "yes " ++ decimal height ++ codes " " ++ digest_
 unfoldable pub none_line : List ℕ
 none_line = line (codes "none")
 
--- The line of what was found. Yes: it has the digest of the last block of the path, which has that height, and is the link of it wherever the chain goes so high.
+-- The line of what was found. Yes: it has the digest of the last block of the path, which has that
+-- height, and is the link of it wherever the chain goes so high.
 abbrev pub Tells : Rules → List Block → ℕ → Option Shown → List ℕ → Type 0
 Tells r links height None due = due ≡ none_line
-Tells r links height (Some shown) due = (d : Digest32) × (due ≡ yes_line height d) × IsLinkAt r links shown.path height d
+Tells r links height (Some shown) due =
+    (d : Digest32) × (due ≡ yes_line height d) × IsLinkAt r links shown.path height d
 
--- the line of the first finalization on the disks of a run's honest members, by number, that shows the height, by the votes that were signed in its world
-abbrev pub TellsOf : {H : Type 0} (hash : List ℕ → Digest32) (height : ℕ) (s : Scenario) (report : Report H) → IsRun hash s report → List ℕ → Type 0
-TellsOf hash height s report run due = Tells (rules_of hash s) report.chain height (found_in (rules_of hash s) (signed run.world) height (honest run.world)) due
+-- the line of the first finalization on the disks of a run's honest members, by number, that shows
+-- the height, by the votes that were signed in its world
+abbrev pub TellsOf : {H : Type 0} (hash : List ℕ → Digest32) (height : ℕ) (s : Scenario)
+    (report : Report H)
+    → IsRun hash s report → List ℕ → Type 0
+TellsOf hash height s report run due =
+    Tells (rules_of hash s) report.chain height
+    (found_in (rules_of hash s) (signed run.world) height (honest run.world)) due
 
 -- the text spells a script that is run, this is the report of its run, and that line is due
-pub record IsToldRun {H : Type 0} (hash : List ℕ → Digest32) (height : ℕ) (text : List ℕ) (report : Report H) (due : List ℕ) : Type 0 where
+pub record IsToldRun {H : Type 0} (hash : List ℕ → Digest32) (height : ℕ) (text : List ℕ)
+    (report : Report H) (due : List ℕ) : Type 0 where
   pub reported : IsReport hash text report
   pub told : TellsOf hash height reported.script report reported.run due

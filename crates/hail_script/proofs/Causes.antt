@@ -20,50 +20,68 @@ abbrev IsFine : {X : Type 0} → Result X RunError → Type 0
 IsFine (Ok x) = Unit {0}
 IsFine (Err e) = IsEarly e
 
-with_event : (o : Option Line) (at : ℕ) (rest : Result (List Line) RunError) → IsFine rest → IsFine (grammar.with_event o at rest)
+with_event : (o : Option Line) (at : ℕ) (rest : Result (List Line) RunError) → IsFine rest
+    → IsFine (grammar.with_event o at rest)
 with_event None at rest h = tt
 with_event (Some event) at (Ok events) h = tt
 with_event (Some event) at (Err e) h = h
 
 events_fine : (at : ℕ) (ls : List (List ℕ)) → IsFine (grammar.events_from at ls)
 events_fine at [] = tt
-events_fine at (l ∷ ls) = with_event (event_in (fields l)) at (grammar.events_from (at + 1) ls) (events_fine (at + 1) ls)
+events_fine at (l ∷ ls) =
+    with_event (event_in (fields l)) at (grammar.events_from (at + 1) ls) (events_fine (at + 1) ls)
 
-list_fine : (o : Option (List ℕ)) (at : ℕ) (rest : Result (List (List ℕ)) RunError) → IsFine rest → IsFine (with_list o at rest)
+list_fine : (o : Option (List ℕ)) (at : ℕ) (rest : Result (List (List ℕ)) RunError) → IsFine rest
+    → IsFine (with_list o at rest)
 list_fine None at rest h = tt
 list_fine (Some list) at (Ok lists) h = tt
 list_fine (Some list) at (Err e) h = h
 
 lists_fine : (at : ℕ) (ls : List (List ℕ)) → IsFine (lists_from at ls)
 lists_fine at [] = tt
-lists_fine at (l ∷ ls) = list_fine (list_in (fields l)) at (lists_from (at + 1) ls) (lists_fine (at + 1) ls)
+lists_fine at (l ∷ ls) =
+    list_fine (list_in (fields l)) at (lists_from (at + 1) ls) (lists_fine (at + 1) ls)
 
-if_fine : {X : Type 0} (t : Bool) (e : RunError) (rest : Result X RunError) → IsEarly e → IsFine rest → IsFine (let r : Result X RunError = if t then Err e else rest in r)
+if_fine : {X : Type 0} (t : Bool) (e : RunError) (rest : Result X RunError) → IsEarly e
+    → IsFine rest → IsFine (let r : Result X RunError = if t then Err e else rest in r)
 if_fine true e rest h k = h
 if_fine false e rest h k = k
 
-enough_fine : (count there : ℕ) (r : Result (List (List ℕ)) RunError) → IsFine r → IsFine (if_enough count there r)
-enough_fine count there (Ok lists) h = if_fine (nat_lt there count) (error.Syntax (2 + there)) (Ok lists) tt tt
+enough_fine : (count there : ℕ) (r : Result (List (List ℕ)) RunError) → IsFine r
+    → IsFine (if_enough count there r)
+enough_fine count there (Ok lists) h =
+    if_fine (nat_lt there count) (error.Syntax (2 + there)) (Ok lists) tt tt
 enough_fine count there (Err e) h = h
 
-scenario_fine : (x : Epochs) (backlog : ℕ) (r : Result (List Line) RunError) → IsFine r → IsFine (grammar.scenario_of x backlog r)
+scenario_fine : (x : Epochs) (backlog : ℕ) (r : Result (List Line) RunError) → IsFine r
+    → IsFine (grammar.scenario_of x backlog r)
 scenario_fine x backlog (Ok events) h = tt
 scenario_fine x backlog (Err e) h = h
 
-behind_fine : (members backlog span count : ℕ) (more : List (List ℕ)) (r : Result (List (List ℕ)) RunError) → IsFine r → IsFine (grammar.behind_lists members backlog span count more r)
-behind_fine members backlog span count more (Ok lists) h = scenario_fine _ backlog (grammar.events_from (2 + count) (drop count more)) (events_fine (2 + count) (drop count more))
+behind_fine : (members backlog span count : ℕ) (more : List (List ℕ))
+    (r : Result (List (List ℕ)) RunError)
+    → IsFine r → IsFine (grammar.behind_lists members backlog span count more r)
+behind_fine members backlog span count more (Ok lists) h =
+    scenario_fine _ backlog (grammar.events_from (2 + count) (drop count more))
+    (events_fine (2 + count) (drop count more))
 behind_fine members backlog span count more (Err e) h = h
 
 header_fine : (o : Option Header) (more : List (List ℕ)) → IsFine (grammar.behind_header o more)
 header_fine None more = tt
-header_fine (Some (Cluster members backlog)) more = scenario_fine (single members) backlog (grammar.events_from 2 more) (events_fine 2 more)
-header_fine (Some (Several members backlog span count)) more = behind_fine members backlog span count more (lists_in count more) (enough_fine count (length more) (lists_from 2 (take count more)) (lists_fine 2 (take count more)))
+header_fine (Some (Cluster members backlog)) more =
+    scenario_fine (single members) backlog (grammar.events_from 2 more) (events_fine 2 more)
+header_fine (Some (Several members backlog span count)) more =
+    behind_fine members backlog span count more (lists_in count more)
+    (enough_fine count (length more) (lists_from 2 (take count more))
+    (lists_fine 2 (take count more)))
 
 spelled_fine : (ls : List (List ℕ)) → IsFine (grammar.spelled_in ls)
 spelled_fine [] = tt
 spelled_fine (first ∷ more) = header_fine (header_in (fields first)) more
 
-refused_fine : (cause : ℕ → RunError) → ((at : ℕ) → IsEarly (cause at)) → (o : Option ℕ) (rest : Result Scenario RunError) → IsFine rest → IsFine (grammar.refused_at cause o rest)
+refused_fine : (cause : ℕ → RunError) → ((at : ℕ) → IsEarly (cause at))
+    → (o : Option ℕ) (rest : Result Scenario RunError) → IsFine rest
+    → IsFine (grammar.refused_at cause o rest)
 refused_fine cause early None rest h = h
 refused_fine cause early (Some at) rest h = early at
 
@@ -71,14 +89,17 @@ admitted_fine : (s : Scenario) → IsFine (grammar.admitted s)
 admitted_fine s =
     if_fine (not (grammar.is_sized s.committees)) error.BadCommittee _ tt
     (refused_fine error.UnknownMember (λ at. tt) (grammar.unknown_at s) _
-    (if_fine (not (list_all (grammar.bears s.lines) s.committees.lists)) error.TooManyFaulty _ tt (refused_fine error.OversizeBlock (λ at. tt) (grammar.oversize_at s) (Ok s) tt)))
+    (if_fine (not (list_all (grammar.bears s.lines) s.committees.lists)) error.TooManyFaulty _ tt
+    (refused_fine error.OversizeBlock (λ at. tt) (grammar.oversize_at s) (Ok s) tt)))
 
 all_fine : (r : Result Scenario RunError) → IsFine r → IsFine (grammar.if_admitted r)
 all_fine (Ok s) h = admitted_fine s
 all_fine (Err e) h = h
 
 pub early : (text : List ℕ) (e : RunError) → grammar.script_of text ≡ Err e → IsEarly e
-early text e h = subst (λ (r : Result Scenario RunError). IsFine r) h (all_fine (grammar.spelled text) (spelled_fine (lines text)))
+early text e h =
+    subst (λ (r : Result Scenario RunError). IsFine r) h
+    (all_fine (grammar.spelled text) (spelled_fine (lines text)))
 
 -- ---- scripts with lanes
 
@@ -91,7 +112,8 @@ told_early numbers (error.OversizeBlock at) h = tt
 told_early numbers (error.HashClash earlier later) h = absurd h
 told_early numbers error.NoMemory h = absurd h
 
-by_fine : (head : ℕ) (numbers sizes : List ℕ) (r : Result Scenario RunError) → IsFine r → IsFine (laned_by head numbers sizes r)
+by_fine : (head : ℕ) (numbers sizes : List ℕ) (r : Result Scenario RunError) → IsFine r
+    → IsFine (laned_by head numbers sizes r)
 by_fine head numbers sizes (Ok s) h = tt
 by_fine head numbers sizes (Err e) h = told_early numbers e h
 
@@ -100,4 +122,6 @@ laned_early text e h =
     let rows = others_in (lines text) in
     let plain = map (λ (row : ℕ × List ℕ). row.1) rows in
     subst (λ (r : Result Laned RunError). IsFine r) h
-    (by_fine (head_in (lines text)) (map (λ (row : ℕ × List ℕ). row.0) rows) (sizes_in (lines text)) (grammar.if_admitted (grammar.spelled_in plain)) (all_fine (grammar.spelled_in plain) (spelled_fine plain)))
+    (by_fine (head_in (lines text)) (map (λ (row : ℕ × List ℕ). row.0) rows) (sizes_in (lines text))
+    (grammar.if_admitted (grammar.spelled_in plain))
+    (all_fine (grammar.spelled_in plain) (spelled_fine plain)))

@@ -38,20 +38,25 @@ BytesIn (Ok bytes) = AreBytes bytes
 BytesIn (Err e) = Unit {0}
 
 value_low : (c i : ℕ) → LowIn (value_at c i)
-value_low c i = go (nat_le 65 c && nat_le c 70) (nat_le 97 c && nat_le c 102) (nat_le 48 c && nat_le c 57) refl refl refl
+value_low c i =
+    go (nat_le 65 c && nat_le c 70) (nat_le 97 c && nat_le c 102) (nat_le 48 c && nat_le c 57) refl
+    refl refl
   where
-    go : (p q s : Bool) → (nat_le 65 c && nat_le c 70) ≡ p → (nat_le 97 c && nat_le c 102) ≡ q → (nat_le 48 c && nat_le c 57) ≡ s → LowIn (value_at c i)
+    go : (p q s : Bool) → (nat_le 65 c && nat_le c 70) ≡ p → (nat_le 97 c && nat_le c 102) ≡ q
+        → (nat_le 48 c && nat_le c 57) ≡ s → LowIn (value_at c i)
     go true q s a b d = rw a (grind (arith, nat_tests))
     go false true s a b d = rw (a, b) (grind (arith, nat_tests))
     go false false true a b d = rw (a, b, d) (grind (arith, nat_tests))
     go false false false a b d = rw (a, b, d) tt
 
-both_low : (p q : Result ℕ FromHexError) → LowIn p → LowIn q → ByteIn (p >>= (λ h. q >>= (λ l. Ok (h * 16 + l))))
+both_low : (p q : Result ℕ FromHexError) → LowIn p → LowIn q
+    → ByteIn (p >>= (λ h. q >>= (λ l. Ok (h * 16 + l))))
 both_low (Ok h) (Ok l) a b = omega (arith, a, b)
 both_low (Ok h) (Err e) a b = tt
 both_low (Err e) q a b = tt
 
-both_bytes : (p : Result ℕ FromHexError) (q : Result (List ℕ) FromHexError) → ByteIn p → BytesIn q → BytesIn (p >>= (λ b. q >>= (λ bs. Ok (b ∷ bs))))
+both_bytes : (p : Result ℕ FromHexError) (q : Result (List ℕ) FromHexError) → ByteIn p → BytesIn q
+    → BytesIn (p >>= (λ b. q >>= (λ bs. Ok (b ∷ bs))))
 both_bytes (Ok b) (Ok bs) h k = (h, k)
 both_bytes (Ok b) (Err e) h k = tt
 both_bytes (Err e) q h k = tt
@@ -61,9 +66,13 @@ unfolding decode_pairs
 pairs_bytes i [] = tt
 pairs_bytes i (digit ∷ []) = tt
 pairs_bytes i (high ∷ low ∷ rest) =
-    both_bytes (pair_value high low i) (decode_pairs (i + 2) rest) (both_low (value_at high i) (value_at low (i + 1)) (value_low high i) (value_low low (i + 1))) (pairs_bytes (i + 2) rest)
+    both_bytes (pair_value high low i) (decode_pairs (i + 2) rest)
+    (both_low (value_at high i) (value_at low (i + 1)) (value_low high i)
+    (value_low low (i + 1)))
+    (pairs_bytes (i + 2) rest)
 
-if_bytes : (t : Bool) (a b : Result (List ℕ) FromHexError) → BytesIn a → BytesIn b → BytesIn (if t then a else b)
+if_bytes : (t : Bool) (a b : Result (List ℕ) FromHexError) → BytesIn a → BytesIn b
+    → BytesIn (if t then a else b)
 if_bytes true a b h k = h
 if_bytes false a b h k = k
 
@@ -75,16 +84,19 @@ ok_bytes : (r : Result (List ℕ) FromHexError) → BytesIn r → SomeBytes (ok 
 ok_bytes (Ok bytes) h = h
 ok_bytes (Err e) h = tt
 
-if_some : (t : Bool) (a b : Option (List ℕ)) → SomeBytes a → SomeBytes b → SomeBytes (if t then a else b)
+if_some : (t : Bool) (a b : Option (List ℕ)) → SomeBytes a → SomeBytes b
+    → SomeBytes (if t then a else b)
 if_some true a b h k = h
 if_some false a b h k = k
 
 field_bytes : (field : List ℕ) → SomeBytes (bytes_in field)
 unfolding bytes_in
 field_bytes field =
-    if_some (bytes_eq field (codes "-")) (Some []) (if length field == 0 then None else ok (decode_of field)) tt
+    if_some (bytes_eq field (codes "-")) (Some [])
+    (if length field == 0 then None else ok (decode_of field)) tt
     (if_some (length field == 0) None (ok (decode_of field)) tt
-    (ok_bytes (decode_of field) (if_bytes _ (Err OddLength) (decode_pairs 0 field) tt (pairs_bytes 0 field))))
+    (ok_bytes (decode_of field)
+    (if_bytes _ (Err OddLength) (decode_pairs 0 field) tt (pairs_bytes 0 field))))
 
 -- ---- raw lines hold bytes
 
@@ -108,7 +120,8 @@ if_line : (t : Bool) (a b : Option Line) → RawLine a → RawLine b → RawLine
 if_line true a b h k = h
 if_line false a b h k = k
 
-numbered : (f : ℕ → Fault) → ((n : ℕ) → RawFault (Some (f n))) → (o : Option ℕ) → RawFault (option_map f o)
+numbered : (f : ℕ → Fault) → ((n : ℕ) → RawFault (Some (f n))) → (o : Option ℕ)
+    → RawFault (option_map f o)
 numbered f h None = tt
 numbered f h (Some n) = h n
 
@@ -128,11 +141,15 @@ fault_raw (word ∷ field ∷ []) =
     if_fault (bytes_eq word (codes "notarize")) _ _ (numbered Notarize_of (λ n. tt) (number field))
     (if_fault (bytes_eq word (codes "finalize")) _ _ (numbered Finalize_of (λ n. tt) (number field))
     (if_fault (bytes_eq word (codes "nullify")) _ _ (numbered Nullify_of (λ n. tt) (number field))
-    (if_fault (bytes_eq word (codes "raw")) _ None (raw_fault (bytes_in field) (field_bytes field)) tt)))
-fault_raw (word ∷ view ∷ payload ∷ []) = if_fault (bytes_eq word (codes "offer")) (lines.offering (number view) (bytes_in payload)) None (offered (number view) (bytes_in payload)) tt
+    (if_fault (bytes_eq word (codes "raw")) _ None (raw_fault (bytes_in field) (field_bytes field))
+    tt)))
+fault_raw (word ∷ view ∷ payload ∷ []) =
+    if_fault (bytes_eq word (codes "offer")) (lines.offering (number view) (bytes_in payload)) None
+    (offered (number view) (bytes_in payload)) tt
 fault_raw (a ∷ b ∷ c ∷ d ∷ more) = tt
 
-faulting_raw : (member : Option ℕ) (fault : Option Fault) → RawFault fault → RawLine (lines.faulting member fault)
+faulting_raw : (member : Option ℕ) (fault : Option Fault) → RawFault fault
+    → RawLine (lines.faulting member fault)
 faulting_raw None fault h = tt
 faulting_raw (Some member) None h = tt
 faulting_raw (Some member) (Some (Raw bytes)) h = h
@@ -146,18 +163,21 @@ faulty_raw : (parts : List (List ℕ)) → RawLine (lines.faulty_in parts)
 faulty_raw [] = tt
 faulty_raw (member ∷ fault) = faulting_raw (number member) (lines.fault_in fault) (fault_raw fault)
 
-cutting_raw : (call cut fill : Option ℕ) (asked : Option (ℕ × Ask)) → RawLine (lines.cutting call cut fill asked)
+cutting_raw : (call cut fill : Option ℕ) (asked : Option (ℕ × Ask))
+    → RawLine (lines.cutting call cut fill asked)
 cutting_raw None cut fill asked = tt
 cutting_raw (Some call) None fill asked = tt
 cutting_raw (Some call) (Some cut) None asked = tt
 cutting_raw (Some call) (Some cut) (Some fill) None = tt
-cutting_raw (Some call) (Some cut) (Some fill) (Some asked) = if_line (nat_lt 0 call && nat_lt fill 256) (Some (Cut call cut fill asked.0 asked.1)) None tt tt
+cutting_raw (Some call) (Some cut) (Some fill) (Some asked) =
+    if_line (nat_lt 0 call && nat_lt fill 256) (Some (Cut call cut fill asked.0 asked.1)) None tt tt
 
 cut_raw : (parts : List (List ℕ)) → RawLine (lines.cut_in parts)
 cut_raw [] = tt
 cut_raw (a ∷ []) = tt
 cut_raw (a ∷ b ∷ []) = tt
-cut_raw (call ∷ cut ∷ fill ∷ asked) = cutting_raw (number call) (number cut) (number fill) (lines.asked_in asked)
+cut_raw (call ∷ cut ∷ fill ∷ asked) =
+    cutting_raw (number call) (number cut) (number fill) (lines.asked_in asked)
 
 restart_raw : (parts : List (List ℕ)) → RawLine (lines.restart_in parts)
 restart_raw [] = tt
@@ -177,37 +197,48 @@ event_raw [] = tt
 event_raw (word ∷ rest) =
     if_line (bytes_eq word (codes "cut")) (lines.cut_in rest) _ (cut_raw rest)
     (if_line (bytes_eq word (codes "restart")) (lines.restart_in rest) _ (restart_raw rest)
-    (if_line (bytes_eq word (codes "faulty")) (lines.faulty_in rest) _ (faulty_raw rest) (do_raw (lines.asked_in (word ∷ rest)))))
+    (if_line (bytes_eq word (codes "faulty")) (lines.faulty_in rest) _ (faulty_raw rest)
+    (do_raw (lines.asked_in (word ∷ rest)))))
 
 abbrev RawLines : Result (List Line) RunError → Type 0
 RawLines (Ok events) = AllByRecursion IsRaw events
 RawLines (Err e) = Unit {0}
 
-with_raw : (o : Option Line) (at : ℕ) (rest : Result (List Line) RunError) → RawLine o → RawLines rest → RawLines (grammar.with_event o at rest)
+with_raw : (o : Option Line) (at : ℕ) (rest : Result (List Line) RunError) → RawLine o
+    → RawLines rest → RawLines (grammar.with_event o at rest)
 with_raw None at rest h k = tt
 with_raw (Some event) at (Ok events) h k = (h, k)
 with_raw (Some event) at (Err e) h k = tt
 
 events_raw : (at : ℕ) (ls : List (List ℕ)) → RawLines (grammar.events_from at ls)
 events_raw at [] = tt
-events_raw at (l ∷ ls) = with_raw (event_in (fields l)) at (grammar.events_from (at + 1) ls) (event_raw (fields l)) (events_raw (at + 1) ls)
+events_raw at (l ∷ ls) =
+    with_raw (event_in (fields l)) at (grammar.events_from (at + 1) ls) (event_raw (fields l))
+    (events_raw (at + 1) ls)
 
 abbrev RawScript : Result Scenario RunError → Type 0
 RawScript (Ok s) = AllByRecursion IsRaw s.lines
 RawScript (Err e) = Unit {0}
 
-scenario_raw : (x : Epochs) (backlog : ℕ) (events : Result (List Line) RunError) → RawLines events → RawScript (grammar.scenario_of x backlog events)
+scenario_raw : (x : Epochs) (backlog : ℕ) (events : Result (List Line) RunError) → RawLines events
+    → RawScript (grammar.scenario_of x backlog events)
 scenario_raw x backlog (Ok events) h = h
 scenario_raw x backlog (Err e) h = tt
 
-behind_raw : (members backlog span count : ℕ) (more : List (List ℕ)) (lists : Result (List (List ℕ)) RunError) → RawScript (grammar.behind_lists members backlog span count more lists)
-behind_raw members backlog span count more (Ok lists) = scenario_raw _ backlog (grammar.events_from (2 + count) (drop count more)) (events_raw (2 + count) (drop count more))
+behind_raw : (members backlog span count : ℕ) (more : List (List ℕ))
+    (lists : Result (List (List ℕ)) RunError)
+    → RawScript (grammar.behind_lists members backlog span count more lists)
+behind_raw members backlog span count more (Ok lists) =
+    scenario_raw _ backlog (grammar.events_from (2 + count) (drop count more))
+    (events_raw (2 + count) (drop count more))
 behind_raw members backlog span count more (Err e) = tt
 
 header_raw : (o : Option Header) (more : List (List ℕ)) → RawScript (grammar.behind_header o more)
 header_raw None more = tt
-header_raw (Some (Cluster members backlog)) more = scenario_raw (single members) backlog (grammar.events_from 2 more) (events_raw 2 more)
-header_raw (Some (Several members backlog span count)) more = behind_raw members backlog span count more (lists_in count more)
+header_raw (Some (Cluster members backlog)) more =
+    scenario_raw (single members) backlog (grammar.events_from 2 more) (events_raw 2 more)
+header_raw (Some (Several members backlog span count)) more =
+    behind_raw members backlog span count more (lists_in count more)
 
 spelled_raw : (ls : List (List ℕ)) → RawScript (grammar.spelled_in ls)
 spelled_raw [] = tt
@@ -238,39 +269,50 @@ line_fits (Faulty i (Finalize_of n)) h raw = tt
 line_fits (Faulty i (Nullify_of n)) h raw = tt
 line_fits (Faulty i (Raw bytes)) h raw = raw
 
-lines_fit : (at : ℕ) (ls : List Line) → grammar.first_at grammar.names_oversize at ls ≡ None → AllByRecursion IsRaw ls → AllByRecursion FitsLine ls
+lines_fit : (at : ℕ) (ls : List Line) → grammar.first_at grammar.names_oversize at ls ≡ None
+    → AllByRecursion IsRaw ls → AllByRecursion FitsLine ls
 lines_fit at [] h raw = tt
-lines_fit at (line ∷ ls) h raw = go (grammar.names_oversize line) refl (λ none. lines_fit (at + 1) ls none raw.1)
+lines_fit at (line ∷ ls) h raw =
+    go (grammar.names_oversize line) refl (λ none. lines_fit (at + 1) ls none raw.1)
   where
-    go : (t : Bool) → grammar.names_oversize line ≡ t → (grammar.first_at grammar.names_oversize (at + 1) ls ≡ None → AllByRecursion FitsLine ls) → AllByRecursion FitsLine (line ∷ ls)
+    go : (t : Bool) → grammar.names_oversize line ≡ t
+        → (grammar.first_at grammar.names_oversize (at + 1) ls ≡ None → AllByRecursion FitsLine ls)
+        → AllByRecursion FitsLine (line ∷ ls)
     go true e more = absurd (let no : Some at ≡ None = rw e at h in cc)
     go false e more = (line_fits line e raw.0, more (rw e at h))
 
 -- ---- a script that is run
 
-if_run : (t : Bool) (e : RunError) (rest : Result Scenario RunError) (s : Scenario) → (let r : Result Scenario RunError = if t then Err e else rest in r) ≡ Ok s → rest ≡ Ok s
+if_run : (t : Bool) (e : RunError) (rest : Result Scenario RunError) (s : Scenario)
+    → (let r : Result Scenario RunError = if t then Err e else rest in r) ≡ Ok s → rest ≡ Ok s
 if_run true e rest s h = absurd (let no : Err e ≡ Ok s = h in cc)
 if_run false e rest s h = h
 
-none_refused : (cause : ℕ → RunError) (o : Option ℕ) (rest : Result Scenario RunError) (s : Scenario) → grammar.refused_at cause o rest ≡ Ok s → (o ≡ None) × (rest ≡ Ok s)
+none_refused : (cause : ℕ → RunError) (o : Option ℕ) (rest : Result Scenario RunError)
+    (s : Scenario)
+    → grammar.refused_at cause o rest ≡ Ok s → (o ≡ None) × (rest ≡ Ok s)
 none_refused cause None rest s h = (refl, h)
 none_refused cause (Some at) rest s h = absurd (let no : Err (cause at) ≡ Ok s = h in cc)
 
 ok_same : (s t : Scenario) → (let r : Result Scenario RunError = Ok s in r) ≡ Ok t → s ≡ t
 ok_same s t h = cc
 
-admitted_fits : (s t : Scenario) → grammar.admitted s ≡ Ok t → AllByRecursion IsRaw s.lines → AllByRecursion FitsLine t.lines
+admitted_fits : (s t : Scenario) → grammar.admitted s ≡ Ok t → AllByRecursion IsRaw s.lines
+    → AllByRecursion FitsLine t.lines
 admitted_fits s t h raw =
     let sized = if_run _ error.BadCommittee _ t h in
     let known = none_refused error.UnknownMember (grammar.unknown_at s) _ t sized in
     let few = if_run _ error.TooManyFaulty _ t known.1 in
     let short = none_refused error.OversizeBlock (grammar.oversize_at s) (Ok s) t few in
     let same : s ≡ t = ok_same s t short.1 in
-    subst (λ (x : Scenario). AllByRecursion FitsLine x.lines) same (lines_fit (grammar.first_event s.committees) s.lines short.0 raw)
+    subst (λ (x : Scenario). AllByRecursion FitsLine x.lines) same
+    (lines_fit (grammar.first_event s.committees) s.lines short.0 raw)
 
-all_fit : (r : Result Scenario RunError) (t : Scenario) → grammar.if_admitted r ≡ Ok t → RawScript r → AllByRecursion FitsLine t.lines
+all_fit : (r : Result Scenario RunError) (t : Scenario) → grammar.if_admitted r ≡ Ok t → RawScript r
+    → AllByRecursion FitsLine t.lines
 all_fit (Ok s) t h raw = admitted_fits s t h raw
 all_fit (Err e) t h raw = absurd (let no : Err e ≡ Ok t = h in cc)
 
-pub fits : (text : List ℕ) (s : Scenario) → grammar.script_of text ≡ Ok s → AllByRecursion FitsLine s.lines
+pub fits : (text : List ℕ) (s : Scenario) → grammar.script_of text ≡ Ok s
+    → AllByRecursion FitsLine s.lines
 fits text s h = all_fit (grammar.spelled text) s h (spelled_raw (pieces.lines text))

@@ -24,7 +24,9 @@ pub number_of_other : (field : List ℕ) → list_all is_ascii_digit field ≡ f
 unfolding number
 number_of_other field h = grind (arith, nat_tests)
 
-pub number_of_digits : (field : List ℕ) (v : ℕ) → 0 < length field → list_all is_ascii_digit field ≡ true → digits_value 10 field < 2 ^ 64 → v ≡ digits_value 10 field → Some v ≡ number field
+pub number_of_digits : (field : List ℕ) (v : ℕ) → 0 < length field
+    → list_all is_ascii_digit field ≡ true → digits_value 10 field < 2 ^ 64
+    → v ≡ digits_value 10 field → Some v ≡ number field
 unfolding number
 number_of_digits field v h d b e = grind (arith, nat_tests)
 
@@ -33,12 +35,15 @@ unfolding number
 number_too_great field b = grind (arith, nat_tests)
 
 -- what parse says of digits
-pub number_read : (field text : List ℕ) (v : ℕ) → text ≡ field → list_all is_ascii_digit field ≡ true → 0 < length field → ParsesUnsigned {E = ℕ} 64 10 text (Ok v) → Some v ≡ number field
+pub number_read : (field text : List ℕ) (v : ℕ) → text ≡ field
+    → list_all is_ascii_digit field ≡ true → 0 < length field
+    → ParsesUnsigned {E = ℕ} 64 10 text (Ok v) → Some v ≡ number field
 number_read field text v same d h p =
     let q = parse_digits digits {E = ℕ} 64 field (Ok v) (rw same at p) d in
     number_of_digits field v h d q.0.1 q.1
 
-pub number_refused : (field text : List ℕ) → text ≡ field → list_all is_ascii_digit field ≡ true → 0 < length field → ParsesUnsigned {E = ℕ} 64 10 text (Err 0) → None ≡ number field
+pub number_refused : (field text : List ℕ) → text ≡ field → list_all is_ascii_digit field ≡ true
+    → 0 < length field → ParsesUnsigned {E = ℕ} 64 10 text (Err 0) → None ≡ number field
 number_refused field text same d h p =
     let q = parse_digits digits {E = ℕ} 64 field (Err 0) (rw same at p) d in
     number_too_great field (λ b. q (h, b))

@@ -29,19 +29,25 @@ events_from at (line ∷ more) = with_event (event_in (fields line)) at (events_
 
 -- the committees and the backlog before the events, if they are events
 abbrev pub scenario_of : Epochs → ℕ → Result (List Line) RunError → Result Scenario RunError
-scenario_of committees backlog (Ok events) = Ok (record { committees = committees; backlog = backlog; lines = events })
+scenario_of committees backlog (Ok events) =
+    Ok (record { committees = committees; backlog = backlog; lines = events })
 scenario_of committees backlog (Err e) = Err e
 
 -- the lists of a header of epochs, and the events behind them
-abbrev pub behind_lists : ℕ → ℕ → ℕ → ℕ → List (List ℕ) → Result (List (List ℕ)) RunError → Result Scenario RunError
-behind_lists members backlog span count more (Ok lists) = scenario_of (record { total = members; span = Some span; lists = lists }) backlog (events_from (2 + count) (drop count more))
+abbrev pub behind_lists : ℕ → ℕ → ℕ → ℕ → List (List ℕ) → Result (List (List ℕ)) RunError
+    → Result Scenario RunError
+behind_lists members backlog span count more (Ok lists) =
+    scenario_of (record { total = members; span = Some span; lists = lists }) backlog
+    (events_from (2 + count) (drop count more))
 behind_lists members backlog span count more (Err e) = Err e
 
 -- what stands behind line 1
 abbrev pub behind_header : Option Header → List (List ℕ) → Result Scenario RunError
 behind_header None more = Err (Syntax 1)
-behind_header (Some (Cluster members backlog)) more = scenario_of (single members) backlog (events_from 2 more)
-behind_header (Some (Several members backlog span count)) more = behind_lists members backlog span count more (lists_in count more)
+behind_header (Some (Cluster members backlog)) more =
+    scenario_of (single members) backlog (events_from 2 more)
+behind_header (Some (Several members backlog span count)) more =
+    behind_lists members backlog span count more (lists_in count more)
 
 -- line 1 is the header, with the lists of its epochs behind it, and each further line is an event
 abbrev pub spelled_in : List (List ℕ) → Result Scenario RunError
@@ -65,7 +71,9 @@ first_event x = option_map_or (λ span. 2 + length x.lists) x.span 2
 
 -- 4 to 65,535 members, and at least four in each list
 abbrev pub is_sized : Epochs → Bool
-is_sized x = nat_le 4 x.total && (nat_lt x.total (2 ^ 16) && list_all (λ list. nat_le 4 (length list)) x.lists)
+is_sized x =
+    nat_le 4 x.total
+    && (nat_lt x.total (2 ^ 16) && list_all (λ list. nat_le 4 (length list)) x.lists)
 
 -- the list has a member past the last
 abbrev pub has_stranger : ℕ → List ℕ → Bool
@@ -77,7 +85,9 @@ names_stranger total line = not (nat_lt (line_member line) total)
 
 -- the first line that names a member past the last
 abbrev pub unknown_at : Scenario → Option ℕ
-unknown_at s = option_or (first_at (has_stranger s.committees.total) 2 s.committees.lists) (first_at (names_stranger s.committees.total) (first_event s.committees) s.lines)
+unknown_at s =
+    option_or (first_at (has_stranger s.committees.total) 2 s.committees.lists)
+    (first_at (names_stranger s.committees.total) (first_event s.committees) s.lines)
 
 -- some line makes the member faulty
 abbrev pub is_faulty_in : List Line → ℕ → Bool
@@ -120,7 +130,8 @@ is_later (Cut call cut fill member ask) = nat_lt 0 call
 is_later _ = true
 
 -- the cause, where there is one
-abbrev pub refused_at : (ℕ → RunError) → Option ℕ → Result Scenario RunError → Result Scenario RunError
+abbrev pub refused_at : (ℕ → RunError) → Option ℕ → Result Scenario RunError
+    → Result Scenario RunError
 refused_at cause None rest = rest
 refused_at cause (Some at) rest = Err (cause at)
 
@@ -129,7 +140,8 @@ abbrev pub admitted : Scenario → Result Scenario RunError
 admitted s =
     if not (is_sized s.committees) then Err BadCommittee
     else refused_at UnknownMember (unknown_at s)
-    (if not (list_all (bears s.lines) s.committees.lists) then Err TooManyFaulty else refused_at OversizeBlock (oversize_at s) (Ok s))
+    (if not (list_all (bears s.lines) s.committees.lists) then Err TooManyFaulty
+    else refused_at OversizeBlock (oversize_at s) (Ok s))
 
 -- the script, where it is run
 abbrev pub if_admitted : Result Scenario RunError → Result Scenario RunError

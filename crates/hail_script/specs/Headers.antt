@@ -1,4 +1,5 @@
--- The header of a script: one epoch without end, or epochs of a length with a list of members for each.
+-- The header of a script: one epoch without end, or epochs of a length with a list of members for
+-- each.
 use Rattle.std.specs.Prelude.{[], ℕ, ◌&&◌, ◌+◌, ◌∷◌, ◌≤◌, Err, List, None, Ok, Option, Result, Some, bytes_eq, codes, if◌then◌else◌, length, nat_le, nat_lt, take}
 use Rattle.cw_types.specs.Epochs.{rises_from}
 use Rattle.hail_script.specs.declared.headers.Header.{Header}
@@ -11,7 +12,8 @@ use Rattle.hail_script.specs.declared.error.RunError.TheVariants.{Syntax}
 abbrev pub cluster_of : Option ℕ → Option ℕ → Option Header
 cluster_of None backlog = None
 cluster_of (Some members) None = None
-cluster_of (Some members) (Some backlog) = if nat_lt 0 backlog then Some (Cluster members backlog) else None
+cluster_of (Some members) (Some backlog) =
+    if nat_lt 0 backlog then Some (Cluster members backlog) else None
 
 -- at least 1 each, and at most 64 lists
 abbrev pub several_of : Option ℕ → Option ℕ → Option ℕ → Option ℕ → Option Header
@@ -20,13 +22,16 @@ several_of (Some members) None span count = None
 several_of (Some members) (Some backlog) None count = None
 several_of (Some members) (Some backlog) (Some span) None = None
 several_of (Some members) (Some backlog) (Some span) (Some count) =
-    if nat_lt 0 backlog && (nat_lt 0 span && (nat_lt 0 count && nat_le count 64)) then Some (Several members backlog span count) else None
+    if nat_lt 0 backlog && (nat_lt 0 span && (nat_lt 0 count && nat_le count 64))
+    then Some (Several members backlog span count) else None
 
 -- `cluster N B` or `epochs N B L E`
 abbrev pub header_in : List (List ℕ) → Option Header
-header_in (word ∷ members ∷ backlog ∷ []) = if bytes_eq word (codes "cluster") then cluster_of (number members) (number backlog) else None
+header_in (word ∷ members ∷ backlog ∷ []) =
+    if bytes_eq word (codes "cluster") then cluster_of (number members) (number backlog) else None
 header_in (word ∷ members ∷ backlog ∷ span ∷ count ∷ []) =
-    if bytes_eq word (codes "epochs") then several_of (number members) (number backlog) (number span) (number count) else None
+    if bytes_eq word (codes "epochs")
+    then several_of (number members) (number backlog) (number span) (number count) else None
 header_in _ = None
 
 -- numbers that rise strictly, of which there is one
@@ -38,10 +43,12 @@ rising (Some (first ∷ more)) = if rises_from 0 (first ∷ more) then Some (fir
 -- `members M M ..`
 abbrev pub list_in : List (List ℕ) → Option (List ℕ)
 list_in [] = None
-list_in (word ∷ members) = if bytes_eq word (codes "members") then rising (numbers members) else None
+list_in (word ∷ members) =
+    if bytes_eq word (codes "members") then rising (numbers members) else None
 
 -- a list before the others
-abbrev pub with_list : Option (List ℕ) → ℕ → Result (List (List ℕ)) RunError → Result (List (List ℕ)) RunError
+abbrev pub with_list : Option (List ℕ) → ℕ → Result (List (List ℕ)) RunError
+    → Result (List (List ℕ)) RunError
 with_list None at rest = Err (Syntax at)
 with_list (Some list) at (Ok lists) = Ok (list ∷ lists)
 with_list (Some list) at (Err e) = Err e
@@ -63,4 +70,5 @@ lists_in count lines = if_enough count (length lines) (lists_from 2 (take count 
 -- the numbers of a header that is read
 abbrev pub IsHeader : Header → Type 0
 IsHeader (Cluster members backlog) = 1 ≤ backlog
-IsHeader (Several members backlog span count) = (1 ≤ backlog) × (1 ≤ span) × (1 ≤ count) × (count ≤ 64)
+IsHeader (Several members backlog span count) =
+    (1 ≤ backlog) × (1 ≤ span) × (1 ≤ count) × (count ≤ 64)

@@ -1,4 +1,5 @@
--- Scripts with lanes: lanes of events that run beside each other, behind events that come before all of them.
+-- Scripts with lanes: lanes of events that run beside each other, behind events that come before
+-- all of them.
 use Rattle.std.specs.Prelude.{[], ℕ, ◌&&◌, ◌+◌, ◌++◌, ◌-◌, ◌∷◌, Bool, Err, List, None, Ok, Option, Result, Some, bytes_eq, codes, drop, if◌then◌else◌, length, map, nat_lt, slice_get, slice_index, take}
 use Rattle.std.specs.List.{enumerate_from}
 use Rattle.std.specs.Option.{option_map_or}
@@ -31,7 +32,8 @@ begins head left at line = nat_lt head at && (nat_lt 0 left && bytes_eq line (co
 abbrev pub others_from : ℕ → ℕ → ℕ → List (List ℕ) → List (ℕ × List ℕ)
 others_from head left at [] = []
 others_from head left at (line ∷ more) =
-    if begins head left at line then others_from head (left - 1) (at + 1) more else (at, line) ∷ others_from head left (at + 1) more
+    if begins head left at line then others_from head (left - 1) (at + 1) more
+    else (at, line) ∷ others_from head left (at + 1) more
 
 -- one event more, if the line stands behind the head
 abbrev pub counted : ℕ → ℕ → ℕ → ℕ
@@ -41,12 +43,14 @@ counted head at count = if nat_lt head at then count + 1 else count
 abbrev pub sizes_from : ℕ → ℕ → ℕ → ℕ → List (List ℕ) → List ℕ
 sizes_from head left at count [] = []
 sizes_from head left at count (line ∷ more) =
-    if begins head left at line then count ∷ sizes_from head (left - 1) (at + 1) 0 more else sizes_from head left (at + 1) (counted head at count) more
+    if begins head left at line then count ∷ sizes_from head (left - 1) (at + 1) 0 more
+    else sizes_from head left (at + 1) (counted head at count) more
 
 abbrev pub sizes_in : List (List ℕ) → List ℕ
 sizes_in text = sizes_from (head_in text) 64 1 0 text
 
--- where no lane begins, the line behind the last is missed: it reads as an empty one, which is outside the grammar
+-- where no lane begins, the line behind the last is missed: it reads as an empty one, which is
+-- outside the grammar
 abbrev pub missed : List ℕ → ℕ → List (ℕ × List ℕ)
 missed [] count = (count + 1, []) ∷ []
 missed (size ∷ sizes) count = []
@@ -66,7 +70,8 @@ told numbers (UnknownMember at) = UnknownMember (number_at numbers at)
 told numbers (OversizeBlock at) = OversizeBlock (number_at numbers at)
 told numbers e = e
 
--- a script with lanes: the script of all its event lines, the number of each, and how many events stand before each lane, behind the beginning of the one before it
+-- a script with lanes: the script of all its event lines, the number of each, and how many events
+-- stand before each lane, behind the beginning of the one before it
 pub record Laned : Type 0 where
   pub script : Scenario
   pub numbers : List ℕ
@@ -74,12 +79,15 @@ pub record Laned : Type 0 where
 
 -- the numbers of the lines of a script, its head included, and the lanes beside it
 abbrev pub laned_by : ℕ → List ℕ → List ℕ → Result Scenario RunError → Result Laned RunError
-laned_by head numbers sizes (Ok script) = Ok (record { script = script; numbers = drop head numbers; sizes = sizes })
+laned_by head numbers sizes (Ok script) =
+    Ok (record { script = script; numbers = drop head numbers; sizes = sizes })
 laned_by head numbers sizes (Err e) = Err (told numbers e)
 
 -- the script that the lines make without those that begin lanes, with the lanes beside it
 abbrev pub laned_in : List (List ℕ) → Result Laned RunError
-laned_in text = laned_by (head_in text) (map (λ row. row.0) (others_in text)) (sizes_in text) (if_admitted (spelled_in (map (λ row. row.1) (others_in text))))
+laned_in text =
+    laned_by (head_in text) (map (λ row. row.0) (others_in text)) (sizes_in text)
+    (if_admitted (spelled_in (map (λ row. row.1) (others_in text))))
 
 -- the script with lanes that a text spells, or the first cause for which it isn't run
 abbrev pub laned_of : List ℕ → Result Laned RunError

@@ -11,22 +11,30 @@ asking (Some member) (Some ask) = Some (member, ask)
 
 -- `ack M`
 abbrev pub asked_alone : List ℕ → List ℕ → Option (ℕ × Ask)
-asked_alone word member = if bytes_eq word (codes "ack") then asking (number member) (Some Ack) else None
+asked_alone word member =
+    if bytes_eq word (codes "ack") then asking (number member) (Some Ack) else None
 
 -- `timeout M V`, `deliver I M`, `prune M H`, `floor M I` or `hint M H`
 abbrev pub asked_number : List ℕ → List ℕ → List ℕ → Option (ℕ × Ask)
 asked_number word first second =
-    if bytes_eq word (codes "timeout") then asking (number first) (option_map Timeout (number second))
-    else if bytes_eq word (codes "deliver") then asking (number second) (option_map Deliver (number first))
-    else if bytes_eq word (codes "prune") then asking (number first) (option_map Prune (number second))
-    else if bytes_eq word (codes "floor") then asking (number first) (option_map Floor (number second))
-    else if bytes_eq word (codes "hint") then asking (number first) (option_map Hint (number second))
+    if bytes_eq word (codes "timeout")
+    then asking (number first) (option_map Timeout (number second))
+    else if bytes_eq word (codes "deliver")
+    then asking (number second) (option_map Deliver (number first))
+    else if bytes_eq word (codes "prune")
+    then asking (number first) (option_map Prune (number second))
+    else if bytes_eq word (codes "floor")
+    then asking (number first) (option_map Floor (number second))
+    else if bytes_eq word (codes "hint")
+    then asking (number first) (option_map Hint (number second))
     else None
 
 -- `propose M HEX`, or one of these
 abbrev pub asked_with : List ℕ → List ℕ → List ℕ → Option (ℕ × Ask)
 asked_with word first second =
-    if bytes_eq word (codes "propose") then asking (number first) (option_map Propose (bytes_in second)) else asked_number word first second
+    if bytes_eq word (codes "propose")
+    then asking (number first) (option_map Propose (bytes_in second))
+    else asked_number word first second
 
 -- one of the seven lines that ask something of a member
 abbrev pub asked_in : List (List ℕ) → Option (ℕ × Ask)
@@ -40,11 +48,13 @@ cutting None cut fill asked = None
 cutting (Some call) None fill asked = None
 cutting (Some call) (Some cut) None asked = None
 cutting (Some call) (Some cut) (Some fill) None = None
-cutting (Some call) (Some cut) (Some fill) (Some asked) = if nat_lt 0 call && nat_lt fill 256 then Some (Cut call cut fill asked.0 asked.1) else None
+cutting (Some call) (Some cut) (Some fill) (Some asked) =
+    if nat_lt 0 call && nat_lt fill 256 then Some (Cut call cut fill asked.0 asked.1) else None
 
 -- `A C X E` behind `cut`, E one of the seven
 abbrev pub cut_in : List (List ℕ) → Option Line
-cut_in (call ∷ cut ∷ fill ∷ asked) = cutting (number call) (number cut) (number fill) (asked_in asked)
+cut_in (call ∷ cut ∷ fill ∷ asked) =
+    cutting (number call) (number cut) (number fill) (asked_in asked)
 cut_in _ = None
 
 -- a faulty member, and what it does, where both are read
@@ -74,7 +84,8 @@ fault_alone word = if bytes_eq word (codes "silent") then Some Silent else None
 
 -- `offer V HEX`
 abbrev pub offer_in : List ℕ → List ℕ → List ℕ → Option Fault
-offer_in word view payload = if bytes_eq word (codes "offer") then offering (number view) (bytes_in payload) else None
+offer_in word view payload =
+    if bytes_eq word (codes "offer") then offering (number view) (bytes_in payload) else None
 
 -- what a faulty member does
 abbrev pub fault_in : List (List ℕ) → Option Fault

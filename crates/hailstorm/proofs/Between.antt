@@ -32,56 +32,89 @@ pub none_unless : {X : Type 0} (o : Option X) → is_some o ≡ false → o ≡ 
 none_unless None e = refl
 none_unless (Some x) e = absurd (let no : true ≡ false = e in cc)
 
-pub rows_many : (x : Laned) (es : List EventLine) → map line_of es ≡ x.script.lines → length (rows x) ≡ length es
+pub rows_many : (x : Laned) (es : List EventLine) → map line_of es ≡ x.script.lines
+    → length (rows x) ≡ length es
 rows_many x es is = count_rows x ∙ ap (λ (l : List Line). length l) (sym is) ∙ count_lines es
 
-module _ (hash : List ℕ → Digest32) (x : Laned) (order : List ℕ) (stopped : Option RunError) (opens : List Entry) (cursors : List (ℕ × ℕ)) (steps : List Entry) (places : List (Place Seat)) (faulty : List Bool)
+module _ (hash : List ℕ → Digest32) (x : Laned) (order : List ℕ) (stopped : Option RunError)
+    (opens : List Entry) (cursors : List (ℕ × ℕ)) (steps : List Entry) (places : List (Place Seat))
+    (faulty : List Bool)
     (h : IsTurning hash x order stopped opens cursors steps places faulty) where
   -- no clash was met yet
   pub between_of : stopped ≡ None → IsBetween hash x order cursors steps places faulty
-  between_of none = (subst (λ (o : Option RunError). IsTurning hash x order o opens cursors steps places faulty) none h).1
+  between_of none =
+      (subst (λ (o : Option RunError). IsTurning hash x order o opens cursors steps places faulty)
+      none h).1
 
   -- why no further line is played
   pub over_of : (e : RunError) → stopped ≡ Some e → IsOver hash x order e
-  over_of e is = (subst (λ (o : Option RunError). IsTurning hash x order o opens cursors steps places faulty) is h).1
+  over_of e is =
+      (subst (λ (o : Option RunError). IsTurning hash x order o opens cursors steps places faulty)
+      is h).1
 
   -- a lane without a cursor before its end has no line left
-  pub nothing_next : (seen : List (ℕ × ℕ)) (count k : ℕ) → stopped ≡ None → seen ≡ cursors → length (rows x) ≡ count
-      → ((all : List (ℕ × Line)) → length all ≡ count → lane_at (map (between all) seen) k ≡ []) → lane_at (left (lanes x) order) k ≡ []
+  pub nothing_next : (seen : List (ℕ × ℕ)) (count k : ℕ) → stopped ≡ None → seen ≡ cursors
+      → length (rows x) ≡ count
+      → ((all : List (ℕ × Line)) → length all ≡ count → lane_at (map (between all) seen) k ≡ [])
+      → lane_at (left (lanes x) order) k ≡ []
   nothing_next seen count k none same many nothing =
-      ap (λ (l : List (List (ℕ × Line))). lane_at l k) ((between_of none).rest ∙ ap (λ (l : List (ℕ × ℕ)). map (between (rows x)) l) (sym same)) ∙ nothing (rows x) many
+      ap (λ (l : List (List (ℕ × Line))). lane_at l k)
+      ((between_of none).rest ∙ ap (λ (l : List (ℕ × ℕ)). map (between (rows x)) l) (sym same))
+      ∙ nothing (rows x) many
 
   -- no lane has a line left
-  pub none_next : (seen : List (ℕ × ℕ)) (count : ℕ) → stopped ≡ None → seen ≡ cursors → length (rows x) ≡ count
-      → ((all : List (ℕ × Line)) → length all ≡ count → flat_map (λ lane. lane) (map (between all) seen) ≡ []) → flat_map (λ lane. lane) (left (lanes x) order) ≡ []
+  pub none_next : (seen : List (ℕ × ℕ)) (count : ℕ) → stopped ≡ None → seen ≡ cursors
+      → length (rows x) ≡ count
+      → ((all : List (ℕ × Line)) → length all ≡ count
+      → flat_map (λ lane. lane) (map (between all) seen) ≡ [])
+      → flat_map (λ lane. lane) (left (lanes x) order) ≡ []
   none_next seen count none same many nothing =
-      ap (λ (l : List (List (ℕ × Line))). flat_map (λ lane. lane) l) ((between_of none).rest ∙ ap (λ (l : List (ℕ × ℕ)). map (between (rows x)) l) (sym same)) ∙ nothing (rows x) many
+      ap (λ (l : List (List (ℕ × Line))). flat_map (λ lane. lane) l)
+      ((between_of none).rest ∙ ap (λ (l : List (ℕ × ℕ)). map (between (rows x)) l) (sym same))
+      ∙ nothing (rows x) many
 
   -- the first lane that has
-  pub some_next : (seen : List (ℕ × ℕ)) (count : ℕ) (o : Option ℕ) → stopped ≡ None → seen ≡ cursors → length (rows x) ≡ count
-      → IfSome o (λ k. (all : List (ℕ × Line)) → length all ≡ count → 0 < length (lane_at (map (between all) seen) k))
+  pub some_next : (seen : List (ℕ × ℕ)) (count : ℕ) (o : Option ℕ) → stopped ≡ None → seen ≡ cursors
+      → length (rows x) ≡ count
+      → IfSome o
+      (λ k. (all : List (ℕ × Line)) → length all ≡ count
+      → 0 < length (lane_at (map (between all) seen) k))
       → IfSome o (λ k. (stopped ≡ None) × (0 < length (lane_at (left (lanes x) order) k)))
   some_next seen count None none same many some = tt
   some_next seen count (Some k) none same many some =
-      let rest : left (lanes x) order ≡ map (between (rows x)) seen = (between_of none).rest ∙ ap (λ (l : List (ℕ × ℕ)). map (between (rows x)) l) (sym same) in
-      (none, subst (λ (l : List (List (ℕ × Line))). 0 < length (lane_at l k)) (sym rest) (some (rows x) many))
+      let rest : left (lanes x) order ≡ map (between (rows x)) seen =
+      (between_of none).rest ∙ ap (λ (l : List (ℕ × ℕ)). map (between (rows x)) l) (sym same) in (
+        none,
+        subst (λ (l : List (List (ℕ × Line))). 0 < length (lane_at l k)) (sym rest)
+            (some (rows x) many),
+      )
 
   -- the report of its end
-  pub ends_reported : {H : Type 0} (text : List ℕ) (report : Report H) → laned_of text ≡ Ok x → stopped ≡ None → flat_map (λ lane. lane) (left (lanes x) order) ≡ []
-      → ((r : Rules) (w : World) → GoesBy hash r → WorkBy r 0 places → SitAs places w.members → IsReportOf r w opens steps report)
+  pub ends_reported : {H : Type 0} (text : List ℕ) (report : Report H) → laned_of text ≡ Ok x
+      → stopped ≡ None → flat_map (λ lane. lane) (left (lanes x) order) ≡ []
+      → ((r : Rules) (w : World) → GoesBy hash r → WorkBy r 0 places → SitAs places w.members
+      → IsReportOf r w opens steps report)
       → IsCluster (rules_of hash x.script) x.script.lines → 0 < x.script.backlog
-      → ((r : Rules) (script : List Line) (w : World) → IsCluster r script → 0 < r.backlog → outcome r (opening r script) script ≡ Ends w → IsReported r w (handed_in r script) (report_of r script w).chain)
+      → ((r : Rules) (script : List Line) (w : World) → IsCluster r script → 0 < r.backlog
+      → outcome r (opening r script) script ≡ Ends w
+      → IsReported r w (handed_in r script) (report_of r script w).chain)
       → IsLanesReport hash text order report
   ends_reported text report spells none left_none told cluster some law =
       let b = between_of none in
       let r = rules_of hash x.script in
       let w = run r (opened hash x.script) (lines_of (played x order)) in
-      lanes_reported hash text x order opens steps cursors places faulty report spells b h.0 left_none
-      (told r w (record { hashes = refl; blocks = refl; contexts = refl }) b.sound b.played.members) cluster some law
+      lanes_reported hash text x order opens steps cursors places faulty report spells b h.0
+      left_none
+      (told r w (record { hashes = refl; blocks = refl; contexts = refl }) b.sound b.played.members)
+      cluster some law
 
 -- the same, whatever its parts are called
-pub same_between : (hash : List ℕ → Digest32) (x : Laned) (order order' : List ℕ) (cursors cursors' : List (ℕ × ℕ)) (steps : List Entry) (places places' : List (Place Seat)) (faulty faulty' : List Bool)
-    → order ≡ order' → cursors ≡ cursors' → places ≡ places' → faulty ≡ faulty' → IsBetween hash x order cursors steps places faulty → IsBetween hash x order' cursors' steps places' faulty'
+pub same_between : (hash : List ℕ → Digest32) (x : Laned) (order order' : List ℕ)
+    (cursors cursors' : List (ℕ × ℕ)) (steps : List Entry) (places places' : List (Place Seat))
+    (faulty faulty' : List Bool)
+    → order ≡ order' → cursors ≡ cursors' → places ≡ places' → faulty ≡ faulty'
+    → IsBetween hash x order cursors steps places faulty
+    → IsBetween hash x order' cursors' steps places' faulty'
 same_between hash x order order' cursors cursors' steps places places' faulty faulty' o c p f h =
     subst (λ (l : List Bool). IsBetween hash x order' cursors' steps places' l) f
     (subst (λ (l : List (Place Seat)). IsBetween hash x order' cursors' steps l faulty) p
@@ -89,15 +122,22 @@ same_between hash x order order' cursors cursors' steps places places' faulty fa
     (subst (λ (l : List ℕ). IsBetween hash x l cursors steps places faulty) o h)))
 
 -- a turn that finds no line
-pub turns_none : (hash : List ℕ → Digest32) (t : Turning) (k : ℕ) → t.stopped ≡ None → lane_at (left (lanes t.laned) t.order) k ≡ [] → IsTurnBy hash t k (Ok None) t t.stopped
-turns_none hash t k none nothing = subst (λ (o : Option RunError). IsTurnBy hash t k (Ok None) t o) (sym none) (refl, nothing)
+pub turns_none : (hash : List ℕ → Digest32) (t : Turning) (k : ℕ) → t.stopped ≡ None
+    → lane_at (left (lanes t.laned) t.order) k ≡ [] → IsTurnBy hash t k (Ok None) t t.stopped
+turns_none hash t k none nothing =
+    subst (λ (o : Option RunError). IsTurnBy hash t k (Ok None) t o) (sym none) (refl, nothing)
 
 -- why there is no report
-pub over_cause : (hash : List ℕ → Digest32) (text : List ℕ) (x : Laned) (order : List ℕ) (e : RunError) → laned_of text ≡ Ok x → IsOver hash x order e
-    → ((r : Rules) (script : List Line) (earlier later : List ℕ) → outcome r (opening r script) script ≡ Clashes earlier later → (w : World) × Reaches r script w × IsClash r w earlier later)
+pub over_cause : (hash : List ℕ → Digest32) (text : List ℕ) (x : Laned) (order : List ℕ)
+    (e : RunError)
+    → laned_of text ≡ Ok x → IsOver hash x order e
+    → ((r : Rules) (script : List Line) (earlier later : List ℕ)
+    → outcome r (opening r script) script ≡ Clashes earlier later
+    → (w : World) × Reaches r script w × IsClash r w earlier later)
     → IsLanesCause hash text (told_order order e) e
 over_cause hash text x order error.NoMemory spells h law = refl
-over_cause hash text x order (error.HashClash earlier later) spells h law = lanes_clashed hash text x order earlier later spells h law
+over_cause hash text x order (error.HashClash earlier later) spells h law =
+    lanes_clashed hash text x order earlier later spells h law
 over_cause hash text x order error.BadCommittee spells h law = absurd h
 over_cause hash text x order error.TooManyFaulty spells h law = absurd h
 over_cause hash text x order (error.Syntax line) spells h law = absurd h
@@ -121,23 +161,34 @@ turns_over : (t : Turning) (e : RunError) → t.stopped ≡ Some e → turns_lef
 turns_over t e is = ap (λ (o : Option RunError). option_map_or (λ e. 0) o (1 + lines_left t)) is
 
 -- fewer behind each turn
-pub fewer_turns : (hash : List ℕ → Digest32) (old new : Turning) (k : ℕ) (reply : Result (Option Entry) RunError) → IsTurnOf hash old k reply new → old.stopped ≡ None → 0 < length (lane_at (left (lanes old.laned) old.order) k)
+pub fewer_turns : (hash : List ℕ → Digest32) (old new : Turning) (k : ℕ)
+    (reply : Result (Option Entry) RunError)
+    → IsTurnOf hash old k reply new → old.stopped ≡ None
+    → 0 < length (lane_at (left (lanes old.laned) old.order) k)
     → turns_left new < turns_left old
-fewer_turns hash old new k reply turn none some = go reply (subst (λ (o : Option RunError). IsTurnBy hash old k reply new o) none turn.1)
+fewer_turns hash old new k reply turn none some =
+    go reply (subst (λ (o : Option RunError). IsTurnBy hash old k reply new o) none turn.1)
   where
     before : turns_left old ≡ 1 + lines_left old
     before = turns_going old none
 
-    go : (reply : Result (Option Entry) RunError) → IsTurnBy hash old k reply new None → turns_left new < turns_left old
+    go : (reply : Result (Option Entry) RunError) → IsTurnBy hash old k reply new None
+        → turns_left new < turns_left old
     go (Ok (Some entry)) h =
         let now : turns_left new ≡ 1 + lines_left new = turns_going new h.2 in
-        let rest : left (lanes new.laned) new.order ≡ without_next (left (lanes old.laned) old.order) k =
-        ap (λ (x : Laned). left (lanes x) new.order) turn.0 ∙ ap (λ (o : List ℕ). left (lanes old.laned) o) h.1 ∙ left_more (lanes old.laned) old.order k
+        let rest : left (lanes new.laned) new.order
+        ≡ without_next (left (lanes old.laned) old.order) k =
+        ap (λ (x : Laned). left (lanes x) new.order) turn.0
+        ∙ ap (λ (o : List ℕ). left (lanes old.laned) o) h.1
+        ∙ left_more (lanes old.laned) old.order k
         in
-        let many : lines_left new ≡ length (flat_map (λ lane. lane) (without_next (left (lanes old.laned) old.order) k)) = ap (λ (l : List (List (ℕ × Line))). length (flat_map (λ lane. lane) l)) rest in
+        let many : lines_left new
+        ≡ length (flat_map (λ lane. lane) (without_next (left (lanes old.laned) old.order) k)) =
+        ap (λ (l : List (List (ℕ × Line))). length (flat_map (λ lane. lane) l)) rest in
         let fewer = fewer_left (left (lanes old.laned) old.order) k some in
         omega (arith, before, now, many, fewer)
     go (Ok None) h =
-        let zero_left : length (lane_at (left (lanes old.laned) old.order) k) ≡ 0 = ap (λ (l : List (ℕ × Line)). length l) h.1 in
+        let zero_left : length (lane_at (left (lanes old.laned) old.order) k) ≡ 0 =
+        ap (λ (l : List (ℕ × Line)). length l) h.1 in
         absurd (omega (arith, zero_left, some))
     go (Err e) h = let now : turns_left new ≡ 0 = turns_over new e h.0 in omega (arith, before, now)

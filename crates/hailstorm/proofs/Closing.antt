@@ -21,22 +21,27 @@ there os = filter_map (λ o. o) os
 
 -- what is handed back of places is that of the members who are there
 abbrev pub ClosedSo : List (Place Seat) → List (List ℕ) → List (Option Seat) → Type 0
-ClosedSo ps disks nodes = (r : Rules) (os : List (Option Member)) → WorkBy r 0 ps → SitAs ps os → HoldNotes (filter_map (λ o. o) os) disks × AreNodesOf (filter_map (λ o. o) os) nodes
+ClosedSo ps disks nodes =
+    (r : Rules) (os : List (Option Member)) → WorkBy r 0 ps → SitAs ps os
+    → HoldNotes (filter_map (λ o. o) os) disks × AreNodesOf (filter_map (λ o. o) os) nodes
 
-hold_push : (ms : List Member) (ds : List (List ℕ)) (m : Member) (d : List ℕ) → HoldNotes ms ds → FindsNotes m.frames d → HoldNotes (ms ++ m ∷ []) (ds ++ d ∷ [])
+hold_push : (ms : List Member) (ds : List (List ℕ)) (m : Member) (d : List ℕ) → HoldNotes ms ds
+    → FindsNotes m.frames d → HoldNotes (ms ++ m ∷ []) (ds ++ d ∷ [])
 hold_push [] [] m d h e = (e, tt)
 hold_push [] (x ∷ ds) m d h e = absurd h
 hold_push (y ∷ ms) [] m d h e = absurd h
 hold_push (y ∷ ms) (x ∷ ds) m d h e = (h.0, hold_push ms ds m d h.1 e)
 
-node_push : (ms : List Member) (ns : List (Option Seat)) (m : Member) (n : Option Seat) → AreNodesOf ms ns → IsLiveAs m n → AreNodesOf (ms ++ m ∷ []) (ns ++ n ∷ [])
+node_push : (ms : List Member) (ns : List (Option Seat)) (m : Member) (n : Option Seat)
+    → AreNodesOf ms ns → IsLiveAs m n → AreNodesOf (ms ++ m ∷ []) (ns ++ n ∷ [])
 node_push [] [] m n h e = (e, tt)
 node_push [] (x ∷ ns) m n h e = absurd h
 node_push (y ∷ ms) [] m n h e = absurd h
 node_push (y ∷ ms) (x ∷ ns) m n h e = (h.0, node_push ms ns m n h.1 e)
 
 -- the last place and the others
-record Split (r : Rules) (k : ℕ) (ps : List (Place Seat)) (p : Place Seat) (os : List (Option Member)) : Type 0 where
+record Split (r : Rules) (k : ℕ) (ps : List (Place Seat)) (p : Place Seat)
+    (os : List (Option Member)) : Type 0 where
   front : List (Option Member)
   last : Option Member
   whole : os ≡ front ++ last ∷ []
@@ -46,33 +51,74 @@ record Split (r : Rules) (k : ℕ) (ps : List (Place Seat)) (p : Place Seat) (os
   sound : WorksBy r place p
   member : SitsAs p last
 
-split : (r : Rules) (k : ℕ) (ps : List (Place Seat)) (p : Place Seat) (os : List (Option Member)) → WorkBy r k (ps ++ p ∷ []) → SitAs (ps ++ p ∷ []) os → Split r k ps p os
+split : (r : Rules) (k : ℕ) (ps : List (Place Seat)) (p : Place Seat) (os : List (Option Member))
+    → WorkBy r k (ps ++ p ∷ []) → SitAs (ps ++ p ∷ []) os → Split r k ps p os
 split r k [] p [] s h = absurd h
-split r k [] p (o ∷ []) s h = record { front = []; last = o; whole = refl; sounds = tt; members = tt; place = k; sound = s.0; member = h.0 }
+split r k [] p (o ∷ []) s h =
+    record {
+      front = [];
+      last = o;
+      whole = refl;
+      sounds = tt;
+      members = tt;
+      place = k;
+      sound = s.0;
+      member = h.0;
+    }
 split r k [] p (o ∷ x ∷ os) s h = absurd h.1
 split r k (q ∷ ps) p [] s h = absurd h
 split r k (q ∷ ps) p (o ∷ os) s h =
     let more = split r (k + 1) ps p os s.1 h.1 in
-    record { front = o ∷ more.front; last = more.last; whole = ap (λ (l : List (Option Member)). o ∷ l) more.whole; sounds = (s.0, more.sounds); members = (h.0, more.members); place = more.place; sound = more.sound; member = more.member }
+    record {
+      front = o ∷ more.front;
+      last = more.last;
+      whole = ap (λ (l : List (Option Member)). o ∷ l) more.whole;
+      sounds = (s.0, more.sounds);
+      members = (h.0, more.members);
+      place = more.place;
+      sound = more.sound;
+      member = more.member;
+    }
 
 -- what is handed back of one place
-one : (r : Rules) (i : ℕ) (p : Place Seat) (o : Option Member) (closed : Option (List ℕ × Option Seat)) (ms : List Member) (ds : List (List ℕ)) (ns : List (Option Seat)) → WorksBy r i p → SitsAs p o → HandsBack p closed → HoldNotes ms ds → AreNodesOf ms ns
-    → HoldNotes (ms ++ there (o ∷ [])) (ds ++ map (λ c. c.0) (some_of closed)) × AreNodesOf (ms ++ there (o ∷ [])) (ns ++ map (λ c. c.1) (some_of closed))
-one r i place.Faulty None closed ms ds ns s m c h n = rw (c, append-nil ms, append-nil ds, append-nil ns) (h, n)
+one : (r : Rules) (i : ℕ) (p : Place Seat) (o : Option Member)
+    (closed : Option (List ℕ × Option Seat)) (ms : List Member) (ds : List (List ℕ))
+    (ns : List (Option Seat))
+    → WorksBy r i p → SitsAs p o → HandsBack p closed → HoldNotes ms ds → AreNodesOf ms ns
+    → HoldNotes (ms ++ there (o ∷ [])) (ds ++ map (λ c. c.0) (some_of closed))
+    × AreNodesOf (ms ++ there (o ∷ [])) (ns ++ map (λ c. c.1) (some_of closed))
+one r i place.Faulty None closed ms ds ns s m c h n =
+    rw (c, append-nil ms, append-nil ds, append-nil ns) (h, n)
 one r i place.Faulty (Some x) closed ms ds ns s m c h n = absurd m
 one r i (place.Live q) None closed ms ds ns s m c h n = absurd m
 one r i (place.Live q) (Some x) closed ms ds ns s m c h n =
     let works = s.2 in
-    let held : FindsNotes x.frames (memory_state q.log.disk).now.seen = subst (λ (y : Member). FindsNotes y.frames (memory_state q.log.disk).now.seen) m (at_work q works) in
-    rw c (hold_push ms ds x (memory_state q.log.disk).now.seen h held, node_push ms ns x (Some q) n (ap (λ (y : Member). y.live) (sym m) ∙ works.live, m))
+    let held : FindsNotes x.frames (memory_state q.log.disk).now.seen =
+    subst (λ (y : Member). FindsNotes y.frames (memory_state q.log.disk).now.seen) m
+    (at_work q works) in
+    rw c (
+      hold_push ms ds x (memory_state q.log.disk).now.seen h held,
+      node_push ms ns x (Some q) n (ap (λ (y : Member). y.live) (sym m) ∙ works.live, m),
+    )
 one r i (place.Stopped disk notes) None closed ms ds ns s m c h n = absurd m
 one r i (place.Stopped disk notes) (Some x) closed ms ds ns s m c h n =
     rw c (hold_push ms ds x (memory_state disk).now.seen h m.1, node_push ms ns x None n m.0)
 
-pub closed_more : (ps : List (Place Seat)) (p : Place Seat) (closed : Option (List ℕ × Option Seat)) (ds es : List (List ℕ)) (ns ms : List (Option Seat)) → ClosedSo ps ds ns → HandsBack p closed
-    → es ≡ ds ++ map (λ c. c.0) (some_of closed) → ms ≡ ns ++ map (λ c. c.1) (some_of closed) → ClosedSo (ps ++ p ∷ []) es ms
+pub closed_more : (ps : List (Place Seat)) (p : Place Seat) (closed : Option (List ℕ × Option Seat))
+    (ds es : List (List ℕ)) (ns ms : List (Option Seat))
+    → ClosedSo ps ds ns → HandsBack p closed
+    → es ≡ ds ++ map (λ c. c.0) (some_of closed) → ms ≡ ns ++ map (λ c. c.1) (some_of closed)
+    → ClosedSo (ps ++ p ∷ []) es ms
 closed_more ps p closed ds es ns ms inv c a b r os s h =
     let parts = split r 0 ps p os s h in
     let before = inv r parts.front parts.sounds parts.members in
-    let done = one r parts.place p parts.last closed (there parts.front) ds ns parts.sound parts.member c before.0 before.1 in
-    rw (a, b, parts.whole, filter_map-append (λ (o : Option Member). o) parts.front (parts.last ∷ [])) done
+    let done =
+    one r parts.place p parts.last closed (there parts.front) ds ns parts.sound parts.member c
+    before.0 before.1 in
+    rw (
+      a,
+      b,
+      parts.whole,
+      filter_map-append (λ (o : Option Member). o) parts.front (parts.last ∷ []),
+    )
+    done

@@ -39,11 +39,14 @@ pub lines_joined : (a b : List (ℕ × Line)) → lines_of (a ++ b) ≡ lines_of
 lines_joined [] b = refl
 lines_joined (row ∷ a) b = ap (λ (l : List Line). row.1 ∷ l) (lines_joined a b)
 
-any_lines : (f : Line → Bool) (a : List (ℕ × Line)) → list_any f (lines_of a) ≡ list_any (λ (row : ℕ × Line). f row.1) a
+any_lines : (f : Line → Bool) (a : List (ℕ × Line))
+    → list_any f (lines_of a) ≡ list_any (λ (row : ℕ × Line). f row.1) a
 any_lines f [] = refl
 any_lines f (row ∷ a) = ap (λ (b : Bool). f row.1 || b) (any_lines f a)
 
-head_rest : {X : Type 0} (runs : List (List X)) → option_map_or (λ run. run) (slice_get runs 0) [] ++ flat_map (λ lane. lane) (drop 1 runs) ≡ flat_map (λ run. run) runs
+head_rest : {X : Type 0} (runs : List (List X))
+    → option_map_or (λ run. run) (slice_get runs 0) [] ++ flat_map (λ lane. lane) (drop 1 runs)
+    ≡ flat_map (λ run. run) runs
 head_rest [] = refl
 head_rest (run ∷ runs) = refl
 
@@ -56,88 +59,149 @@ all_lines x = rows_lines x.numbers 0 x.script.lines
 pub count_rows : (x : Laned) → length (rows x) ≡ length x.script.lines
 count_rows x = rows_count x.numbers 0 x.script.lines
 
-pub row_at : (x : Laned) (i : ℕ) (line : Line) → slice_get x.script.lines i ≡ Some line → slice_get (rows x) i ≡ Some (slice_index x.numbers i, line)
+pub row_at : (x : Laned) (i : ℕ) (line : Line) → slice_get x.script.lines i ≡ Some line
+    → slice_get (rows x) i ≡ Some (slice_index x.numbers i, line)
 row_at x i line e =
     let none : 0 + i ≡ i = omega arith in
-    rows_get x.numbers 0 x.script.lines i line e ∙ ap (λ (n : ℕ). let o : Option (ℕ × Line) = Some (slice_index x.numbers n, line) in o) none
+    rows_get x.numbers 0 x.script.lines i line e
+    ∙ ap (λ (n : ℕ). let o : Option (ℕ × Line) = Some (slice_index x.numbers n, line) in o) none
 
 -- whatever is asked of the lines
-same_any : (x : Laned) (order : List ℕ) (f : Line → Bool) → list_any f x.script.lines ≡ list_any f (lines_of (whole x order))
+same_any : (x : Laned) (order : List ℕ) (f : Line → Bool)
+    → list_any f x.script.lines ≡ list_any f (lines_of (whole x order))
 same_any x order f =
     let g : ℕ × Line → Bool = λ (row : ℕ × Line). f row.1 in
     let rest = flat_map (λ lane. lane) (left (lanes x) order) in
-    ap (λ (l : List Line). list_any f l) (sym (all_lines x)) ∙ any_lines f (rows x) ∙ ap (λ (l : List (ℕ × Line)). list_any g l) (sym (parts x))
+    ap (λ (l : List Line). list_any f l) (sym (all_lines x)) ∙ any_lines f (rows x)
+    ∙ ap (λ (l : List (ℕ × Line)). list_any g l) (sym (parts x))
     ∙ list_any-append g (prefix x) (flat_map (λ lane. lane) (lanes x))
     ∙ ap (λ (b : Bool). list_any g (prefix x) || b) (sym (merged_any g (lanes x) order))
     ∙ sym (list_any-append g (prefix x) (merged (lanes x) order ++ rest))
-    ∙ ap (λ (l : List (ℕ × Line)). list_any g l) (sym (append_assoc (prefix x) (merged (lanes x) order) rest))
+    ∙ ap (λ (l : List (ℕ × Line)). list_any g l)
+    (sym (append_assoc (prefix x) (merged (lanes x) order) rest))
     ∙ sym (any_lines f (whole x order))
 
-pub same_faults : (x : Laned) (order : List ℕ) → (let p : ℕ → Bool = λ i. list_any (faults i) x.script.lines in p) ≡ (λ i. list_any (faults i) (lines_of (whole x order)))
+pub same_faults : (x : Laned) (order : List ℕ)
+    → (let p : ℕ → Bool = λ i. list_any (faults i) x.script.lines in p)
+    ≡ (λ i. list_any (faults i) (lines_of (whole x order)))
 same_faults x order = fun_ext (λ i. same_any x order (faults i))
 
-pub same_cluster : (r : Rules) (a b : List Line) → (let p : ℕ → Bool = λ i. list_any (faults i) a in p) ≡ (λ i. list_any (faults i) b) → IsCluster r a → IsCluster r b
+pub same_cluster : (r : Rules) (a b : List Line)
+    → (let p : ℕ → Bool = λ i. list_any (faults i) a in p) ≡ (λ i. list_any (faults i) b)
+    → IsCluster r a → IsCluster r b
 same_cluster r a b same c = record {
   enough = c.enough;
   rising = c.rising;
   there = c.there;
-  few = λ epoch. subst (λ (p : ℕ → Bool). count_by p (members_in r.epochs epoch) ≤ max_faults (size r.epochs epoch)) same (c.few epoch);
+  few =
+      λ epoch. subst
+      (λ (p : ℕ → Bool). count_by p (members_in r.epochs epoch)
+      ≤ max_faults (size r.epochs epoch))
+      same (c.few epoch);
   spans = c.spans;
 }
 
-pub same_opening : (r : Rules) (a b : List Line) → (let p : ℕ → Bool = λ i. list_any (faults i) a in p) ≡ (λ i. list_any (faults i) b) → opening r a ≡ opening r b
-same_opening r a b same = ap (λ (p : ℕ → Bool). let w : World = record { members = map (λ i. cond (p i) None (Some (start r i []).member)) (range_with_len 0 r.epochs.total); pool = [] } in w) same
+pub same_opening : (r : Rules) (a b : List Line)
+    → (let p : ℕ → Bool = λ i. list_any (faults i) a in p) ≡ (λ i. list_any (faults i) b)
+    → opening r a ≡ opening r b
+same_opening r a b same =
+    ap
+    (λ (p : ℕ → Bool). let w : World = record {
+      members =
+          map (λ i. cond (p i) None (Some (start r i []).member))
+          (range_with_len 0 r.epochs.total);
+      pool = [];
+    } in w)
+    same
 
-pub same_entries : (r : Rules) (a b : List Line) → (let p : ℕ → Bool = λ i. list_any (faults i) a in p) ≡ (λ i. list_any (faults i) b) → opening_entries r a ≡ opening_entries r b
+pub same_entries : (r : Rules) (a b : List Line)
+    → (let p : ℕ → Bool = λ i. list_any (faults i) a in p) ≡ (λ i. list_any (faults i) b)
+    → opening_entries r a ≡ opening_entries r b
 same_entries r a b same =
-    ap (λ (p : ℕ → Bool). filter_map (λ i. let o : Option Entry = cond (p i) None (Some (record { line = 0; member = Some i; found = None; sent = []; handed = (start r i []).handed })) in o) (range_with_len 0 r.epochs.total)) same
+    ap
+    (λ (p : ℕ → Bool). filter_map
+    (λ i. let o : Option Entry = cond (p i) None (Some (record {
+      line = 0;
+      member = Some i;
+      found = None;
+      sent = [];
+      handed = (start r i []).handed;
+    })) in o)
+    (range_with_len 0 r.epochs.total))
+    same
 
 -- ---- a turn
 
 module _ (x : Laned) (order : List ℕ) (cursors : List (ℕ × ℕ)) (k from end : ℕ) (line : Line)
-    (rest : left (lanes x) order ≡ map (between (rows x)) cursors) (at : slice_get cursors k ≡ Some (from, end)) (lt : from < end) (there : slice_get x.script.lines from ≡ Some line) where
+    (rest : left (lanes x) order ≡ map (between (rows x)) cursors)
+    (at : slice_get cursors k ≡ Some (from, end)) (lt : from < end)
+    (there : slice_get x.script.lines from ≡ Some line) where
   row : ℕ × Line
   row = (slice_index x.numbers from, line)
 
-  pub had : lane_at (left (lanes x) order) k ≡ (slice_index x.numbers from, line) ∷ between (rows x) (from + 1, end)
+  pub had : lane_at (left (lanes x) order) k
+      ≡ (slice_index x.numbers from, line) ∷ between (rows x) (from + 1, end)
   had =
-      ap (λ (l : List (List (ℕ × Line))). lane_at l k) rest ∙ cursor_lane (rows x) cursors k (from, end) at
-      ∙ between_next (rows x) from end (slice_index x.numbers from, line) lt (row_at x from line there)
+      ap (λ (l : List (List (ℕ × Line))). lane_at l k) rest
+      ∙ cursor_lane (rows x) cursors k (from, end) at
+      ∙ between_next (rows x) from end (slice_index x.numbers from, line) lt
+      (row_at x from line there)
 
   pub next_row : take 1 (lane_at (left (lanes x) order) k) ≡ (slice_index x.numbers from, line) ∷ []
   next_row = ap (λ (l : List (ℕ × Line)). take 1 l) had
 
-  pub played_more : played x (order ++ k ∷ []) ≡ played x order ++ (slice_index x.numbers from, line) ∷ []
+  pub played_more : played x (order ++ k ∷ [])
+      ≡ played x order ++ (slice_index x.numbers from, line) ∷ []
   played_more =
-      ap (λ (l : List (ℕ × Line)). prefix x ++ l) (merged_more (lanes x) order k ∙ ap (λ (l : List (ℕ × Line)). merged (lanes x) order ++ l) next_row)
-      ∙ sym (append_assoc (prefix x) (merged (lanes x) order) ((slice_index x.numbers from, line) ∷ []))
+      ap (λ (l : List (ℕ × Line)). prefix x ++ l)
+      (merged_more (lanes x) order k
+      ∙ ap (λ (l : List (ℕ × Line)). merged (lanes x) order ++ l) next_row)
+      ∙ sym
+      (append_assoc (prefix x) (merged (lanes x) order)
+      ((slice_index x.numbers from, line) ∷ []))
 
-  pub rest_more : left (lanes x) (order ++ k ∷ []) ≡ map (between (rows x)) (slice_set cursors k (from + 1, end))
+  pub rest_more : left (lanes x) (order ++ k ∷ [])
+      ≡ map (between (rows x)) (slice_set cursors k (from + 1, end))
   rest_more =
       left_more (lanes x) order k
       ∙ ap (λ (l : List (List (ℕ × Line))). slice_set l k (drop 1 (lane_at l k))) rest
-      ∙ cursor_next (rows x) cursors k from end (slice_index x.numbers from, line) at lt (row_at x from line there)
+      ∙ cursor_next (rows x) cursors k from end (slice_index x.numbers from, line) at lt
+      (row_at x from line there)
 
   pub lines_then : lines_of (played x (order ++ k ∷ [])) ≡ lines_of (played x order) ++ line ∷ []
-  lines_then = ap (λ (l : List (ℕ × Line)). lines_of l) played_more ∙ lines_more (played x order) (slice_index x.numbers from) line
+  lines_then =
+      ap (λ (l : List (ℕ × Line)). lines_of l) played_more
+      ∙ lines_more (played x order) (slice_index x.numbers from) line
 
   -- the lines so far and this one begin a script of the cluster
-  pub begins : (r : Rules) → IsCluster r x.script.lines → Begin r (opening r x.script.lines) (lines_of (played x order) ++ line ∷ [])
+  pub begins : (r : Rules) → IsCluster r x.script.lines
+      → Begin r (opening r x.script.lines) (lines_of (played x order) ++ line ∷ [])
   begins r cluster =
       let all = lines_of (whole x (order ++ k ∷ [])) in
       let behind = lines_of (flat_map (λ lane. lane) (left (lanes x) (order ++ k ∷ []))) in
       let same : all ≡ (lines_of (played x order) ++ line ∷ []) ++ behind =
-      lines_joined (played x (order ++ k ∷ [])) (flat_map (λ lane. lane) (left (lanes x) (order ++ k ∷ []))) ∙ ap (λ (l : List Line). l ++ behind) lines_then
+      lines_joined (played x (order ++ k ∷ []))
+      (flat_map (λ lane. lane) (left (lanes x) (order ++ k ∷ [])))
+      ∙ ap (λ (l : List Line). l ++ behind) lines_then
       in
       record {
         rest = behind;
-        cluster = subst (λ (l : List Line). IsCluster r l) same (same_cluster r x.script.lines all (same_faults x (order ++ k ∷ [])) cluster);
-        opens = same_opening r x.script.lines all (same_faults x (order ++ k ∷ [])) ∙ ap (λ (l : List Line). opening r l) same;
+        cluster =
+            subst (λ (l : List Line). IsCluster r l) same
+            (same_cluster r x.script.lines all (same_faults x (order ++ k ∷ [])) cluster);
+        opens =
+            same_opening r x.script.lines all (same_faults x (order ++ k ∷ []))
+            ∙ ap (λ (l : List Line). opening r l) same;
       }
 
-  pub turns_then : ((j : ℕ) → turns_of j order + length (lane_at (left (lanes x) order) j) ≡ length (lane_at (lanes x) j))
-      → (j : ℕ) → turns_of j (order ++ k ∷ []) + length (lane_at (left (lanes x) (order ++ k ∷ [])) j) ≡ length (lane_at (lanes x) j)
-  turns_then all = turns_next (lanes x) order k (slice_index x.numbers from, line) (between (rows x) (from + 1, end)) had all
+  pub turns_then : ((j : ℕ)
+      → turns_of j order + length (lane_at (left (lanes x) order) j) ≡ length (lane_at (lanes x) j))
+      → (j : ℕ)
+      → turns_of j (order ++ k ∷ []) + length (lane_at (left (lanes x) (order ++ k ∷ [])) j)
+      ≡ length (lane_at (lanes x) j)
+  turns_then all =
+      turns_next (lanes x) order k (slice_index x.numbers from, line)
+      (between (rows x) (from + 1, end)) had all
 
 length_one : (order : List ℕ) (k : ℕ) → length (order ++ k ∷ []) - 1 ≡ length order
 length_one order k = let e = length-append order (k ∷ []) in omega (arith, e)
@@ -147,21 +211,32 @@ front_of [] more = refl
 front_of (j ∷ order) more = ap (λ (l : List ℕ). j ∷ l) (front_of order more)
 
 pub but_last_more : (order : List ℕ) (k : ℕ) → but_last (order ++ k ∷ []) ≡ order
-but_last_more order k = ap (λ (n : ℕ). take n (order ++ k ∷ [])) (length_one order k) ∙ front_of order (k ∷ [])
+but_last_more order k =
+    ap (λ (n : ℕ). take n (order ++ k ∷ [])) (length_one order k) ∙ front_of order (k ∷ [])
 
 -- why a turn was the last
-pub is_over : (hash : List ℕ → Digest32) (x : Laned) (order : List ℕ) (k : ℕ) (line : Line) (e : RunError)
+pub is_over : (hash : List ℕ → Digest32) (x : Laned) (order : List ℕ) (k : ℕ) (line : Line)
+    (e : RunError)
     → lines_of (played x (order ++ k ∷ [])) ≡ lines_of (played x order) ++ line ∷ []
-    → outcome (rules_of hash x.script) (opened hash x.script) (lines_of (played x order)) ≡ Ends (run (rules_of hash x.script) (opened hash x.script) (lines_of (played x order)))
-    → ((j : ℕ) → turns_of j (order ++ k ∷ []) + length (lane_at (left (lanes x) (order ++ k ∷ [])) j) ≡ length (lane_at (lanes x) j))
-    → IsStopped (rules_of hash x.script) (opened hash x.script) (lines_of (played x order) ++ line ∷ []) e → IsOver hash x (order ++ k ∷ []) e
+    → outcome (rules_of hash x.script) (opened hash x.script) (lines_of (played x order))
+    ≡ Ends (run (rules_of hash x.script) (opened hash x.script) (lines_of (played x order)))
+    → ((j : ℕ)
+    → turns_of j (order ++ k ∷ []) + length (lane_at (left (lanes x) (order ++ k ∷ [])) j)
+    ≡ length (lane_at (lanes x) j))
+    → IsStopped (rules_of hash x.script) (opened hash x.script)
+    (lines_of (played x order) ++ line ∷ []) e
+    → IsOver hash x (order ++ k ∷ []) e
 is_over hash x order k line error.NoMemory lines ends turns h = tt
 is_over hash x order k line (error.HashClash earlier later) lines ends turns h =
     let r = rules_of hash x.script in
     let w = opened hash x.script in
     record {
       ends = ap (λ (l : List Line). outcome r w l) lines ∙ h;
-      before = subst (λ (o : List ℕ). outcome r w (lines_of (played x o)) ≡ Ends (run r w (lines_of (played x o)))) (sym (but_last_more order k)) ends;
+      before =
+          subst
+          (λ (o : List ℕ). outcome r w (lines_of (played x o))
+          ≡ Ends (run r w (lines_of (played x o))))
+          (sym (but_last_more order k)) ends;
       turns = λ j. let e = turns j in omega (arith, e);
     }
 is_over hash x order k line error.BadCommittee lines ends turns h = absurd h
@@ -172,15 +247,22 @@ is_over hash x order k line (error.OversizeBlock l) lines ends turns h = absurd 
 
 -- ---- the report
 
-plain_entries : (r : Rules) (w : World) (at : ℕ) (a : List (ℕ × Line)) → renumbered at (entries_of r w a) ≡ entries_from r w at (lines_of a)
+plain_entries : (r : Rules) (w : World) (at : ℕ) (a : List (ℕ × Line))
+    → renumbered at (entries_of r w a) ≡ entries_from r w at (lines_of a)
 plain_entries r w at [] = refl
-plain_entries r w at (row ∷ a) = ap (λ (l : List Entry). entry_of r w at row.1 ∷ l) (plain_entries r (happens r w row.1) (at + 1) a)
+plain_entries r w at (row ∷ a) =
+    ap (λ (l : List Entry). entry_of r w at row.1 ∷ l)
+    (plain_entries r (happens r w row.1) (at + 1) a)
 
-same_handed : (r : Rules) (w : World) (at : ℕ) (a : List (ℕ × Line)) → flat_map (λ (e : Entry). e.handed) (entries_of r w a) ≡ flat_map (λ (e : Entry). e.handed) (entries_from r w at (lines_of a))
+same_handed : (r : Rules) (w : World) (at : ℕ) (a : List (ℕ × Line))
+    → flat_map (λ (e : Entry). e.handed) (entries_of r w a)
+    ≡ flat_map (λ (e : Entry). e.handed) (entries_from r w at (lines_of a))
 same_handed r w at [] = refl
-same_handed r w at (row ∷ a) = ap (λ l. (entry_of r w at row.1).handed ++ l) (same_handed r (happens r w row.1) (at + 1) a)
+same_handed r w at (row ∷ a) =
+    ap (λ l. (entry_of r w at row.1).handed ++ l) (same_handed r (happens r w row.1) (at + 1) a)
 
-numbers_of : (r : Rules) (w : World) (a : List (ℕ × Line)) → map (λ (e : Entry). e.line) (entries_of r w a) ≡ map (λ (row : ℕ × Line). row.0) a
+numbers_of : (r : Rules) (w : World) (a : List (ℕ × Line))
+    → map (λ (e : Entry). e.line) (entries_of r w a) ≡ map (λ (row : ℕ × Line). row.0) a
 numbers_of r w [] = refl
 numbers_of r w (row ∷ a) = ap (λ (l : List ℕ). row.0 ∷ l) (numbers_of r (happens r w row.1) a)
 
@@ -189,91 +271,153 @@ count_entries r w [] = refl
 count_entries r w (row ∷ a) = ap suc (count_entries r (happens r w row.1) a)
 
 -- where nothing is left, the lines in their order are all lines
-nothing_left : (x : Laned) (order : List ℕ) → flat_map (λ lane. lane) (left (lanes x) order) ≡ [] → whole x order ≡ played x order
-nothing_left x order none = ap (λ (l : List (ℕ × Line)). played x order ++ l) none ∙ append-nil (played x order)
+nothing_left : (x : Laned) (order : List ℕ) → flat_map (λ lane. lane) (left (lanes x) order) ≡ []
+    → whole x order ≡ played x order
+nothing_left x order none =
+    ap (λ (l : List (ℕ × Line)). played x order ++ l) none ∙ append-nil (played x order)
 
-count_played : (x : Laned) (order : List ℕ) → flat_map (λ lane. lane) (left (lanes x) order) ≡ [] → length (played x order) ≡ length x.script.lines
+count_played : (x : Laned) (order : List ℕ) → flat_map (λ lane. lane) (left (lanes x) order) ≡ []
+    → length (played x order) ≡ length x.script.lines
 count_played x order none =
-    let lost : length (flat_map (λ lane. lane) (left (lanes x) order)) ≡ 0 = ap (λ (l : List (ℕ × Line)). length l) none in
+    let lost : length (flat_map (λ lane. lane) (left (lanes x) order)) ≡ 0 =
+    ap (λ (l : List (ℕ × Line)). length l) none in
     let many = merged_length (lanes x) order in
     let both = length-append (prefix x) (merged (lanes x) order) in
     let all = length-append (prefix x) (flat_map (λ lane. lane) (lanes x)) in
-    let same : length (prefix x ++ flat_map (λ lane. lane) (lanes x)) ≡ length (rows x) = ap (λ (l : List (ℕ × Line)). length l) (parts x) in
+    let same : length (prefix x ++ flat_map (λ lane. lane) (lanes x)) ≡ length (rows x) =
+    ap (λ (l : List (ℕ × Line)). length l) (parts x) in
     let rows_are = count_rows x in
     omega (arith, lost, many, both, all, same, rows_are)
 
-pub lanes_reported : {H : Type 0} (hash : List ℕ → Digest32) (text : List ℕ) (x : Laned) (order : List ℕ) (opens steps : List Entry) (cursors : List (ℕ × ℕ)) (places : List (Place Seat)) (faulty : List Bool) (report : Report H)
-    → laned_of text ≡ Ok x → IsBetween hash x order cursors steps places faulty → opens ≡ opening_entries (rules_of hash x.script) x.script.lines
+pub lanes_reported : {H : Type 0} (hash : List ℕ → Digest32) (text : List ℕ) (x : Laned)
+    (order : List ℕ) (opens steps : List Entry) (cursors : List (ℕ × ℕ))
+    (places : List (Place Seat)) (faulty : List Bool) (report : Report H)
+    → laned_of text ≡ Ok x → IsBetween hash x order cursors steps places faulty
+    → opens ≡ opening_entries (rules_of hash x.script) x.script.lines
     → flat_map (λ lane. lane) (left (lanes x) order) ≡ []
-    → IsReportOf (rules_of hash x.script) (run (rules_of hash x.script) (opened hash x.script) (lines_of (played x order))) opens steps report
+    → IsReportOf (rules_of hash x.script)
+    (run (rules_of hash x.script) (opened hash x.script) (lines_of (played x order))) opens
+    steps report
     → IsCluster (rules_of hash x.script) x.script.lines → 0 < x.script.backlog
-    → ((r : Rules) (script : List Line) (w : World) → IsCluster r script → 0 < r.backlog → outcome r (opening r script) script ≡ Ends w → IsReported r w (handed_in r script) (report_of r script w).chain)
+    → ((r : Rules) (script : List Line) (w : World) → IsCluster r script → 0 < r.backlog
+    → outcome r (opening r script) script ≡ Ends w
+    → IsReported r w (handed_in r script) (report_of r script w).chain)
     → IsLanesReport hash text order report
-lanes_reported hash text x order opens steps cursors places faulty report spells h begun none told cluster some law =
+lanes_reported hash text x order opens steps cursors places faulty report spells h begun none told
+    cluster some law =
     let r = rules_of hash x.script in
     let w = opened hash x.script in
     let lines = lines_of (played x order) in
-    let same : (let p : ℕ → Bool = λ i. list_any (faults i) x.script.lines in p) ≡ (λ i. list_any (faults i) lines) =
-    subst (λ (l : List (ℕ × Line)). (let p : ℕ → Bool = λ i. list_any (faults i) x.script.lines in p) ≡ (λ i. list_any (faults i) (lines_of l))) (nothing_left x order none) (same_faults x order)
+    let same : (let p : ℕ → Bool = λ i. list_any (faults i) x.script.lines in p)
+    ≡ (λ i. list_any (faults i) lines) =
+    subst
+    (λ (l : List (ℕ × Line)). (let p : ℕ → Bool = λ i. list_any (faults i) x.script.lines in p)
+    ≡ (λ i. list_any (faults i) (lines_of l)))
+    (nothing_left x order none) (same_faults x order)
     in
     let same_world : w ≡ opening r lines = same_opening r x.script.lines lines same in
     let world = run r w lines in
-    let ends : outcome r (opening r lines) lines ≡ Ends world = subst (λ (v : World). outcome r v lines ≡ Ends world) same_world h.played.ends in
-    let entries : report.steps ≡ entries_of r w (played x order) = told.steps_are ∙ h.played.entries in
-    let starts : report.opening ≡ opening_entries r lines = told.opening_is ∙ begun ∙ same_entries r x.script.lines lines same in
-    let plain : renumbered (first_line r) report.steps ≡ entries_from r (opening r lines) (first_line r) lines =
-    ap (λ (l : List Entry). renumbered (first_line r) l) entries ∙ plain_entries r w (first_line r) (played x order)
+    let ends : outcome r (opening r lines) lines ≡ Ends world =
+    subst (λ (v : World). outcome r v lines ≡ Ends world) same_world h.played.ends in
+    let entries : report.steps ≡ entries_of r w (played x order) =
+    told.steps_are ∙ h.played.entries in
+    let starts : report.opening ≡ opening_entries r lines =
+    told.opening_is ∙ begun ∙ same_entries r x.script.lines lines same in
+    let plain : renumbered (first_line r) report.steps
+    ≡ entries_from r (opening r lines) (first_line r) lines =
+    ap (λ (l : List Entry). renumbered (first_line r) l) entries
+    ∙ plain_entries r w (first_line r) (played x order)
     ∙ ap (λ (v : World). entries_from r v (first_line r) lines) same_world
     in
     let steps_are : steps ≡ entries_of r w (played x order) = h.played.entries in
     let handed : flat_map (λ (e : Entry). e.handed) (opens ++ steps) ≡ handed_in r lines =
-    joined_handed opens steps ∙ ap (λ l. flat_map (λ (e : Entry). e.handed) l ++ flat_map (λ (e : Entry). e.handed) steps) (begun ∙ same_entries r x.script.lines lines same)
+    joined_handed opens steps
+    ∙ ap (λ l. flat_map (λ (e : Entry). e.handed) l ++ flat_map (λ (e : Entry). e.handed) steps)
+    (begun ∙ same_entries r x.script.lines lines same)
     ∙ ap (λ l. flat_map (λ (e : Entry). e.handed) (opening_entries r lines) ++ l)
-    (ap (λ (l : List Entry). flat_map (λ (e : Entry). e.handed) l) steps_are ∙ same_handed r w (first_line r) (played x order)
-    ∙ ap (λ (v : World). flat_map (λ (e : Entry). e.handed) (entries_from r v (first_line r) lines)) same_world)
-    ∙ sym (joined_handed (opening_entries r lines) (entries_from r (opening r lines) (first_line r) lines))
+    (ap (λ (l : List Entry). flat_map (λ (e : Entry). e.handed) l) steps_are
+    ∙ same_handed r w (first_line r) (played x order)
+    ∙ ap (λ (v : World). flat_map (λ (e : Entry). e.handed) (entries_from r v (first_line r) lines))
+    same_world)
+    ∙ sym
+    (joined_handed (opening_entries r lines)
+    (entries_from r (opening r lines) (first_line r) lines))
     in
-    let chain : report.chain ≡ (report_of r lines world).chain = told.chain ∙ ap (λ l. chain_from r world (highest l)) handed in
+    let chain : report.chain ≡ (report_of r lines world).chain =
+    told.chain ∙ ap (λ l. chain_from r world (highest l)) handed in
     record {
       laned = x;
       in_grammar = spells;
-      once = λ k. let e = h.turns k in let f = all_turned (left (lanes x) order) k (turns_of k order) none in omega (arith, e, f);
-      numbers = ap (λ (l : List Entry). map (λ (e : Entry). e.line) l) entries ∙ numbers_of r w (played x order);
+      once =
+          λ k. let e =
+          h.turns k in let f =
+          all_turned (left (lanes x) order) k (turns_of k order) none in omega (arith, e, f);
+      numbers =
+          ap (λ (l : List Entry). map (λ (e : Entry). e.line) l) entries
+          ∙ numbers_of r w (played x order);
       run = record {
         world = world;
         ends = ends;
-        told = four report.opening (opening_entries r lines) (renumbered (first_line r) report.steps) (entries_from r (opening r lines) (first_line r) lines) report.acked (filter_map acked_at (enumerate_from 0 world.members)) report.chain (report_of r lines world).chain
+        told =
+            four report.opening (opening_entries r lines) (renumbered (first_line r) report.steps)
+            (entries_from r (opening r lines) (first_line r) lines) report.acked
+            (filter_map acked_at (enumerate_from 0 world.members)) report.chain
+            (report_of r lines world).chain
             starts plain told.stands chain;
         disks = told.disks;
         nodes = told.nodes;
       };
-      opened = ap (λ (l : List Entry). map (λ (e : Entry). e.member) l) (told.opening_is ∙ begun) ∙ openers r x.script.lines (range_with_len 0 x.script.committees.total);
-      stepped = ap (λ (l : List Entry). length l) entries ∙ count_entries r w (played x order) ∙ count_played x order none;
-      chain = subst (λ (l : List Block). IsReported r world (handed_in r lines) l) (sym chain) (law r lines world (same_cluster r x.script.lines lines same cluster) some ends);
+      opened =
+          ap (λ (l : List Entry). map (λ (e : Entry). e.member) l) (told.opening_is ∙ begun)
+          ∙ openers r x.script.lines (range_with_len 0 x.script.committees.total);
+      stepped =
+          ap (λ (l : List Entry). length l) entries ∙ count_entries r w (played x order)
+          ∙ count_played x order none;
+      chain =
+          subst (λ (l : List Block). IsReported r world (handed_in r lines) l) (sym chain)
+          (law r lines world (same_cluster r x.script.lines lines same cluster) some ends);
     }
   where
-    joined_handed : (a b : List Entry) → flat_map (λ (e : Entry). e.handed) (a ++ b) ≡ flat_map (λ (e : Entry). e.handed) a ++ flat_map (λ (e : Entry). e.handed) b
+    joined_handed : (a b : List Entry)
+        → flat_map (λ (e : Entry). e.handed) (a ++ b)
+        ≡ flat_map (λ (e : Entry). e.handed) a ++ flat_map (λ (e : Entry). e.handed) b
     joined_handed [] b = refl
-    joined_handed (e ∷ a) b = ap (λ l. e.handed ++ l) (joined_handed a b) ∙ sym (append_assoc e.handed (flat_map (λ (e : Entry). e.handed) a) (flat_map (λ (e : Entry). e.handed) b))
+    joined_handed (e ∷ a) b =
+        ap (λ l. e.handed ++ l) (joined_handed a b)
+        ∙ sym
+        (append_assoc e.handed (flat_map (λ (e : Entry). e.handed) a)
+        (flat_map (λ (e : Entry). e.handed) b))
 
 -- ---- a clash
 
-clash_of_whole : (hash : List ℕ → Digest32) (x : Laned) (order earlier later : List ℕ) → outcome (rules_of hash x.script) (opened hash x.script) (lines_of (played x order)) ≡ Clashes earlier later
-    → ((r : Rules) (script : List Line) (earlier later : List ℕ) → outcome r (opening r script) script ≡ Clashes earlier later → (w : World) × Reaches r script w × IsClash r w earlier later)
+clash_of_whole : (hash : List ℕ → Digest32) (x : Laned) (order earlier later : List ℕ)
+    → outcome (rules_of hash x.script) (opened hash x.script) (lines_of (played x order))
+    ≡ Clashes earlier later
+    → ((r : Rules) (script : List Line) (earlier later : List ℕ)
+    → outcome r (opening r script) script ≡ Clashes earlier later
+    → (w : World) × Reaches r script w × IsClash r w earlier later)
     → IsClashOf hash (script_with x (whole x order)) earlier later
 clash_of_whole hash x order earlier later met law =
     let r = rules_of hash x.script in
     let rest = flat_map (λ lane. lane) (left (lanes x) order) in
     let all = lines_of (whole x order) in
     let behind : outcome r (opened hash x.script) all ≡ Clashes earlier later =
-    ap (λ (l : List Line). outcome r (opened hash x.script) l) (lines_joined (played x order) rest) ∙ clash_behind r (opened hash x.script) (lines_of (played x order)) (lines_of rest) earlier later met
+    ap (λ (l : List Line). outcome r (opened hash x.script) l) (lines_joined (played x order) rest)
+    ∙ clash_behind r (opened hash x.script) (lines_of (played x order)) (lines_of rest) earlier
+    later met
     in
-    let ends : outcome r (opening r all) all ≡ Clashes earlier later = subst (λ (v : World). outcome r v all ≡ Clashes earlier later) (same_opening r x.script.lines all (same_faults x order)) behind in
+    let ends : outcome r (opening r all) all ≡ Clashes earlier later =
+    subst (λ (v : World). outcome r v all ≡ Clashes earlier later)
+    (same_opening r x.script.lines all (same_faults x order)) behind in
     let shows = law r all earlier later ends in
     record { ends = ends; world = shows.0; reached = shows.1; shown = shows.2 }
 
-pub lanes_clashed : (hash : List ℕ → Digest32) (text : List ℕ) (x : Laned) (order earlier later : List ℕ) → laned_of text ≡ Ok x → HasMet hash x order earlier later
-    → ((r : Rules) (script : List Line) (earlier later : List ℕ) → outcome r (opening r script) script ≡ Clashes earlier later → (w : World) × Reaches r script w × IsClash r w earlier later)
+pub lanes_clashed : (hash : List ℕ → Digest32) (text : List ℕ) (x : Laned)
+    (order earlier later : List ℕ)
+    → laned_of text ≡ Ok x → HasMet hash x order earlier later
+    → ((r : Rules) (script : List Line) (earlier later : List ℕ)
+    → outcome r (opening r script) script ≡ Clashes earlier later
+    → (w : World) × Reaches r script w × IsClash r w earlier later)
     → IsLanesClash hash text order earlier later
 lanes_clashed hash text x order earlier later spells h law = record {
   laned = x;
@@ -281,17 +425,31 @@ lanes_clashed hash text x order earlier later spells h law = record {
   at_most = h.turns;
   clash = clash_of_whole hash x order earlier later h.ends law;
   met = h.ends;
-  at_last = λ some. (run (rules_of hash x.script) (opened hash x.script) (lines_of (played x (but_last order))), h.before);
+  at_last =
+      λ some. (
+        run (rules_of hash x.script) (opened hash x.script)
+            (lines_of (played x (but_last order))),
+        h.before,
+      );
 }
 
 -- a clash before the first turn
-pub opening_clashed : (hash : List ℕ → Digest32) (text : List ℕ) (x : Laned) (e : RunError) → laned_of text ≡ Ok x → IsStopped (rules_of hash x.script) (opened hash x.script) (lines_of (prefix x)) e
-    → ((r : Rules) (script : List Line) (earlier later : List ℕ) → outcome r (opening r script) script ≡ Clashes earlier later → (w : World) × Reaches r script w × IsClash r w earlier later)
+pub opening_clashed : (hash : List ℕ → Digest32) (text : List ℕ) (x : Laned) (e : RunError)
+    → laned_of text ≡ Ok x
+    → IsStopped (rules_of hash x.script) (opened hash x.script) (lines_of (prefix x)) e
+    → ((r : Rules) (script : List Line) (earlier later : List ℕ)
+    → outcome r (opening r script) script ≡ Clashes earlier later
+    → (w : World) × Reaches r script w × IsClash r w earlier later)
     → IsLanesCause hash text [] e
 opening_clashed hash text x error.NoMemory spells h law = refl
 opening_clashed hash text x (error.HashClash earlier later) spells h law =
-    let met : outcome (rules_of hash x.script) (opened hash x.script) (lines_of (played x [])) ≡ Clashes earlier later =
-    ap (λ (l : List (ℕ × Line)). outcome (rules_of hash x.script) (opened hash x.script) (lines_of l)) (append-nil (prefix x)) ∙ h
+    let met : outcome (rules_of hash x.script) (opened hash x.script) (lines_of (played x []))
+    ≡ Clashes earlier later =
+    ap
+    (λ (l : List (ℕ × Line)). outcome (rules_of hash x.script) (opened hash x.script)
+    (lines_of l))
+    (append-nil (prefix x))
+    ∙ h
     in
     record {
       laned = x;
@@ -308,10 +466,12 @@ opening_clashed hash text x (error.UnknownMember l) spells h law = absurd h
 opening_clashed hash text x (error.OversizeBlock l) spells h law = absurd h
 
 -- refusals of a script with lanes are causes
-pub lanes_refused : (hash : List ℕ → Digest32) (text : List ℕ) (e : RunError) → (e ≡ error.NoMemory) ⊎ (laned_of text ≡ Err e) → IsLanesCause hash text [] e
+pub lanes_refused : (hash : List ℕ → Digest32) (text : List ℕ) (e : RunError)
+    → (e ≡ error.NoMemory) ⊎ (laned_of text ≡ Err e) → IsLanesCause hash text [] e
 lanes_refused hash text e (inl h) = rw h refl
 lanes_refused hash text error.NoMemory (inr h) = refl
-lanes_refused hash text (error.HashClash earlier later) (inr h) = absurd (laned_early text (error.HashClash earlier later) h)
+lanes_refused hash text (error.HashClash earlier later) (inr h) =
+    absurd (laned_early text (error.HashClash earlier later) h)
 lanes_refused hash text error.BadCommittee (inr h) = (refl, h)
 lanes_refused hash text error.TooManyFaulty (inr h) = (refl, h)
 lanes_refused hash text (error.Syntax line) (inr h) = (refl, h)
@@ -319,15 +479,28 @@ lanes_refused hash text (error.UnknownMember line) (inr h) = (refl, h)
 lanes_refused hash text (error.OversizeBlock line) (inr h) = (refl, h)
 
 -- a turn without a clash
-pub turned_on : (hash : List ℕ → Digest32) (x : Laned) (order : List ℕ) (cursors after : List (ℕ × ℕ)) (steps more : List Entry) (places new : List (Place Seat)) (faulty : List Bool) (k from end : ℕ) (line : Line)
-    → IsBetween hash x order cursors steps places faulty → slice_get cursors k ≡ Some (from, end) → from < end → slice_get x.script.lines from ≡ Some line
-    → HavePlayed (rules_of hash x.script) (opened hash x.script) (played x order ++ (slice_index x.numbers from, line) ∷ []) more new faulty
-    → WorkBy (rules_of hash x.script) 0 new → length new ≡ x.script.committees.total → after ≡ slice_set cursors k (from + 1, end)
+pub turned_on : (hash : List ℕ → Digest32) (x : Laned) (order : List ℕ)
+    (cursors after : List (ℕ × ℕ)) (steps more : List Entry) (places new : List (Place Seat))
+    (faulty : List Bool) (k from end : ℕ) (line : Line)
+    → IsBetween hash x order cursors steps places faulty → slice_get cursors k ≡ Some (from, end)
+    → from < end → slice_get x.script.lines from ≡ Some line
+    → HavePlayed (rules_of hash x.script) (opened hash x.script)
+    (played x order ++ (slice_index x.numbers from, line) ∷ []) more new faulty
+    → WorkBy (rules_of hash x.script) 0 new → length new ≡ x.script.committees.total
+    → after ≡ slice_set cursors k (from + 1, end)
     → IsBetween hash x (order ++ k ∷ []) after more new faulty
-turned_on hash x order cursors after steps more places new faulty k from end line h at lt there plays sound count is = record {
-  played = subst (λ (l : List (ℕ × Line)). HavePlayed (rules_of hash x.script) (opened hash x.script) l more new faulty) (sym (played_more x order cursors k from end line h.rest at lt there)) plays;
-  rest = rest_more x order cursors k from end line h.rest at lt there ∙ ap (λ (l : List (ℕ × ℕ)). map (between (rows x)) l) (sym is);
-  turns = turns_then x order cursors k from end line h.rest at lt there h.turns;
-  sound = sound;
-  count = count;
-}
+turned_on hash x order cursors after steps more places new faulty k from end line h at lt there
+    plays sound count is =
+    record {
+      played =
+          subst
+          (λ (l : List (ℕ × Line)). HavePlayed (rules_of hash x.script) (opened hash x.script) l
+          more new faulty)
+          (sym (played_more x order cursors k from end line h.rest at lt there)) plays;
+      rest =
+          rest_more x order cursors k from end line h.rest at lt there
+          ∙ ap (λ (l : List (ℕ × ℕ)). map (between (rows x)) l) (sym is);
+      turns = turns_then x order cursors k from end line h.rest at lt there h.turns;
+      sound = sound;
+      count = count;
+    }

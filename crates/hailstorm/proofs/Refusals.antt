@@ -8,10 +8,12 @@ use Rattle.hail_script.proofs.Causes.{early}
 use Rattle.hailstorm.specs.Reports.{Clashing, IsCause}
 
 -- refusals of a script are causes
-pub refused : (hash : List ℕ → Digest32) (text : List ℕ) (e : RunError) → (e ≡ error.NoMemory) ⊎ (grammar.script_of text ≡ Err e) → IsCause hash text e
+pub refused : (hash : List ℕ → Digest32) (text : List ℕ) (e : RunError)
+    → (e ≡ error.NoMemory) ⊎ (grammar.script_of text ≡ Err e) → IsCause hash text e
 refused hash text e (inl h) = rw h tt
 refused hash text error.NoMemory (inr h) = tt
-refused hash text (error.HashClash earlier later) (inr h) = absurd (early text (error.HashClash earlier later) h)
+refused hash text (error.HashClash earlier later) (inr h) =
+    absurd (early text (error.HashClash earlier later) h)
 refused hash text error.BadCommittee (inr h) = h
 refused hash text error.TooManyFaulty (inr h) = h
 refused hash text (error.Syntax line) (inr h) = h

@@ -19,34 +19,56 @@ use Rattle.hailstorm.specs.Reports.{IsCause, IsReport, IsRun, honest_numbers, sh
 use Rattle.hailstorm.specs.Runs.{IsStopped, opened}
 
 -- an entry for each honest member
-pub openers : (r : Rules) (lines : List Line) (ids : List ℕ) → map (λ e. e.member) (filter_map (opening_entry r lines) ids) ≡ map Some (filter (λ i. not (is_faulty_in lines i)) ids)
+pub openers : (r : Rules) (lines : List Line) (ids : List ℕ)
+    → map (λ e. e.member) (filter_map (opening_entry r lines) ids)
+    ≡ map Some (filter (λ i. not (is_faulty_in lines i)) ids)
 openers r lines [] = refl
 openers r lines (i ∷ ids) = go (list_any (faults i) lines) refl (openers r lines ids)
   where
-    go : (t : Bool) → list_any (faults i) lines ≡ t → map (λ e. e.member) (filter_map (opening_entry r lines) ids) ≡ map Some (filter (λ i. not (is_faulty_in lines i)) ids)
-        → map (λ e. e.member) (filter_map (opening_entry r lines) (i ∷ ids)) ≡ map Some (filter (λ i. not (is_faulty_in lines i)) (i ∷ ids))
+    go : (t : Bool) → list_any (faults i) lines ≡ t
+        → map (λ e. e.member) (filter_map (opening_entry r lines) ids)
+        ≡ map Some (filter (λ i. not (is_faulty_in lines i)) ids)
+        → map (λ e. e.member) (filter_map (opening_entry r lines) (i ∷ ids))
+        ≡ map Some (filter (λ i. not (is_faulty_in lines i)) (i ∷ ids))
     go true e more = rw e more
     go false e more = rw e (ap (λ (l : List (Option ℕ)). Some i ∷ l) more)
 
 -- an entry for each line
-many : (r : Rules) (w : World) (number : ℕ) (lines : List Line) → length (entries_from r w number lines) ≡ length lines
+many : (r : Rules) (w : World) (number : ℕ) (lines : List Line)
+    → length (entries_from r w number lines) ≡ length lines
 many r w number [] = refl
 many r w number (line ∷ lines) = rw (many r (happens r w line) (number + 1) lines) refl
 
-pub reported : {H : Type 0} (hash : List ℕ → Digest32) (text : List ℕ) (s : Scenario) (report : Report H) → script_of text ≡ Ok s → (h : IsRun hash s report)
-    → IsReported (rules_of hash s) h.world (handed_in (rules_of hash s) s.lines) (report_of (rules_of hash s) s.lines h.world).chain → IsReport hash text report
+pub reported : {H : Type 0} (hash : List ℕ → Digest32) (text : List ℕ) (s : Scenario)
+    (report : Report H)
+    → script_of text ≡ Ok s → (h : IsRun hash s report)
+    → IsReported (rules_of hash s) h.world (handed_in (rules_of hash s) s.lines)
+    (report_of (rules_of hash s) s.lines h.world).chain
+    → IsReport hash text report
 reported hash text s report spells h law = record {
   script = s;
   in_grammar = spells;
   run = h;
-  opened = ap (λ (r : Reported). map (λ (e : Entry). e.member) r.opening) h.told ∙ openers (rules_of hash s) s.lines (range_with_len 0 s.committees.total);
-  stepped = ap (λ (r : Reported). length r.steps) h.told ∙ many (rules_of hash s) (opened hash s) _ s.lines;
-  chain = subst (λ (l : List Block). IsReported (rules_of hash s) h.world (handed_in (rules_of hash s) s.lines) l) (sym (ap (λ (r : Reported). r.chain) h.told)) law;
+  opened =
+      ap (λ (r : Reported). map (λ (e : Entry). e.member) r.opening) h.told
+      ∙ openers (rules_of hash s) s.lines (range_with_len 0 s.committees.total);
+  stepped =
+      ap (λ (r : Reported). length r.steps) h.told
+      ∙ many (rules_of hash s) (opened hash s) _ s.lines;
+  chain =
+      subst
+      (λ (l : List Block). IsReported (rules_of hash s) h.world
+      (handed_in (rules_of hash s) s.lines) l)
+      (sym (ap (λ (r : Reported). r.chain) h.told)) law;
 }
 
 -- why there is no report
-pub caused : (hash : List ℕ → Digest32) (text : List ℕ) (s : Scenario) (e : RunError) → script_of text ≡ Ok s
-    → ((earlier later : List ℕ) → outcome (rules_of hash s) (opened hash s) s.lines ≡ Clashes earlier later → (w : World) × Reaches (rules_of hash s) s.lines w × IsClash (rules_of hash s) w earlier later)
+pub caused : (hash : List ℕ → Digest32) (text : List ℕ) (s : Scenario) (e : RunError)
+    → script_of text ≡ Ok s
+    → ((earlier later : List ℕ)
+    → outcome (rules_of hash s) (opened hash s) s.lines ≡ Clashes earlier later
+    → (w : World) × Reaches (rules_of hash s) s.lines w
+    × IsClash (rules_of hash s) w earlier later)
     → IsStopped (rules_of hash s) (opened hash s) s.lines e → IsCause hash text e
 caused hash text s error.NoMemory spells law h = tt
 caused hash text s (error.HashClash earlier later) spells law h =

@@ -18,29 +18,76 @@ use Rattle.hailstorm.specs.Reports.{AreNodesOf, HoldNotes, IsRun, honest, shown_
 use Rattle.hailstorm.specs.Runs.{ArePlayed, chain_from, opened}
 use Rattle.hailstorm.specs.Seats.{Seat}
 
-pub four : (a a' b b' : List Entry) (c c' : List Acked) (d d' : List Block) → a ≡ a' → b ≡ b' → c ≡ c' → d ≡ d'
-    → (let r : Reported = record { opening = a; steps = b; acked = c; chain = d } in r) ≡ record { opening = a'; steps = b'; acked = c'; chain = d' }
+pub four : (a a' b b' : List Entry) (c c' : List Acked) (d d' : List Block) → a ≡ a' → b ≡ b'
+    → c ≡ c' → d ≡ d'
+    → (let r : Reported = record { opening = a; steps = b; acked = c; chain = d } in r)
+    ≡ record { opening = a'; steps = b'; acked = c'; chain = d' }
 four a a' b b' c c' d d' p q s t =
-    ap (λ (x : List Entry). let r : Reported = record { opening = x; steps = b; acked = c; chain = d } in r) p
-    ∙ ap (λ (x : List Entry). let r : Reported = record { opening = a'; steps = x; acked = c; chain = d } in r) q
-    ∙ ap (λ (x : List Acked). let r : Reported = record { opening = a'; steps = b'; acked = x; chain = d } in r) s
-    ∙ ap (λ (x : List Block). let r : Reported = record { opening = a'; steps = b'; acked = c'; chain = x } in r) t
+    ap
+    (λ (x : List Entry). let r : Reported = record {
+      opening = x;
+      steps = b;
+      acked = c;
+      chain = d;
+    } in r)
+    p
+    ∙ ap
+    (λ (x : List Entry). let r : Reported = record {
+      opening = a';
+      steps = x;
+      acked = c;
+      chain = d;
+    } in r)
+    q
+    ∙ ap
+    (λ (x : List Acked). let r : Reported = record {
+      opening = a';
+      steps = b';
+      acked = x;
+      chain = d;
+    } in r)
+    s
+    ∙ ap
+    (λ (x : List Block). let r : Reported = record {
+      opening = a';
+      steps = b';
+      acked = c';
+      chain = x;
+    } in r)
+    t
 
 -- a run, from what its parts gave
-pub ran : {H : Type 0} (hash : List ℕ → Digest32) (s : Scenario) (report : Report H) (places : List (Place Seat))
-    → report.opening ≡ opening_entries (rules_of hash s) s.lines → (h : ArePlayed (rules_of hash s) (opened hash s) s.lines report.steps places)
+pub ran : {H : Type 0} (hash : List ℕ → Digest32) (s : Scenario) (report : Report H)
+    (places : List (Place Seat))
+    → report.opening ≡ opening_entries (rules_of hash s) s.lines
+    → (h : ArePlayed (rules_of hash s) (opened hash s) s.lines report.steps places)
     → report.acked ≡ filter_map acked_at (enumerate_from 0 h.last.members)
-    → report.chain ≡ chain_from (rules_of hash s) h.last (highest (flat_map (λ e. e.handed) (report.opening ++ report.steps)))
-    → HoldNotes (honest h.last) report.disks × AreNodesOf (honest h.last) report.nodes → IsRun hash s report
+    → report.chain
+    ≡ chain_from (rules_of hash s) h.last
+    (highest (flat_map (λ e. e.handed) (report.opening ++ report.steps)))
+    → HoldNotes (honest h.last) report.disks × AreNodesOf (honest h.last) report.nodes
+    → IsRun hash s report
 ran hash s report places opens h stands chains closes =
     let r = rules_of hash s in
     let w = opened hash s in
-    let chain = chains ∙ ap (λ (l : List Entry). chain_from r h.last (highest (flat_map (λ (e : Entry). e.handed) (l ++ report.steps)))) opens
-    ∙ ap (λ (l : List Entry). chain_from r h.last (highest (flat_map (λ (e : Entry). e.handed) (opening_entries r s.lines ++ l)))) h.entries in
+    let chain =
+    chains
+    ∙ ap
+    (λ (l : List Entry). chain_from r h.last
+    (highest (flat_map (λ (e : Entry). e.handed) (l ++ report.steps))))
+    opens
+    ∙ ap
+    (λ (l : List Entry). chain_from r h.last
+    (highest (flat_map (λ (e : Entry). e.handed) (opening_entries r s.lines ++ l))))
+    h.entries in
     record {
       world = h.last;
       ends = h.ends;
-      told = four report.opening (opening_entries r s.lines) report.steps (entries_from r w (first_line r) s.lines) report.acked (filter_map acked_at (enumerate_from 0 h.last.members)) report.chain (report_of r s.lines h.last).chain
+      told =
+          four report.opening (opening_entries r s.lines) report.steps
+          (entries_from r w (first_line r) s.lines) report.acked
+          (filter_map acked_at (enumerate_from 0 h.last.members)) report.chain
+          (report_of r s.lines h.last).chain
           opens h.entries stands chain;
       disks = closes.0;
       nodes = closes.1;

@@ -19,37 +19,69 @@ use Rattle.node_disk.specs.declared.log.StoreError.{StoreError}
 use Rattle.node_disk.specs.declared.log.StoreError.TheVariants as store
 use Rattle.hailstorm.specs.Seats.{HasStarted, HasStepped, Seat, WasStopped, Works, notes_of_step, out_of, rules_by}
 
-pub started : (hash : List ℕ → Digest32) (id : ℕ) (epochs : Epochs) (backlog : ℕ) (app : AcceptAll) (frames : List (List Note)) (disk : MemoryState) (new : Seat) (out : StepOut) → IsNodeOf id epochs backlog app new
-    → stepped new.member out ≡ start (rules_by hash new) id new.member.frames → Works new → HasFound memory_state Continues new.member.frames disk new.log.disk → FindsNotes frames (memory_state disk).now.seen
+pub started : (hash : List ℕ → Digest32) (id : ℕ) (epochs : Epochs) (backlog : ℕ) (app : AcceptAll)
+    (frames : List (List Note)) (disk : MemoryState) (new : Seat) (out : StepOut)
+    → IsNodeOf id epochs backlog app new
+    → stepped new.member out ≡ start (rules_by hash new) id new.member.frames → Works new
+    → HasFound memory_state Continues new.member.frames disk new.log.disk
+    → FindsNotes frames (memory_state disk).now.seen
     → HasStarted (coded hash epochs backlog (λ b a. true)) id frames disk new out
 started hash id epochs backlog app frames disk new out is starts works found held =
-    let same : new.member.frames ≡ frames = (let e : Ok new.member.frames ≡ Ok frames = sym found.found ∙ held in cc) in
-    let by : rules_by hash new ≡ coded hash epochs backlog (λ b a. true) = rw (is.committees, is.pending) refl in
+    let same : new.member.frames ≡ frames =
+    (let e : Ok new.member.frames ≡ Ok frames = sym found.found ∙ held in cc) in
+    let by : rules_by hash new ≡ coded hash epochs backlog (λ b a. true) =
+    rw (is.committees, is.pending) refl in
     let all : stepped new.member out ≡ start (coded hash epochs backlog (λ b a. true)) id frames =
-    starts ∙ ap (λ (r : Rules). start r id new.member.frames) by ∙ ap (λ (f : List (List Note)). start (coded hash epochs backlog (λ b a. true)) id f) same in
-    record { rules = by; number = is.number; member = ap (λ (s : Stepped). s.member) all; gives = ap out_of all; works = works; went_on = found.goes_on }
+    starts ∙ ap (λ (r : Rules). start r id new.member.frames) by
+    ∙ ap (λ (f : List (List Note)). start (coded hash epochs backlog (λ b a. true)) id f) same in
+    record {
+      rules = by;
+      number = is.number;
+      member = ap (λ (s : Stepped). s.member) all;
+      gives = ap out_of all;
+      works = works;
+      went_on = found.goes_on;
+    }
 
--- a start on such a disk, if it isn't refused by the disk nor for an earlier failure, is refused for memory
-pub for_memory : (e : StoreError) (old new : MemoryState) (frames : List (List Note)) → FindsNotes frames (memory_state old).now.seen → WasRefused memory_state Continues e old new
+-- a start on such a disk, if it isn't refused by the disk nor for an earlier failure, is refused
+-- for memory
+pub for_memory : (e : StoreError) (old new : MemoryState) (frames : List (List Note))
+    → FindsNotes frames (memory_state old).now.seen → WasRefused memory_state Continues e old new
     → (e ≡ store.Disk → ⊥) → (e ≡ store.Failed → ⊥) → e ≡ store.NoMemory
 for_memory store.Disk old new frames held refused disk failed = absurd (disk refl)
 for_memory store.Failed old new frames held refused disk failed = absurd (failed refl)
 for_memory store.NoMemory old new frames held refused disk failed = refl
-for_memory (store.Foreign place) old new frames held refused disk failed = absurd (let no : Ok frames ≡ Err place = sym held ∙ refused.foreign place refl in cc)
+for_memory (store.Foreign place) old new frames held refused disk failed =
+    absurd (let no : Ok frames ≡ Err place = sym held ∙ refused.foreign place refl in cc)
 
 -- the same node goes by the same rules
-by_same : (hash : List ℕ → Digest32) (old new : Seat) → IsSameNode old new → rules_by hash new ≡ rules_by hash old
+by_same : (hash : List ℕ → Digest32) (old new : Seat) → IsSameNode old new
+    → rules_by hash new ≡ rules_by hash old
 by_same hash old new same = rw (same.epochs, same.backlog) refl
 
-pub steps : (hash : List ℕ → Digest32) (signed : ℕ → Vote → Bool) (e : Event) (old new : Seat) (result : Result StepOut StoreError)
-    → IfOk result (λ out. stepped new.member out ≡ step (rules_by hash old) old.id signed old.member e) → IsSameNode old new → OnOk result (Works new)
-    → HasTried memory_state Continues old.member.frames (notes_of_step (rules_by hash old) signed e old) result old.log new.log
+pub steps : (hash : List ℕ → Digest32) (signed : ℕ → Vote → Bool) (e : Event) (old new : Seat)
+    (result : Result StepOut StoreError)
+    → IfOk result
+    (λ out. stepped new.member out ≡ step (rules_by hash old) old.id signed old.member e)
+    → IsSameNode old new → OnOk result (Works new)
+    → HasTried memory_state Continues old.member.frames
+    (notes_of_step (rules_by hash old) signed e old) result old.log new.log
     → IfOk result (λ out. HasStepped (rules_by hash old) signed e old new out)
 steps hash signed e old new (Ok out) did same works tried =
-    record { rules = by_same hash old new same; id = same.id; member = ap (λ (s : Stepped). s.member) did; gives = ap out_of did; works = works; appended = tried.appended }
+    record {
+      rules = by_same hash old new same;
+      id = same.id;
+      member = ap (λ (s : Stepped). s.member) did;
+      gives = ap out_of did;
+      works = works;
+      appended = tried.appended;
+    }
 steps hash signed e old new (Err x) did same works tried = tt
 
-pub stops : (hash : List ℕ → Digest32) (signed : ℕ → Vote → Bool) (e : Event) (old new : Seat) (result : Result StepOut StoreError)
-    → HasTried memory_state Continues old.member.frames (notes_of_step (rules_by hash old) signed e old) result old.log new.log
+pub stops : (hash : List ℕ → Digest32) (signed : ℕ → Vote → Bool) (e : Event) (old new : Seat)
+    (result : Result StepOut StoreError)
+    → HasTried memory_state Continues old.member.frames
+    (notes_of_step (rules_by hash old) signed e old) result old.log new.log
     → IsErrOf result store.Disk → WasStopped (rules_by hash old) signed e old new
-stops hash signed e old new result tried is = record { cut = tried.cut_short is; readable = tried.cut_readable is }
+stops hash signed e old new result tried is =
+    record { cut = tried.cut_short is; readable = tried.cut_readable is }

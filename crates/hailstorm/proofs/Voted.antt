@@ -26,7 +26,8 @@ Kept = BTreeMap Round (List Vote)
 
 -- ---- the order of rounds
 
-then_both : (a b : Ordering) → is_eq (ordering_then a b) ≡ true → (is_eq a ≡ true) × (is_eq b ≡ true)
+then_both : (a b : Ordering) → is_eq (ordering_then a b) ≡ true
+    → (is_eq a ≡ true) × (is_eq b ≡ true)
 then_both Less b e = absurd (let no : false ≡ true = e in cc)
 then_both Equal b e = (refl, e)
 then_both Greater b e = absurd (let no : false ≡ true = e in cc)
@@ -52,8 +53,10 @@ eq_itself : (x : ℕ) → (x == x) ≡ true
 eq_itself x = grind (arith, nat_tests)
 
 -- one vote more at the end
-any_more : {X : Type 0} (test : X → Bool) (xs : List X) (x : X) → list_any test (xs ++ x ∷ []) ≡ (list_any test xs || test x)
-any_more test xs x = list_any-append test xs (x ∷ []) ∙ ap (λ b. list_any test xs || b) (or_false (test x))
+any_more : {X : Type 0} (test : X → Bool) (xs : List X) (x : X)
+    → list_any test (xs ++ x ∷ []) ≡ (list_any test xs || test x)
+any_more test xs x =
+    list_any-append test xs (x ∷ []) ∙ ap (λ b. list_any test xs || b) (or_false (test x))
   where
     or_false : (b : Bool) → (b || false) ≡ b
     or_false true = refl
@@ -67,27 +70,35 @@ module _ (m n : Kept) (i : ℕ) (w : Vote) (before : List Sent) (s : Sent) where
   -- the votes of a round with one more, and those of all others as before
   pub record HasMore : Type 0 where
     pub here : votes_under n (round_of i w) ≡ votes_under m (round_of i w) ++ w ∷ []
-    pub others : (k : Round) → is_eq (round_cmp (round_of i w) k) ≡ false → votes_under n k ≡ votes_under m k
+    pub others : (k : Round) → is_eq (round_cmp (round_of i w) k) ≡ false
+        → votes_under n k ≡ votes_under m k
 
   -- then they tell of one message more, where it is that vote
-  pub told_more : s.from ≡ i → s.message ≡ message.Vote i w → HasMore → TellVotes m before → TellVotes n (before ++ s ∷ [])
+  pub told_more : s.from ≡ i → s.message ≡ message.Vote i w → HasMore → TellVotes m before
+      → TellVotes n (before ++ s ∷ [])
   told_more from is more told j v = go (is_eq (round_cmp (round_of i w) (round_of j v))) refl
     where
       sent : is_sent_vote j v s ≡ ((i == j) && ((i == j) && same_vote v w))
       sent = rw (from, is) refl
 
-      go : (b : Bool) → is_eq (round_cmp (round_of i w) (round_of j v)) ≡ b → list_any (same_vote v) (votes_under n (round_of j v)) ≡ list_any (is_sent_vote j v) (before ++ s ∷ [])
+      go : (b : Bool) → is_eq (round_cmp (round_of i w) (round_of j v)) ≡ b
+          → list_any (same_vote v) (votes_under n (round_of j v))
+          ≡ list_any (is_sent_vote j v) (before ++ s ∷ [])
       go true e =
           let k : round_of i w ≡ round_of j v = tied (round_of i w) (round_of j v) e in
           let same : i ≡ j = ap (λ (r : Round). r.0) k in
           let yes : (i == j) ≡ true = rw same (eq_itself j) in
-          let now : votes_under n (round_of j v) ≡ votes_under m (round_of j v) ++ w ∷ [] = subst (λ (r : Round). votes_under n r ≡ votes_under m r ++ w ∷ []) k more.here in
-          ap (λ (l : List Vote). list_any (same_vote v) l) now ∙ any_more (same_vote v) (votes_under m (round_of j v)) w
+          let now : votes_under n (round_of j v) ≡ votes_under m (round_of j v) ++ w ∷ [] =
+          subst (λ (r : Round). votes_under n r ≡ votes_under m r ++ w ∷ []) k more.here in
+          ap (λ (l : List Vote). list_any (same_vote v) l) now
+          ∙ any_more (same_vote v) (votes_under m (round_of j v)) w
           ∙ ap (λ b. b || same_vote v w) (told j v)
           ∙ ap (λ b. list_any (is_sent_vote j v) before || b) (sym (sent ∙ rw yes refl))
           ∙ sym (any_more (is_sent_vote j v) before s)
       go false e =
-          let none : is_sent_vote j v s ≡ false = false_from_ne_true (is_sent_vote j v s) (λ h. other (and_parts (i == j) ((i == j) && same_vote v w) (sym sent ∙ h))) in
+          let none : is_sent_vote j v s ≡ false =
+          false_from_ne_true (is_sent_vote j v s)
+          (λ h. other (and_parts (i == j) ((i == j) && same_vote v w) (sym sent ∙ h))) in
           ap (λ (l : List Vote). list_any (same_vote v) l) (more.others (round_of j v) e) ∙ told j v
           ∙ sym (or_no (list_any (is_sent_vote j v) before) (is_sent_vote j v s) none)
           ∙ sym (any_more (is_sent_vote j v) before s)
@@ -97,16 +108,23 @@ module _ (m n : Kept) (i : ℕ) (w : Vote) (before : List Sent) (s : Sent) where
               let same : j ≡ i = sym (eqb-true i j h.0) in
               let one : v ≡ w = same_vote-true v w (and_parts (i == j) (same_vote v w) h.1).1 in
               let at : round_of j v ≡ round_of i w = rw (same, one) refl in
-              let yes : is_eq (round_cmp (round_of i w) (round_of j v)) ≡ true = subst (λ (r : Round). is_eq (round_cmp (round_of i w) r) ≡ true) (sym at) (itself (round_of i w)) in
+              let yes : is_eq (round_cmp (round_of i w) (round_of j v)) ≡ true =
+              subst (λ (r : Round). is_eq (round_cmp (round_of i w) r) ≡ true) (sym at)
+              (itself (round_of i w)) in
               absurd (true≢false (sym yes ∙ e))
 
   -- and where it isn't a vote that its own signer sent, what was kept tells of it
-  pub told_still : ((j : ℕ) (v : Vote) → is_sent_vote j v s ≡ false) → TellVotes m before → TellVotes m (before ++ s ∷ [])
-  told_still none told j v = told j v ∙ sym (or_no (list_any (is_sent_vote j v) before) (is_sent_vote j v s) (none j v)) ∙ sym (any_more (is_sent_vote j v) before s)
+  pub told_still : ((j : ℕ) (v : Vote) → is_sent_vote j v s ≡ false) → TellVotes m before
+      → TellVotes m (before ++ s ∷ [])
+  told_still none told j v =
+      told j v ∙ sym (or_no (list_any (is_sent_vote j v) before) (is_sent_vote j v s) (none j v))
+      ∙ sym (any_more (is_sent_vote j v) before s)
 
 -- a vote of another signer
-pub not_own : (from i : ℕ) (w : Vote) (s : Sent) → s.from ≡ from → s.message ≡ message.Vote i w → (i == from) ≡ false → (j : ℕ) (v : Vote) → is_sent_vote j v s ≡ false
-not_own from i w s at is differs j v = rw (at, is) (false_from_ne_true ((from == j) && ((i == j) && same_vote v w)) (λ h.
+pub not_own : (from i : ℕ) (w : Vote) (s : Sent) → s.from ≡ from → s.message ≡ message.Vote i w
+    → (i == from) ≡ false → (j : ℕ) (v : Vote) → is_sent_vote j v s ≡ false
+not_own from i w s at is differs j v =
+    rw (at, is) (false_from_ne_true ((from == j) && ((i == j) && same_vote v w)) (λ h.
     let first = and_parts (from == j) ((i == j) && same_vote v w) h in
     let second = and_parts (i == j) (same_vote v w) first.1 in
     let same : i ≡ from = eqb-true i j second.0 ∙ sym (eqb-true from j first.0) in
@@ -114,15 +132,22 @@ not_own from i w s at is differs j v = rw (at, is) (false_from_ne_true ((from ==
 
 -- the same signer, epoch and view
 pub round_is : (i e e' v v' : ℕ) → e ≡ e' → v ≡ v' → (let k : Round = (i, e, v) in k) ≡ (i, e', v')
-round_is i e e' v v' p q = ap (λ (n : ℕ). let k : Round = (i, n, v) in k) p ∙ ap (λ (n : ℕ). let k : Round = (i, e', n) in k) q
+round_is i e e' v v' p q =
+    ap (λ (n : ℕ). let k : Round = (i, n, v) in k) p
+    ∙ ap (λ (n : ℕ). let k : Round = (i, e', n) in k) q
 
 -- what was taken out, with one more, and put back
-pub put_back : (m r n : Kept) (i : ℕ) (w : Vote) (k : Round) (new : List Vote) → k ≡ round_of i w → Updates round_cmp m r k None → Updates round_cmp r n k (Some new)
-    → new ≡ unwrap_or (get round_cmp m k) [] ++ w ∷ [] → (before : List Sent) (s : Sent) → HasMore m n i w before s
+pub put_back : (m r n : Kept) (i : ℕ) (w : Vote) (k : Round) (new : List Vote) → k ≡ round_of i w
+    → Updates round_cmp m r k None → Updates round_cmp r n k (Some new)
+    → new ≡ unwrap_or (get round_cmp m k) [] ++ w ∷ [] → (before : List Sent) (s : Sent)
+    → HasMore m n i w before s
 put_back m r n i w k new at out back is before s =
-    let out' : Updates round_cmp m r (round_of i w) None = subst (λ (x : Round). Updates round_cmp m r x None) at out in
-    let back' : Updates round_cmp r n (round_of i w) (Some new) = subst (λ (x : Round). Updates round_cmp r n x (Some new)) at back in
-    let is' : new ≡ unwrap_or (get round_cmp m (round_of i w)) [] ++ w ∷ [] = subst (λ (x : Round). new ≡ unwrap_or (get round_cmp m x) [] ++ w ∷ []) at is in
+    let out' : Updates round_cmp m r (round_of i w) None =
+    subst (λ (x : Round). Updates round_cmp m r x None) at out in
+    let back' : Updates round_cmp r n (round_of i w) (Some new) =
+    subst (λ (x : Round). Updates round_cmp r n x (Some new)) at back in
+    let is' : new ≡ unwrap_or (get round_cmp m (round_of i w)) [] ++ w ∷ [] =
+    subst (λ (x : Round). new ≡ unwrap_or (get round_cmp m x) [] ++ w ∷ []) at is in
     record {
       here = ap (λ (o : Option (List Vote)). unwrap_or o []) back'.1 ∙ is';
       others = λ q e. ap (λ (o : Option (List Vote)). unwrap_or o []) (back'.2 q e ∙ out'.2 q e);

@@ -17,10 +17,13 @@ IsHonest (line.Faulty m fault) = ⊥
 IsHonest _ = Unit {0}
 
 -- one place is another, and what it gave is what the rules make of the member who sat there
-pub record IsPlaced (r : Rules) (faulty : List Bool) (pool : List Sent) (i : ℕ) (e : EventLine) (old new : List (Place Seat)) (found : Option ℕ) (out : Option StepOut) : Type 0 where
+pub record IsPlaced (r : Rules) (faulty : List Bool) (pool : List Sent) (i : ℕ) (e : EventLine)
+    (old new : List (Place Seat)) (found : Option ℕ) (out : Option StepOut) : Type 0 where
   pub before : Place Seat
   pub after : Place Seat
   pub was : slice_get old i ≡ Some before
   pub becomes : new ≡ slice_set old i after
   pub finds : found ≡ found_at e after out
-  pub makes : (o : Option Member) → SitsAs before o → Makes o (option_and_then (turned_by r (table faulty pool) (over pool) i (line_of e)) o) after out
+  pub makes : (o : Option Member) → SitsAs before o
+      → Makes o (option_and_then (turned_by r (table faulty pool) (over pool) i (line_of e)) o)
+      after out

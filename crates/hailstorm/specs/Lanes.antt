@@ -41,7 +41,8 @@ turns_of k order = count_by (λ j. j == k) order
 
 -- ---- the lines in their order
 
--- the lines before the first lane, followed by the lanes merged in an order; each under its number in the text
+-- the lines before the first lane, followed by the lanes merged in an order; each under its number
+-- in the text
 abbrev pub played : Laned → List ℕ → List (ℕ × Line)
 played x order = prefix x ++ merged (lanes x) order
 
@@ -63,12 +64,16 @@ renumbered at (e ∷ es) = record e { line = at } ∷ renumbered (at + 1) es
 
 -- the report, with its steps as of the lines of a plain script
 abbrev pub as_plain : {H : Type 0} → Laned → Report H → Report H
-as_plain x report = record report { steps = renumbered (first_event x.script.committees) report.steps }
+as_plain x report =
+    record report { steps = renumbered (first_event x.script.committees) report.steps }
 
 -- ---- the answers
 
--- The text spells a script with lanes, each lane has a turn for each of its lines, and the report is that of the plain script of the lines in that order; but each step is told under the number of its line in the text.
-pub record IsLanesReport {H : Type 0} (hash : List ℕ → Digest32) (text : List ℕ) (order : List ℕ) (report : Report H) : Type 0 where
+-- The text spells a script with lanes, each lane has a turn for each of its lines, and the report
+-- is that of the plain script of the lines in that order; but each step is told under the number of
+-- its line in the text.
+pub record IsLanesReport {H : Type 0} (hash : List ℕ → Digest32) (text : List ℕ) (order : List ℕ)
+    (report : Report H) : Type 0 where
   pub laned : Laned
   pub in_grammar : laned_of text ≡ Ok laned
   pub once : (k : ℕ) → turns_of k order ≡ length (lane_at (lanes laned) k)
@@ -76,20 +81,31 @@ pub record IsLanesReport {H : Type 0} (hash : List ℕ → Digest32) (text : Lis
   pub run : IsRun hash (script_with laned (played laned order)) (as_plain laned report)
   pub opened : map (λ e. e.member) report.opening ≡ map Some (honest_numbers laned.script)
   pub stepped : length report.steps ≡ length laned.script.lines
-  pub chain : IsReported (rules_of hash laned.script) run.world (handed_in (rules_of hash laned.script) (lines_of (played laned order))) report.chain
+  pub chain : IsReported (rules_of hash laned.script) run.world
+      (handed_in (rules_of hash laned.script) (lines_of (played laned order))) report.chain
 
 -- all but the last
 abbrev pub but_last : List ℕ → List ℕ
 but_last order = take (length order - 1) order
 
--- The text spells a script with lanes whose run, with the lanes merged in that order, ends in this clash: at the order's last turn, or within the lines before all lanes where there was no turn. No lane has more turns than lines.
-pub record IsLanesClash (hash : List ℕ → Digest32) (text : List ℕ) (order : List ℕ) (earlier later : List ℕ) : Type 0 where
+-- The text spells a script with lanes whose run, with the lanes merged in that order, ends in this
+-- clash: at the order's last turn, or within the lines before all lanes where there was no turn. No
+-- lane has more turns than lines.
+pub record IsLanesClash (hash : List ℕ → Digest32) (text : List ℕ) (order : List ℕ)
+    (earlier later : List ℕ) : Type 0 where
   pub laned : Laned
   pub in_grammar : laned_of text ≡ Ok laned
   pub at_most : (k : ℕ) → turns_of k order ≤ length (lane_at (lanes laned) k)
   pub clash : IsClashOf hash (script_with laned (whole laned order)) earlier later
-  pub met : outcome (rules_of hash laned.script) (opening (rules_of hash laned.script) laned.script.lines) (lines_of (played laned order)) ≡ Clashes earlier later
-  pub at_last : order ≢ [] → (w : World) × (outcome (rules_of hash laned.script) (opening (rules_of hash laned.script) laned.script.lines) (lines_of (played laned (but_last order))) ≡ Ends w)
+  pub met : outcome (rules_of hash laned.script)
+      (opening (rules_of hash laned.script) laned.script.lines) (lines_of (played laned order))
+      ≡ Clashes earlier later
+  pub at_last : order ≢ []
+      → (w : World)
+      × (outcome (rules_of hash laned.script)
+      (opening (rules_of hash laned.script) laned.script.lines)
+      (lines_of (played laned (but_last order)))
+      ≡ Ends w)
 
 -- a cause that is tested before the run
 abbrev pub IsLanesRefusal : List ℕ → List ℕ → RunError → Type 0
@@ -98,9 +114,12 @@ IsLanesRefusal text order e = (order ≡ []) × (laned_of text ≡ Err e)
 -- why there is no report, with the lanes that had a turn
 abbrev pub IsLanesCause : (List ℕ → Digest32) → List ℕ → List ℕ → RunError → Type 0
 IsLanesCause hash text order error.NoMemory = order ≡ []
-IsLanesCause hash text order (error.HashClash earlier later) = IsLanesClash hash text order earlier later
+IsLanesCause hash text order (error.HashClash earlier later) =
+    IsLanesClash hash text order earlier later
 IsLanesCause hash text order error.BadCommittee = IsLanesRefusal text order error.BadCommittee
 IsLanesCause hash text order error.TooManyFaulty = IsLanesRefusal text order error.TooManyFaulty
 IsLanesCause hash text order (error.Syntax line) = IsLanesRefusal text order (error.Syntax line)
-IsLanesCause hash text order (error.UnknownMember line) = IsLanesRefusal text order (error.UnknownMember line)
-IsLanesCause hash text order (error.OversizeBlock line) = IsLanesRefusal text order (error.OversizeBlock line)
+IsLanesCause hash text order (error.UnknownMember line) =
+    IsLanesRefusal text order (error.UnknownMember line)
+IsLanesCause hash text order (error.OversizeBlock line) =
+    IsLanesRefusal text order (error.OversizeBlock line)

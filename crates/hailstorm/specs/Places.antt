@@ -27,12 +27,16 @@ rules_of hash s = coded hash s.committees s.backlog (λ b a. true)
 
 -- a disk that holds some frames of notes, which are these notes in order
 abbrev pub DiskHolds : MemoryState → List Note → Type 0
-DiskHolds disk notes = (frames : List (List Note)) × (FindsNotes frames (memory_state disk).now.seen) × (notes ≡ flat_map (λ frame. frame) frames)
+DiskHolds disk notes =
+    (frames : List (List Note)) × (FindsNotes frames (memory_state disk).now.seen)
+    × (notes ≡ flat_map (λ frame. frame) frames)
 
--- who sits there works by these rules, on a disk that doesn't fail; a stopped member's notes are those on its disk
+-- who sits there works by these rules, on a disk that doesn't fail; a stopped member's notes are
+-- those on its disk
 abbrev pub WorksBy : Rules → ℕ → Place Seat → Type 0
 WorksBy r i place.Faulty = Unit {0}
-WorksBy r i (place.Live m) = (rules_by r.hash m ≡ r) × (m.id ≡ i) × Works m × (is_calm m.log.disk ≡ true)
+WorksBy r i (place.Live m) =
+    (rules_by r.hash m ≡ r) × (m.id ≡ i) × Works m × (is_calm m.log.disk ≡ true)
 WorksBy r i (place.Stopped disk notes) = (is_calm disk ≡ true) × DiskHolds disk notes
 
 -- so in each place, numbered from a number on
@@ -40,11 +44,13 @@ abbrev pub WorkBy : Rules → ℕ → List (Place Seat) → Type 0
 WorkBy r i [] = Unit {0}
 WorkBy r i (p ∷ ps) = WorksBy r i p × WorkBy r (i + 1) ps
 
--- who sits there is this member of the rules, faulty where there is none. A stopped one is known by its disk
+-- who sits there is this member of the rules, faulty where there is none. A stopped one is known by
+-- its disk
 abbrev pub SitsAs : Place Seat → Option Member → Type 0
 SitsAs place.Faulty None = Unit {0}
 SitsAs (place.Live m) (Some x) = m.member ≡ x
-SitsAs (place.Stopped disk notes) (Some x) = (x.live ≡ false) × (FindsNotes x.frames (memory_state disk).now.seen) × (notes ≡ member_notes x)
+SitsAs (place.Stopped disk notes) (Some x) =
+    (x.live ≡ false) × (FindsNotes x.frames (memory_state disk).now.seen) × (notes ≡ member_notes x)
 SitsAs _ _ = ⊥
 
 -- so in each place
@@ -71,13 +77,16 @@ table faulty pool i v = marked faulty i || list_any (is_sent_vote i v) pool
 abbrev pub over : List Sent → World
 over pool = record { members = []; pool = pool }
 
--- what a member does that is asked for something: nothing where it is stopped, or where there is no such message
+-- what a member does that is asked for something: nothing where it is stopped, or where there is no
+-- such message
 abbrev pub did : Rules → (ℕ → Vote → Bool) → World → ℕ → Ask → Member → Option Stepped
 did r signed w i ask m = if m.live then option_map (step r i signed m) (event_of w i ask) else None
 
 -- the same with a stop
-abbrev pub did_cut : Rules → (ℕ → Vote → Bool) → World → ℕ → ℕ → ℕ → ℕ → Ask → Member → Option Stepped
-did_cut r signed w i a c x ask m = if m.live then option_map (cut_step r i signed m a c x) (event_of w i ask) else None
+abbrev pub did_cut : Rules → (ℕ → Vote → Bool) → World → ℕ → ℕ → ℕ → ℕ → Ask → Member
+    → Option Stepped
+did_cut r signed w i a c x ask m =
+    if m.live then option_map (cut_step r i signed m a c x) (event_of w i ask) else None
 
 -- a member that starts again, where it was stopped
 abbrev pub starts_again : Rules → ℕ → Member → Option Stepped
@@ -90,7 +99,8 @@ turned_by r signed w i (Cut a c x j ask) m = did_cut r signed w i a c x ask m
 turned_by r signed w i (Restart j) m = starts_again r i m
 turned_by r signed w i (Faulty j fault) m = None
 
--- what a line made of who sits in a place, and what that gave: what the rules make of that member, or nothing
+-- what a line made of who sits in a place, and what that gave: what the rules make of that member,
+-- or nothing
 abbrev pub Makes : Option Member → Option Stepped → Place Seat → Option StepOut → Type 0
 Makes o None place out = SitsAs place o × (out ≡ None)
 Makes o (Some done) place out = SitsAs place (Some done.member) × (out ≡ Some (out_of done))
@@ -104,10 +114,13 @@ found_at _ p out = None
 abbrev pub IsPutOut : MemoryState → Place Seat → Type 0
 IsPutOut disk place.Faulty = ⊥
 IsPutOut disk (place.Live m) = ⊥
-IsPutOut disk (place.Stopped again notes) = (again ≡ reopened_disk disk) × ((memory_state again).now.seen ≡ (memory_state disk).now.seen) × DiskHolds again notes
+IsPutOut disk (place.Stopped again notes) =
+    (again ≡ reopened_disk disk) × ((memory_state again).now.seen ≡ (memory_state disk).now.seen)
+    × DiskHolds again notes
 
 -- a line made of the world what the rules say, and gave their entry
-pub record IsTurn (r : Rules) (w : World) (number : ℕ) (line : Line) (places : List (Place Seat)) (pool : List Sent) (entry : Entry) : Type 0 where
+pub record IsTurn (r : Rules) (w : World) (number : ℕ) (line : Line) (places : List (Place Seat))
+    (pool : List Sent) (entry : Entry) : Type 0 where
   pub gives : entry ≡ entry_of r w number line
   pub members : SitAs places (happens r w line).members
   pub sent : pool ≡ (happens r w line).pool

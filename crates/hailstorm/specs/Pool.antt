@@ -9,7 +9,8 @@ sent_in entries = flat_map (λ e. e.sent) entries
 
 -- the message at a place of the entry of a number
 abbrev pub sent_at : List Entry → ℕ × ℕ → Option Sent
-sent_at entries (entry, place) = option_and_then (λ e. slice_get e.sent place) (slice_get entries entry)
+sent_at entries (entry, place) =
+    option_and_then (λ e. slice_get e.sent place) (slice_get entries entry)
 
 -- the messages of entries stand at these places, in order
 abbrev pub StandAt : List Entry → List (ℕ × ℕ) → Type 0

@@ -42,10 +42,15 @@ AreNodesOf [] [] = Unit {0}
 AreNodesOf (m ∷ ms) (node ∷ nodes) = IsLiveAs m node × AreNodesOf ms nodes
 AreNodesOf _ _ = ⊥
 
--- The report of a script's run: the script ends without a clash in this world, and what is told is the rules' report of it. The disks and nodes are those of the honest members as the world leaves them.
-pub record IsRun {H : Type 0} (hash : List ℕ → Digest32) (script : Scenario) (report : Report H) : Type 0 where
+-- The report of a script's run: the script ends without a clash in this world, and what is told is
+-- the rules' report of it. The disks and nodes are those of the honest members as the world leaves
+-- them.
+pub record IsRun {H : Type 0} (hash : List ℕ → Digest32) (script : Scenario)
+    (report : Report H) : Type 0 where
   pub world : World
-  pub ends : outcome (rules_of hash script) (opening (rules_of hash script) script.lines) script.lines ≡ Ends world
+  pub ends : outcome (rules_of hash script) (opening (rules_of hash script) script.lines)
+      script.lines
+      ≡ Ends world
   pub told : shown_report report ≡ report_of (rules_of hash script) script.lines world
   pub disks : HoldNotes (honest world) report.disks
   pub nodes : AreNodesOf (honest world) report.nodes
@@ -54,25 +59,34 @@ pub record IsRun {H : Type 0} (hash : List ℕ → Digest32) (script : Scenario)
 abbrev pub honest_numbers : Scenario → List ℕ
 honest_numbers s = filter (λ i. not (is_faulty_in s.lines i)) (range_with_len 0 s.committees.total)
 
--- The text spells a script that is run, and this is the report of its run: an entry for each honest member and for each event line, and each block that is handed out is the link of its height in one chain from genesis.
-pub record IsReport {H : Type 0} (hash : List ℕ → Digest32) (text : List ℕ) (report : Report H) : Type 0 where
+-- The text spells a script that is run, and this is the report of its run: an entry for each honest
+-- member and for each event line, and each block that is handed out is the link of its height in
+-- one chain from genesis.
+pub record IsReport {H : Type 0} (hash : List ℕ → Digest32) (text : List ℕ)
+    (report : Report H) : Type 0 where
   pub script : Scenario
   pub in_grammar : script_of text ≡ Ok script
   pub run : IsRun hash script report
   pub opened : map (λ e. e.member) report.opening ≡ map Some (honest_numbers script)
   pub stepped : length report.steps ≡ length script.lines
-  pub chain : IsReported (rules_of hash script) run.world (handed_in (rules_of hash script) script.lines) report.chain
+  pub chain : IsReported (rules_of hash script) run.world
+      (handed_in (rules_of hash script) script.lines) report.chain
 
--- the run of the script ends in this clash, and these are the encodings of two different blocks of one digest, each genesis or noted by an honest member
-pub record IsClashOf (hash : List ℕ → Digest32) (script : Scenario) (earlier later : List ℕ) : Type 0 where
-  pub ends : outcome (rules_of hash script) (opening (rules_of hash script) script.lines) script.lines ≡ Clashes earlier later
+-- the run of the script ends in this clash, and these are the encodings of two different blocks of
+-- one digest, each genesis or noted by an honest member
+pub record IsClashOf (hash : List ℕ → Digest32) (script : Scenario)
+    (earlier later : List ℕ) : Type 0 where
+  pub ends : outcome (rules_of hash script) (opening (rules_of hash script) script.lines)
+      script.lines
+      ≡ Clashes earlier later
   pub world : World
   pub reached : Reaches (rules_of hash script) script.lines world
   pub shown : IsClash (rules_of hash script) world earlier later
 
 -- the text spells a script that ends in this clash
 abbrev pub Clashing : (List ℕ → Digest32) → List ℕ → List ℕ → List ℕ → Type 0
-Clashing hash text earlier later = (script : Scenario) × (script_of text ≡ Ok script) × IsClashOf hash script earlier later
+Clashing hash text earlier later =
+    (script : Scenario) × (script_of text ≡ Ok script) × IsClashOf hash script earlier later
 
 -- why there is no report
 abbrev pub IsCause : (List ℕ → Digest32) → List ℕ → RunError → Type 0

@@ -31,12 +31,14 @@ use Rattle.hailstorm.specs.Seats.{Seat}
 abbrev pub opened : (List ℕ → Digest32) → Scenario → World
 opened hash s = opening (rules_of hash s) s.lines
 
--- who sits in a place when a script begins: a member on an empty disk, where no line makes it faulty
+-- who sits in a place when a script begins: a member on an empty disk, where no line makes it
+-- faulty
 abbrev pub seat_of : Rules → List Line → ℕ → Option Member
 seat_of r lines i = if list_any (faults i) lines then None else Some (start r i []).member
 
 -- The lines were played without a clash, and the places are those of the world that they end in.
-pub record ArePlayed (r : Rules) (w : World) (lines : List Line) (steps : List Entry) (places : List (Place Seat)) : Type 0 where
+pub record ArePlayed (r : Rules) (w : World) (lines : List Line) (steps : List Entry)
+    (places : List (Place Seat)) : Type 0 where
   pub last : World
   pub ends : outcome r w lines ≡ Ends last
   pub entries : steps ≡ entries_from r w (first_line r) lines
@@ -48,12 +50,15 @@ IsStopped r w lines error.NoMemory = Unit {0}
 IsStopped r w lines (error.HashClash earlier later) = outcome r w lines ≡ Clashes earlier later
 IsStopped r w lines _ = ⊥
 
--- The first lines were played without a clash: whatever the rest ends in, all end in, and the entries of the rest stand behind these.
-pub record AreMidway (r : Rules) (w : World) (index : ℕ) (lines : List Line) (steps : List Entry) (places : List (Place Seat)) (faulty : List Bool) : Type 0 where
+-- The first lines were played without a clash: whatever the rest ends in, all end in, and the
+-- entries of the rest stand behind these.
+pub record AreMidway (r : Rules) (w : World) (index : ℕ) (lines : List Line) (steps : List Entry)
+    (places : List (Place Seat)) (faulty : List Bool) : Type 0 where
   pub now : World
   pub reaches : now ≡ run r w (take index lines)
   pub ends : outcome r now (drop index lines) ≡ outcome r w lines
-  pub entries : steps ++ entries_from r now (first_line r + index) (drop index lines) ≡ entries_from r w (first_line r) lines
+  pub entries : steps ++ entries_from r now (first_line r + index) (drop index lines)
+      ≡ entries_from r w (first_line r) lines
   pub members : SitAs places now.members
   pub sent : sent_in steps ≡ now.pool
   pub flags : faulty ≡ map is_none now.members
@@ -70,7 +75,8 @@ notes_of o = option_map_or member_notes o []
 pub record HasGrown (before after : World) (i old : ℕ) : Type 0 where
   pub low : take i after.members ≡ take i before.members
   pub high : drop (i + 1) after.members ≡ drop (i + 1) before.members
-  pub own : flat_map notes_of (take 1 (drop i before.members)) ≡ take old (flat_map notes_of (take 1 (drop i after.members)))
+  pub own : flat_map notes_of (take 1 (drop i before.members))
+      ≡ take old (flat_map notes_of (take 1 (drop i after.members)))
 
 -- a block with that digest that is another
 abbrev pub other : Digest32 → Block → Note → Option Block
@@ -87,22 +93,31 @@ notes_before id index at notes = if at == id then take index notes else notes
 -- so in each place, numbered from a number on
 abbrev pub all_before : ℕ → ℕ → ℕ → List (List Note) → List Note
 all_before id index at [] = []
-all_before id index at (notes ∷ more) = notes_before id index at notes ++ all_before id index (at + 1) more
+all_before id index at (notes ∷ more) =
+    notes_before id index at notes ++ all_before id index (at + 1) more
 
--- the first of genesis and of the blocks in these lists of notes before a number in one of them, with that digest, that is another
-abbrev pub earlier_of : (List ℕ → Digest32) → List (List Note) → ℕ → ℕ → Digest32 → Block → Option Block
+-- the first of genesis and of the blocks in these lists of notes before a number in one of them,
+-- with that digest, that is another
+abbrev pub earlier_of : (List ℕ → Digest32) → List (List Note) → ℕ → ℕ → Digest32 → Block
+    → Option Block
 earlier_of hash lists id index d b =
-    if same_digest (hash (block_bytes (genesis hash))) d && not (same_block (genesis hash) b) then Some (genesis hash) else other_in (all_before id index 0 lists) d b
+    if same_digest (hash (block_bytes (genesis hash))) d && not (same_block (genesis hash) b)
+    then Some (genesis hash) else other_in (all_before id index 0 lists) d b
 
--- the encodings of the block of a note of that number and of the one before it with which it collides
-abbrev pub clash_of : (List ℕ → Digest32) → List (List Note) → ℕ → ℕ → Note → Option (List ℕ × List ℕ)
-clash_of hash lists id index (Note.Block c b) = option_map (λ a. (block_bytes a, block_bytes b)) (earlier_of hash lists id index c.block b)
+-- the encodings of the block of a note of that number and of the one before it with which it
+-- collides
+abbrev pub clash_of : (List ℕ → Digest32) → List (List Note) → ℕ → ℕ → Note
+    → Option (List ℕ × List ℕ)
+clash_of hash lists id index (Note.Block c b) =
+    option_map (λ a. (block_bytes a, block_bytes b)) (earlier_of hash lists id index c.block b)
 clash_of hash lists id index _ = None
 
 -- the first clash that one of these notes brings, numbered from a number on
-abbrev pub clash_in : (List ℕ → Digest32) → List (List Note) → ℕ → ℕ → List Note → Option (List ℕ × List ℕ)
+abbrev pub clash_in : (List ℕ → Digest32) → List (List Note) → ℕ → ℕ → List Note
+    → Option (List ℕ × List ℕ)
 clash_in hash lists id index [] = None
-clash_in hash lists id index (note ∷ notes) = option_or (clash_of hash lists id index note) (clash_in hash lists id (index + 1) notes)
+clash_in hash lists id index (note ∷ notes) =
+    option_or (clash_of hash lists id index note) (clash_in hash lists id (index + 1) notes)
 
 -- the rules hash what is hashed by that hash
 pub record GoesBy (hash : List ℕ → Digest32) (r : Rules) : Type 0 where
@@ -112,7 +127,9 @@ pub record GoesBy (hash : List ℕ → Digest32) (r : Rules) : Type 0 where
 
 -- genesis for its own commitment, and the block of the first note of another in lists of notes
 abbrev pub first_named : (List ℕ → Digest32) → List (List Note) → Commitment → Option Block
-first_named hash lists c = if same_commitment c (genesis_commitment hash) then Some (genesis hash) else first_some (noted_block_of c) (flat_map (λ notes. notes) lists)
+first_named hash lists c =
+    if same_commitment c (genesis_commitment hash) then Some (genesis hash)
+    else first_some (noted_block_of c) (flat_map (λ notes. notes) lists)
 
 -- the block under the parent commitment of one, where some are left
 abbrev pub under : Rules → World → ℕ → Block → Option Block
@@ -125,7 +142,8 @@ higher None (x ∷ xs) = higher (Some x) xs
 higher (Some y) (x ∷ xs) = higher (Some (if nat_lt y.height x.height then x else y)) xs
 
 abbrev pub chain_from : Rules → World → Option Handed → List Block
-chain_from r w top = option_map_or (chain_to r w) (option_and_then (λ x. block_under r w x.commitment) top) []
+chain_from r w top =
+    option_map_or (chain_to r w) (option_and_then (λ x. block_under r w x.commitment) top) []
 
 -- what is handed back of a place: the bytes of its disk, and the node where it is live
 abbrev pub HandsBack : Place Seat → Option (List ℕ × Option Seat) → Type 0

@@ -31,7 +31,8 @@ abbrev pub out_of : Stepped → StepOut
 out_of done = record { sent = done.sent; handed = done.handed; tickets = done.tickets }
 
 -- a start by these rules on a disk with these frames of notes
-pub record HasStarted (r : Rules) (id : ℕ) (frames : List (List Note)) (disk : MemoryState) (new : Seat) (out : StepOut) : Type 0 where
+pub record HasStarted (r : Rules) (id : ℕ) (frames : List (List Note)) (disk : MemoryState)
+    (new : Seat) (out : StepOut) : Type 0 where
   pub rules : rules_by r.hash new ≡ r
   pub number : new.id ≡ id
   pub member : new.member ≡ (start r id frames).member
@@ -44,19 +45,29 @@ abbrev pub notes_of_step : Rules → (ℕ → Vote → Bool) → Event → Seat 
 notes_of_step r signed e s = step_notes r s.id (taken r signed (state_of s.member) e) e
 
 -- the step of the rules, whose notes are then on the disk as one frame
-pub record HasStepped (r : Rules) (signed : ℕ → Vote → Bool) (e : Event) (old new : Seat) (out : StepOut) : Type 0 where
+pub record HasStepped (r : Rules) (signed : ℕ → Vote → Bool) (e : Event) (old new : Seat)
+    (out : StepOut) : Type 0 where
   pub rules : rules_by r.hash new ≡ rules_by r.hash old
   pub id : new.id ≡ old.id
   pub member : new.member ≡ (step r old.id signed old.member e).member
   pub gives : out ≡ out_of (step r old.id signed old.member e)
   pub works : Works new
-  pub appended : HasAppended memory_state Continues (frame_bytes (notes_of_step r signed e old)) old.log new.log
+  pub appended : HasAppended memory_state Continues (frame_bytes (notes_of_step r signed e old))
+      old.log new.log
 
--- The disk failed while the notes of the step were written. With them as one frame more the member's frames read back
-pub record WasStopped (r : Rules) (signed : ℕ → Vote → Bool) (e : Event) (old new : Seat) : Type 0 where
-  pub cut : WasCutShort memory_state Continues (frame_bytes (notes_of_step r signed e old)) old.log new.log
+-- The disk failed while the notes of the step were written. With them as one frame more the
+-- member's frames read back
+pub record WasStopped (r : Rules) (signed : ℕ → Vote → Bool) (e : Event)
+    (old new : Seat) : Type 0 where
+  pub cut : WasCutShort memory_state Continues (frame_bytes (notes_of_step r signed e old)) old.log
+      new.log
   pub readable : ReadBack (add_frame old.member.frames (notes_of_step r signed e old))
 
 -- the same with a stop at a device call from now
 abbrev pub with_stop : ℕ → ℕ → ℕ → Seat → Seat
-with_stop call cut fill s = record s { log = record s.log { disk = record s.log.disk { stop = stop_from_now s.log.disk call cut fill } } }
+with_stop call cut fill s =
+    record s {
+      log =
+          record s.log
+          { disk = record s.log.disk { stop = stop_from_now s.log.disk call cut fill } };
+    }

@@ -33,7 +33,8 @@ to_text (to.One m) = decimal m
 
 -- V, or `E/V` for a view of an epoch E above 0
 unfoldable pub view_text : ℕ → ℕ → List ℕ
-view_text epoch view = if epoch == 0 then decimal view else decimal epoch ++ codes "/" ++ decimal view
+view_text epoch view =
+    if epoch == 0 then decimal view else decimal epoch ++ codes "/" ++ decimal view
 
 -- `notarize V` and so on
 unfoldable pub vote_text : Vote → List ℕ
@@ -41,11 +42,13 @@ vote_text (Notarize p) = codes "notarize " ++ view_text p.epoch p.view
 vote_text (Nullify epoch view) = codes "nullify " ++ view_text epoch view
 vote_text (Finalize p) = codes "finalize " ++ view_text p.epoch p.view
 
--- `shard J`, J the chunk's index; `vote S ..`, S the signer; `cert .. C`, C the number of signers; `ask`; `askheight H`; `block H`; `junk L`, L the number of bytes
+-- `shard J`, J the chunk's index; `vote S ..`, S the signer; `cert .. C`, C the number of signers;
+-- `ask`; `askheight H`; `block H`; `junk L`, L the number of bytes
 unfoldable pub what_text : Message → List ℕ
 what_text (message.Shard c x) = codes "shard " ++ decimal x.index
 what_text (message.Vote signer v) = codes "vote " ++ decimal signer ++ codes " " ++ vote_text v
-what_text (message.Cert s) = codes "cert " ++ vote_text s.vote ++ codes " " ++ decimal (length s.signers)
+what_text (message.Cert s) =
+    codes "cert " ++ vote_text s.vote ++ codes " " ++ decimal (length s.signers)
 what_text (message.Ask from c) = codes "ask"
 what_text (message.AskHeight from h) = codes "askheight " ++ decimal h
 what_text (message.Block b) = codes "block " ++ decimal b.height
@@ -53,15 +56,23 @@ what_text (message.Junk bytes) = codes "junk " ++ decimal (length bytes)
 
 -- `TO WHAT DIGEST`, DIGEST the hash of the message's bytes
 unfoldable pub goes_text : (List ℕ → Digest32) → Sent → List ℕ
-goes_text hash s = to_text s.to ++ codes " " ++ what_text s.message ++ codes " " ++ digest_text (hash (message_bytes s.message))
+goes_text hash s =
+    to_text s.to ++ codes " " ++ what_text s.message ++ codes " "
+    ++ digest_text (hash (message_bytes s.message))
 
 -- `sent I FROM TO WHAT DIGEST`
 unfoldable pub sent_line : (List ℕ → Digest32) → Sent → List ℕ
-sent_line hash s = line (codes "sent " ++ decimal s.number ++ codes " " ++ decimal s.from ++ codes " " ++ goes_text hash s)
+sent_line hash s =
+    line
+    (codes "sent " ++ decimal s.number ++ codes " " ++ decimal s.from ++ codes " "
+    ++ goes_text hash s)
 
 -- `hand M H DIGEST`, DIGEST the block's
 unfoldable pub hand_line : ℕ → Handed → List ℕ
-hand_line m h = line (codes "hand " ++ decimal m ++ codes " " ++ decimal h.height ++ codes " " ++ digest_text h.digest)
+hand_line m h =
+    line
+    (codes "hand " ++ decimal m ++ codes " " ++ decimal h.height ++ codes " "
+    ++ digest_text h.digest)
 
 -- the blocks handed out at a member
 abbrev pub hands_text : Option ℕ → List Handed → List ℕ
@@ -106,11 +117,15 @@ height_text (Some h) = decimal h
 
 -- `member M live acked X notes K`
 unfoldable pub member_line : Acked → List ℕ
-member_line a = line (codes "member " ++ decimal a.member ++ codes " " ++ state_word a.live ++ codes " acked " ++ height_text a.height ++ codes " notes " ++ decimal a.notes)
+member_line a =
+    line
+    (codes "member " ++ decimal a.member ++ codes " " ++ state_word a.live ++ codes " acked "
+    ++ height_text a.height ++ codes " notes " ++ decimal a.notes)
 
 -- `chain H DIGEST`
 unfoldable pub chain_line : (List ℕ → Digest32) → ℕ → Block → List ℕ
-chain_line hash h b = line (codes "chain " ++ decimal h ++ codes " " ++ digest_text (hash (block_bytes b)))
+chain_line hash h b =
+    line (codes "chain " ++ decimal h ++ codes " " ++ digest_text (hash (block_bytes b)))
 
 -- the links from a height on
 abbrev pub chain_text : (List ℕ → Digest32) → ℕ → List Block → List ℕ
@@ -123,7 +138,9 @@ done_line events = line (codes "done " ++ decimal events)
 
 -- the whole text of a report
 abbrev pub report_text : (List ℕ → Digest32) → Report → List ℕ
-report_text hash r = flat_map (opening_text hash) r.opening ++ flat_map (step_text hash) r.steps ++ flat_map member_line r.acked ++ chain_text hash 0 r.chain ++ done_line (length r.steps)
+report_text hash r =
+    flat_map (opening_text hash) r.opening ++ flat_map (step_text hash) r.steps
+    ++ flat_map member_line r.acked ++ chain_text hash 0 r.chain ++ done_line (length r.steps)
 
 -- the line of a refusal, or of a clash
 unfoldable pub error_line : RunError → List ℕ
@@ -132,7 +149,8 @@ error_line BadCommittee = line (codes "error 2 BadCommittee")
 error_line (UnknownMember l) = line (codes "error 3 UnknownMember " ++ decimal l)
 error_line TooManyFaulty = line (codes "error 4 TooManyFaulty")
 error_line (OversizeBlock l) = line (codes "error 5 OversizeBlock " ++ decimal l)
-error_line (HashClash earlier later) = line (codes "error 6 HashClash " ++ encode_lower earlier ++ codes " " ++ encode_lower later)
+error_line (HashClash earlier later) =
+    line (codes "error 6 HashClash " ++ encode_lower earlier ++ codes " " ++ encode_lower later)
 error_line NoMemory = []
 
 -- the answer where the words are neither none nor `storm` and a number
@@ -154,7 +172,9 @@ handed_count entries = sum_by (λ e. length e.handed) entries
 
 -- `top H` and `chain DIGEST`
 abbrev pub top_lines : (List ℕ → Digest32) → Block → List ℕ
-top_lines hash b = line (codes "top " ++ decimal b.height) ++ line (codes "chain " ++ digest_text (hash (block_bytes b)))
+top_lines hash b =
+    line (codes "top " ++ decimal b.height)
+    ++ line (codes "chain " ++ digest_text (hash (block_bytes b)))
 
 -- of the last link
 abbrev pub top_text : (List ℕ → Digest32) → List Block → List ℕ
@@ -180,4 +200,7 @@ handed_line handed = line (codes "handed " ++ decimal handed)
 
 -- the summary of the run of a storm's script
 abbrev pub summary_text : (List ℕ → Digest32) → ℕ → Report → List ℕ
-summary_text hash number r = number_line number ++ events_line (length r.steps) ++ messages_line (sent_count (r.opening ++ r.steps)) ++ handed_line (handed_count (r.opening ++ r.steps)) ++ top_text hash r.chain
+summary_text hash number r =
+    number_line number ++ events_line (length r.steps)
+    ++ messages_line (sent_count (r.opening ++ r.steps))
+    ++ handed_line (handed_count (r.opening ++ r.steps)) ++ top_text hash r.chain

@@ -26,8 +26,10 @@ abbrev pub entries_of : Rules → World → List (ℕ × Line) → List Entry
 entries_of r w [] = []
 entries_of r w (row ∷ rows) = entry_of r w row.0 row.1 ∷ entries_of r (happens r w row.1) rows
 
--- The lines were played without a clash: these are their entries, and the places are those of the world that they end in.
-pub record HavePlayed (r : Rules) (w : World) (rows : List (ℕ × Line)) (steps : List Entry) (places : List (Place Seat)) (faulty : List Bool) : Type 0 where
+-- The lines were played without a clash: these are their entries, and the places are those of the
+-- world that they end in.
+pub record HavePlayed (r : Rules) (w : World) (rows : List (ℕ × Line)) (steps : List Entry)
+    (places : List (Place Seat)) (faulty : List Bool) : Type 0 where
   pub ends : outcome r w (lines_of rows) ≡ Ends (run r w (lines_of rows))
   pub entries : steps ≡ entries_of r w rows
   pub members : SitAs places (run r w (lines_of rows)).members
@@ -47,17 +49,27 @@ abbrev pub between : List (ℕ × Line) → ℕ × ℕ → List (ℕ × Line)
 between rows (from, end) = drop from (take end rows)
 
 -- no clash was met so far, and of each lane these lines are left
-pub record IsBetween (hash : List ℕ → Digest32) (x : Laned) (order : List ℕ) (cursors : List (ℕ × ℕ)) (steps : List Entry) (places : List (Place Seat)) (faulty : List Bool) : Type 0 where
-  pub played : HavePlayed (rules_of hash x.script) (opened hash x.script) (played x order) steps places faulty
+pub record IsBetween (hash : List ℕ → Digest32) (x : Laned) (order : List ℕ)
+    (cursors : List (ℕ × ℕ)) (steps : List Entry) (places : List (Place Seat))
+    (faulty : List Bool) : Type 0 where
+  pub played : HavePlayed (rules_of hash x.script) (opened hash x.script) (played x order) steps
+      places faulty
   pub rest : left (lanes x) order ≡ map (between (rows x)) cursors
-  pub turns : (k : ℕ) → turns_of k order + length (lane_at (left (lanes x) order) k) ≡ length (lane_at (lanes x) k)
+  pub turns : (k : ℕ)
+      → turns_of k order + length (lane_at (left (lanes x) order) k) ≡ length (lane_at (lanes x) k)
   pub sound : WorkBy (rules_of hash x.script) 0 places
   pub count : length places ≡ x.script.committees.total
 
 -- the last of these turns met this clash
-pub record HasMet (hash : List ℕ → Digest32) (x : Laned) (order : List ℕ) (earlier later : List ℕ) : Type 0 where
-  pub ends : outcome (rules_of hash x.script) (opened hash x.script) (lines_of (played x order)) ≡ Clashes earlier later
-  pub before : outcome (rules_of hash x.script) (opened hash x.script) (lines_of (played x (but_last order))) ≡ Ends (run (rules_of hash x.script) (opened hash x.script) (lines_of (played x (but_last order))))
+pub record HasMet (hash : List ℕ → Digest32) (x : Laned) (order : List ℕ)
+    (earlier later : List ℕ) : Type 0 where
+  pub ends : outcome (rules_of hash x.script) (opened hash x.script) (lines_of (played x order))
+      ≡ Clashes earlier later
+  pub before : outcome (rules_of hash x.script) (opened hash x.script)
+      (lines_of (played x (but_last order)))
+      ≡ Ends
+      (run (rules_of hash x.script) (opened hash x.script)
+      (lines_of (played x (but_last order))))
   pub turns : (k : ℕ) → turns_of k order ≤ length (lane_at (lanes x) k)
 
 -- why no further line is played: the last turn met a clash, or memory is short
@@ -66,15 +78,18 @@ IsOver hash x order error.NoMemory = Unit {0}
 IsOver hash x order (error.HashClash earlier later) = HasMet hash x order earlier later
 IsOver hash x order _ = ⊥
 
--- the cluster of a script with lanes: the lanes that had a turn, and why no further line is played, where that is so
+-- the cluster of a script with lanes: the lanes that had a turn, and why no further line is played,
+-- where that is so
 pub record Turning : Type 0 where
   pub laned : Laned
   pub order : List ℕ
   pub stopped : Option RunError
 
 -- what is known of it
-abbrev pub IsTurning : (List ℕ → Digest32) → Laned → List ℕ → Option RunError → List Entry → List (ℕ × ℕ) → List Entry → List (Place Seat) → List Bool → Type 0
-IsTurning hash x order stopped opening cursors steps places faulty = (opening ≡ opening_entries (rules_of hash x.script) x.script.lines) × GoesOn stopped
+abbrev pub IsTurning : (List ℕ → Digest32) → Laned → List ℕ → Option RunError → List Entry
+    → List (ℕ × ℕ) → List Entry → List (Place Seat) → List Bool → Type 0
+IsTurning hash x order stopped opening cursors steps places faulty =
+    (opening ≡ opening_entries (rules_of hash x.script) x.script.lines) × GoesOn stopped
   where
     GoesOn : Option RunError → Type 0
     GoesOn None = IsBetween hash x order cursors steps places faulty
@@ -83,23 +98,34 @@ IsTurning hash x order stopped opening cursors steps places faulty = (opening �
 -- ---- a turn of a lane
 
 -- the next line of the lane, and its entry by the rules
-pub record HasAdvanced (hash : List ℕ → Digest32) (x : Laned) (order : List ℕ) (k : ℕ) (entry : Entry) : Type 0 where
+pub record HasAdvanced (hash : List ℕ → Digest32) (x : Laned) (order : List ℕ) (k : ℕ)
+    (entry : Entry) : Type 0 where
   pub row : ℕ × Line
   pub next : take 1 (lane_at (left (lanes x) order) k) ≡ row ∷ []
-  pub gives : entry ≡ entry_of (rules_of hash x.script) (run (rules_of hash x.script) (opened hash x.script) (lines_of (played x order))) row.0 row.1
+  pub gives : entry
+      ≡ entry_of (rules_of hash x.script)
+      (run (rules_of hash x.script) (opened hash x.script) (lines_of (played x order))) row.0
+      row.1
 
 -- what the reply of a turn means
-abbrev pub Replies : (List ℕ → Digest32) → Turning → ℕ → Result (Option Entry) RunError → Turning → Type 0
-Replies hash old k (Ok (Some entry)) new = HasAdvanced hash old.laned old.order k entry × (new.order ≡ old.order ++ k ∷ []) × (new.stopped ≡ None)
+abbrev pub Replies : (List ℕ → Digest32) → Turning → ℕ → Result (Option Entry) RunError → Turning
+    → Type 0
+Replies hash old k (Ok (Some entry)) new =
+    HasAdvanced hash old.laned old.order k entry × (new.order ≡ old.order ++ k ∷ [])
+    × (new.stopped ≡ None)
 Replies hash old k (Ok None) new = (new ≡ old) × (lane_at (left (lanes old.laned) old.order) k ≡ [])
 Replies hash old k (Err e) new = (new.stopped ≡ Some e) × IsOver hash new.laned new.order e
 
--- a turn of a lane: one line of the script; but behind an error nothing changes, and the error is told again, or that memory is short
-abbrev pub IsTurnBy : (List ℕ → Digest32) → Turning → ℕ → Result (Option Entry) RunError → Turning → Option RunError → Type 0
+-- a turn of a lane: one line of the script; but behind an error nothing changes, and the error is
+-- told again, or that memory is short
+abbrev pub IsTurnBy : (List ℕ → Digest32) → Turning → ℕ → Result (Option Entry) RunError → Turning
+    → Option RunError → Type 0
 IsTurnBy hash old k reply new None = Replies hash old k reply new
-IsTurnBy hash old k reply new (Some e) = (new ≡ old) × ((reply ≡ Err e) ⊎ (reply ≡ Err error.NoMemory))
+IsTurnBy hash old k reply new (Some e) =
+    (new ≡ old) × ((reply ≡ Err e) ⊎ (reply ≡ Err error.NoMemory))
 
-abbrev pub IsTurnOf : (List ℕ → Digest32) → Turning → ℕ → Result (Option Entry) RunError → Turning → Type 0
+abbrev pub IsTurnOf : (List ℕ → Digest32) → Turning → ℕ → Result (Option Entry) RunError → Turning
+    → Type 0
 IsTurnOf hash old k reply new = (new.laned ≡ old.laned) × IsTurnBy hash old k reply new old.stopped
 
 -- ---- the end of a run
@@ -110,7 +136,8 @@ told_order order (error.HashClash earlier later) = order
 told_order order _ = []
 
 -- the parts of a report, as a world leaves them
-pub record IsReportOf {H : Type 0} (r : Rules) (w : World) (opening steps : List Entry) (report : Report H) : Type 0 where
+pub record IsReportOf {H : Type 0} (r : Rules) (w : World) (opening steps : List Entry)
+    (report : Report H) : Type 0 where
   pub opening_is : report.opening ≡ opening
   pub steps_are : report.steps ≡ steps
   pub stands : report.acked ≡ filter_map acked_at (enumerate_from 0 w.members)

@@ -23,4 +23,6 @@ votes_under rounds k = unwrap_or (get round_cmp rounds k) []
 
 -- what is kept tells of each vote whether its signer sent it in these messages
 abbrev pub TellVotes : BTreeMap (ℕ × ℕ × ℕ) (List Vote) → List Sent → Type 0
-TellVotes rounds sent = (i : ℕ) (v : Vote) → list_any (same_vote v) (votes_under rounds (round_of i v)) ≡ list_any (is_sent_vote i v) sent
+TellVotes rounds sent =
+    (i : ℕ) (v : Vote)
+    → list_any (same_vote v) (votes_under rounds (round_of i v)) ≡ list_any (is_sent_vote i v) sent

@@ -15,7 +15,8 @@ Replays-append turns from (x ∷ xs) mid e r to replayed turned =
 -- one more turn
 pub IsReplay-append : {S E R : Type 0} (turns : S → E → R → S → Type 0) (named : Option S)
     (xs ys : List (E × R)) (mid : S) (e : E) (r : R) (to : S)
-    → IsReplay turns named xs mid → turns mid e r to → ys ≡ xs ++ (e, r) ∷ [] → IsReplay turns named ys to
+    → IsReplay turns named xs mid → turns mid e r to → ys ≡ xs ++ (e, r) ∷ []
+    → IsReplay turns named ys to
 IsReplay-append turns named xs ys mid e r to replayed turned added =
     rw added
     (∥∥₁_map replayed

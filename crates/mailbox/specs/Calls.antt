@@ -29,7 +29,8 @@ joined m other = record {
 
 -- A mailbox made one more call of its own, at this place: some state of the session was turned
 -- lawfully by this event, and the call has an equal event, and a reply equal to that of the turn.
-pub record HasAddedCall {S E R : Type 0} (turns : S → E → R → S → Type 0) (same_event : E → E → Bool)
+pub record HasAddedCall {S E R : Type 0} (turns : S → E → R → S → Type 0)
+    (same_event : E → E → Bool)
     (same_reply : R → R → Bool) (event : E) (place : ℕ) (old new : Mail (Call S E R)) : Type 0 where
   pub before : S
   pub stored : R
@@ -92,7 +93,8 @@ Each P (x ∷ xs) = P x × Each P xs
 
 -- the call is the entry at its place
 abbrev pub IsEntryAt : {T E R X : Type 0} → (X → Call T E R → Bool) → List X → Call T E R → Type 0
-IsEntryAt {X = X} same history c = (x : X) × (slice_get history c.place ≡ Some x) × (same x c ≡ true)
+IsEntryAt {X = X} same history c =
+    (x : X) × (slice_get history c.place ≡ Some x) × (same x c ≡ true)
 
 -- each place is above those before it
 abbrev pub Rises : {T E R : Type 0} → List (Call T E R) → Type 0

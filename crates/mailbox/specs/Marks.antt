@@ -27,13 +27,15 @@ abbrev pub marked : {T E R : Type 0} → (Call T E R → Bool) → ℕ → Mark 
 marked is_it k mark top c = if c.place == k then next_mark is_it mark top c else mark
 
 -- the same behind the calls of a list
-abbrev pub marked_by : {T E R : Type 0} → (Call T E R → Bool) → ℕ → Mark → ℕ → List (Call T E R) → Mark
+abbrev pub marked_by : {T E R : Type 0} → (Call T E R → Bool) → ℕ → Mark → ℕ → List (Call T E R)
+    → Mark
 marked_by is_it k mark top [] = mark
 marked_by is_it k mark top (c ∷ cs) =
     marked_by is_it k (marked is_it k mark top c) (max top c.place) cs
 
 -- the same behind all lists
-abbrev pub marked_by_all : {T E R : Type 0} → (Call T E R → Bool) → ℕ → Mark → List (List (Call T E R))
+abbrev pub marked_by_all : {T E R : Type 0} → (Call T E R → Bool) → ℕ → Mark
+    → List (List (Call T E R))
     → Mark
 marked_by_all is_it k mark [] = mark
 marked_by_all is_it k mark (list ∷ lists) =

@@ -20,10 +20,13 @@ first_noted notes c b = unwrap_or (first_some (noted_block_of c) notes) b
 
 -- a noted finalization reaches c at that height
 abbrev pub IsReached : Rules → List Note → ℕ → Commitment → Type 0
-IsReached r notes height c = (p : Proposal) × In p (filter_map finalization_of notes) × (reached_by r notes height p ≡ Some c)
+IsReached r notes height c =
+    (p : Proposal) × In p (filter_map finalization_of notes)
+    × (reached_by r notes height p ≡ Some c)
 
 -- no two noted finalizations reach different blocks of that height
 abbrev pub AgreeAt : Rules → List Note → ℕ → Type 0
 AgreeAt r notes height =
-    (p q : Proposal) (c d : Commitment) → In p (filter_map finalization_of notes) → In q (filter_map finalization_of notes)
+    (p q : Proposal) (c d : Commitment) → In p (filter_map finalization_of notes)
+    → In q (filter_map finalization_of notes)
     → reached_by r notes height p ≡ Some c → reached_by r notes height q ≡ Some d → c ≡ d

@@ -15,39 +15,75 @@ use Rattle.node.specs.Noting.{HasNoted, with_all_staged}
 use Rattle.node.specs.Standing.{HasCome}
 use Rattle.node.specs.Store.{Store, stored_notes}
 
-module _ {D A : Type 0} (hash : List ℕ → Digest32) (accepts : A → Block → Block → Bool) (signed : ℕ → Vote → Bool) (e : Event) where
+module _ {D A : Type 0} (hash : List ℕ → Digest32) (accepts : A → Block → Block → Bool)
+    (signed : ℕ → Vote → Bool) (e : Event) where
   -- accepted, noted at once, and settled
   pub acted : (old a b c : Holding D A)
       → HasCome hash accepts (taken_came (rules_of hash accepts old) signed (came_of old) e) old a
       → HasNoted hash accepts (direct (rules_of hash accepts a) a.id (state_of a) e) a b
-      → HasNoted hash accepts (settle (rules_of hash accepts b) b.id (marks (state_of b)) (state_of b)) b c
+      → HasNoted hash accepts
+      (settle (rules_of hash accepts b) b.id (marks (state_of b)) (state_of b)) b c
       → HasActed hash accepts signed e old c
   acted old a b c come first rest = record {
     stands = rest.stands;
-    state = whole.state ∙ (ap (λ (s : State). with_notes s notes) state ∙ ap (λ (l : List Note). with_notes (taken (rules_of hash accepts old) signed (state_of old) e) l) all);
-    store = whole.store ∙ (ap (λ (t : Store). with_all_staged t notes) come.same.store ∙ ap (λ (l : List Note). with_all_staged old.store l) all);
+    state =
+        whole.state
+        ∙ (ap (λ (s : State). with_notes s notes) state
+        ∙ ap
+        (λ (l : List Note). with_notes
+        (taken (rules_of hash accepts old) signed (state_of old) e) l)
+        all);
+    store =
+        whole.store
+        ∙ (ap (λ (t : Store). with_all_staged t notes) come.same.store
+        ∙ ap (λ (l : List Note). with_all_staged old.store l) all);
   }
     where
       notes : List Note
-      notes = direct (rules_of hash accepts a) a.id (state_of a) e ++ settle (rules_of hash accepts b) b.id (marks (state_of b)) (state_of b)
+      notes =
+          direct (rules_of hash accepts a) a.id (state_of a) e
+          ++ settle (rules_of hash accepts b) b.id (marks (state_of b)) (state_of b)
 
       whole : HasNoted hash accepts notes a c
       whole = noted_on hash accepts a b c _ _ first rest
 
       state : state_of a ≡ taken (rules_of hash accepts old) signed (state_of old) e
-      state = λ i. record { notes = stored_notes (come.same.store i); came = come.taken i; given = (come.same.store i).given }
+      state =
+          λ i. record {
+            notes = stored_notes (come.same.store i);
+            came = come.taken i;
+            given = (come.same.store i).given;
+          }
 
       rules : rules_of hash accepts a ≡ rules_of hash accepts old
-      rules = λ i. rules_of hash accepts (record a { epochs = come.same.epochs i; backlog = come.same.backlog i; app = come.same.app i })
+      rules =
+          λ i. rules_of hash accepts
+          (record a {
+            epochs = come.same.epochs i;
+            backlog = come.same.backlog i;
+            app = come.same.app i;
+          })
 
-      head : direct (rules_of hash accepts a) a.id (state_of a) e ≡ direct (rules_of hash accepts old) old.id (taken (rules_of hash accepts old) signed (state_of old) e) e
+      head : direct (rules_of hash accepts a) a.id (state_of a) e
+          ≡ direct (rules_of hash accepts old) old.id
+          (taken (rules_of hash accepts old) signed (state_of old) e) e
       head = λ i. direct (rules i) (come.same.id i) (state i) e
 
-      after : state_of b ≡ with_notes (taken (rules_of hash accepts old) signed (state_of old) e) (direct (rules_of hash accepts old) old.id (taken (rules_of hash accepts old) signed (state_of old) e) e)
+      after : state_of b
+          ≡ with_notes (taken (rules_of hash accepts old) signed (state_of old) e)
+          (direct (rules_of hash accepts old) old.id
+          (taken (rules_of hash accepts old) signed (state_of old) e) e)
       after = first.state ∙ (λ i. with_notes (state i) (head i))
 
       tail : settle (rules_of hash accepts b) b.id (marks (state_of b)) (state_of b)
-          ≡ settle (rules_of hash accepts old) old.id (marks (with_notes (taken (rules_of hash accepts old) signed (state_of old) e) (direct (rules_of hash accepts old) old.id (taken (rules_of hash accepts old) signed (state_of old) e) e))) (with_notes (taken (rules_of hash accepts old) signed (state_of old) e) (direct (rules_of hash accepts old) old.id (taken (rules_of hash accepts old) signed (state_of old) e) e))
+          ≡ settle (rules_of hash accepts old) old.id
+          (marks
+          (with_notes (taken (rules_of hash accepts old) signed (state_of old) e)
+          (direct (rules_of hash accepts old) old.id
+          (taken (rules_of hash accepts old) signed (state_of old) e) e)))
+          (with_notes (taken (rules_of hash accepts old) signed (state_of old) e)
+          (direct (rules_of hash accepts old) old.id
+          (taken (rules_of hash accepts old) signed (state_of old) e) e))
       tail =
           let rs = same_rules hash accepts a b _ first ∙ rules in
           let ids = first.id ∙ come.same.id in
@@ -58,7 +94,8 @@ module _ {D A : Type 0} (hash : List ℕ → Digest32) (accepts : A → Block �
 
   -- it is the same node
   pub same_acted : (old a b c : Holding D A) (came : Came) (xs ys : List Note)
-      → HasCome hash accepts came old a → HasNoted hash accepts xs a b → HasNoted hash accepts ys b c → IsSameHolder old c
+      → HasCome hash accepts came old a → HasNoted hash accepts xs a b
+      → HasNoted hash accepts ys b c → IsSameHolder old c
   same_acted old a b c came xs ys come first rest = record {
     id = rest.id ∙ (first.id ∙ come.same.id);
     epochs = rest.epochs ∙ (first.epochs ∙ come.same.epochs);

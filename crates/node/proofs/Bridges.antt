@@ -6,5 +6,6 @@ use Rattle.cw_types.specs.declared.note.Note.{Note}
 use Rattle.cw_types.specs.declared.vote.Cert.{Cert}
 
 -- one that can be counted, of few signers, can be stored
-pub cert_storable : (c : Cert) → IsTrue (well_formed c.vote) → length c.signers ≤ 65535 → IsTrue (is_storable (Note.Cert c))
+pub cert_storable : (c : Cert) → IsTrue (well_formed c.vote) → length c.signers ≤ 65535
+    → IsTrue (is_storable (Note.Cert c))
 cert_storable c formed few = grind arith

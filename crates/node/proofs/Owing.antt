@@ -11,15 +11,28 @@ use Rattle.node.specs.Noting.{arrival_owed, last_owed}
 use Rattle.node.specs.Standing.{PartsStand}
 use Rattle.node.specs.declared.arrival.Arrival.{Arrival}
 
-pub owed_as : {D A : Type 0} (hash : List ℕ → Digest32) (accepts : A → Block → Block → Bool) (h : Holding D A) → PartsStand hash accepts h
+pub owed_as : {D A : Type 0} (hash : List ℕ → Digest32) (accepts : A → Block → Block → Bool)
+    (h : Holding D A)
+    → PartsStand hash accepts h
     → owed (rules_of hash accepts h) h.id (state_of h)
     ≡ option_or (first_some (arrival_owed (rules_of hash accepts h) (state_of h)) h.arrivals)
-    (option_or (first_some (cert_owed (rules_of hash accepts h) h.id (state_of h)) (named_votes (state_of h)))
-    (option_or (first_some (certified_owed (rules_of hash accepts h) (state_of h)) (named_proposals (state_of h)))
+    (option_or
+    (first_some (cert_owed (rules_of hash accepts h) h.id (state_of h))
+    (named_votes (state_of h)))
+    (option_or
+    (first_some (certified_owed (rules_of hash accepts h) (state_of h))
+    (named_proposals (state_of h)))
     (last_owed (rules_of hash accepts h) h.id (state_of h))))
 owed_as hash accepts h s =
-    let blocks = ap (first_some (block_owed (rules_of hash accepts h) (state_of h))) s.named ∙ first_map (block_owed (rules_of hash accepts h) (state_of h)) (λ (a : Arrival). a.commitment) h.arrivals in
+    let blocks =
+    ap (first_some (block_owed (rules_of hash accepts h) (state_of h))) s.named
+    ∙ first_map (block_owed (rules_of hash accepts h) (state_of h))
+    (λ (a : Arrival). a.commitment) h.arrivals in
     λ i. option_or (blocks i)
-    (option_or (first_some (cert_owed (rules_of hash accepts h) h.id (state_of h)) (named_votes (state_of h)))
-    (option_or (first_some (certified_owed (rules_of hash accepts h) (state_of h)) (named_proposals (state_of h)))
+    (option_or
+    (first_some (cert_owed (rules_of hash accepts h) h.id (state_of h))
+    (named_votes (state_of h)))
+    (option_or
+    (first_some (certified_owed (rules_of hash accepts h) (state_of h))
+    (named_proposals (state_of h)))
     (last_owed (rules_of hash accepts h) h.id (state_of h))))

@@ -20,12 +20,14 @@ settles_none r id zero s e = refl
 settles_none r id (suc fuel) s e = rw e refl
 
 -- so far these notes were written of those that are owed
-pub record IsSettling {D A : Type 0} (hash : List ℕ → Digest32) (accepts : A → Block → Block → Bool) (old now : Holding D A) : Type 0 where
+pub record IsSettling {D A : Type 0} (hash : List ℕ → Digest32) (accepts : A → Block → Block → Bool)
+    (old now : Holding D A) : Type 0 where
   pub notes : List Note
   pub fuel : ℕ
   pub noted : HasNoted hash accepts notes old now
   pub count : length notes + fuel ≡ marks (state_of old)
-  pub rest : settle (rules_of hash accepts old) old.id (marks (state_of old)) (state_of old) ≡ notes ++ settle (rules_of hash accepts old) old.id fuel (with_notes (state_of old) notes)
+  pub rest : settle (rules_of hash accepts old) old.id (marks (state_of old)) (state_of old)
+      ≡ notes ++ settle (rules_of hash accepts old) old.id fuel (with_notes (state_of old) notes)
 
 -- how many may be written yet
 abbrev pub left : {D A : Type 0} → Holding D A → Holding D A → ℕ
@@ -38,31 +40,68 @@ module _ {D A : Type 0} (hash : List ℕ → Digest32) (accepts : A → Block �
     fuel = marks (state_of h);
     noted = noted_none hash accepts h s;
     count = omega arith;
-    rest = ap (settle (rules_of hash accepts h) h.id (marks (state_of h))) (sym (no_notes (state_of h)));
+    rest =
+        ap (settle (rules_of hash accepts h) h.id (marks (state_of h)))
+        (sym (no_notes (state_of h)));
   }
 
   -- what is owed now is owed after these notes
-  owed_now : (old now : Holding D A) (p : IsSettling hash accepts old now) → owed (rules_of hash accepts now) now.id (state_of now) ≡ owed (rules_of hash accepts old) old.id (with_notes (state_of old) p.notes)
-  owed_now old now p = λ i. owed (same_rules hash accepts old now p.notes p.noted i) (p.noted.id i) (p.noted.state i)
+  owed_now : (old now : Holding D A) (p : IsSettling hash accepts old now)
+      → owed (rules_of hash accepts now) now.id (state_of now)
+      ≡ owed (rules_of hash accepts old) old.id (with_notes (state_of old) p.notes)
+  owed_now old now p =
+      λ i. owed (same_rules hash accepts old now p.notes p.noted i) (p.noted.id i) (p.noted.state i)
 
   -- nothing is owed any more
-  pub settling_done : (old now : Holding D A) → IsSettling hash accepts old now → owed (rules_of hash accepts now) now.id (state_of now) ≡ None
-      → HasNoted hash accepts (settle (rules_of hash accepts old) old.id (marks (state_of old)) (state_of old)) old now
-  settling_done old now p none = subst (λ (l : List Note). HasNoted hash accepts l old now) (sym (p.rest ∙ (ap (λ (l : List Note). p.notes ++ l) (settles_none (rules_of hash accepts old) old.id p.fuel (with_notes (state_of old) p.notes) (sym (owed_now old now p) ∙ none)) ∙ append-nil p.notes))) p.noted
+  pub settling_done : (old now : Holding D A) → IsSettling hash accepts old now
+      → owed (rules_of hash accepts now) now.id (state_of now) ≡ None
+      → HasNoted hash accepts
+      (settle (rules_of hash accepts old) old.id (marks (state_of old)) (state_of old)) old now
+  settling_done old now p none =
+      subst (λ (l : List Note). HasNoted hash accepts l old now)
+      (sym
+      (p.rest
+      ∙ (ap (λ (l : List Note). p.notes ++ l)
+      (settles_none (rules_of hash accepts old) old.id p.fuel
+      (with_notes (state_of old) p.notes) (sym (owed_now old now p) ∙ none))
+      ∙ append-nil p.notes)))
+      p.noted
 
   -- one more is owed, so the bound isn't reached
   some_left : (old now : Holding D A) (p : IsSettling hash accepts old now) (note : Note)
-      → owed (rules_of hash accepts old) old.id (with_notes (state_of old) (settle (rules_of hash accepts old) old.id (marks (state_of old)) (state_of old))) ≡ None
+      → owed (rules_of hash accepts old) old.id
+      (with_notes (state_of old)
+      (settle (rules_of hash accepts old) old.id (marks (state_of old)) (state_of old)))
+      ≡ None
       → owed (rules_of hash accepts now) now.id (state_of now) ≡ Some note → p.fuel ≡ 0 → ⊥
   some_left old now p note bound more out =
-      let all : settle (rules_of hash accepts old) old.id (marks (state_of old)) (state_of old) ≡ p.notes = p.rest ∙ (ap (λ (n : ℕ). p.notes ++ settle (rules_of hash accepts old) old.id n (with_notes (state_of old) p.notes)) out ∙ append-nil p.notes) in
-      let no : owed (rules_of hash accepts old) old.id (with_notes (state_of old) p.notes) ≡ None = ap (λ (l : List Note). owed (rules_of hash accepts old) old.id (with_notes (state_of old) l)) (sym all) ∙ bound in
-      let yes : owed (rules_of hash accepts old) old.id (with_notes (state_of old) p.notes) ≡ Some note = sym (owed_now old now p) ∙ more in
+      let all : settle (rules_of hash accepts old) old.id (marks (state_of old)) (state_of old)
+      ≡ p.notes =
+      p.rest
+      ∙ (ap
+      (λ (n : ℕ). p.notes
+      ++ settle (rules_of hash accepts old) old.id n
+      (with_notes (state_of old) p.notes))
+      out
+      ∙ append-nil p.notes) in
+      let no : owed (rules_of hash accepts old) old.id (with_notes (state_of old) p.notes) ≡ None =
+      ap
+      (λ (l : List Note). owed (rules_of hash accepts old) old.id
+      (with_notes (state_of old) l))
+      (sym all)
+      ∙ bound in
+      let yes : owed (rules_of hash accepts old) old.id (with_notes (state_of old) p.notes)
+      ≡ Some note =
+      sym (owed_now old now p) ∙ more in
       let z : None ≡ Some note = sym no ∙ yes in cc
 
   -- it is written
-  pub settling_more : (old now next : Holding D A) (p : IsSettling hash accepts old now) (note : Note)
-      → owed (rules_of hash accepts old) old.id (with_notes (state_of old) (settle (rules_of hash accepts old) old.id (marks (state_of old)) (state_of old))) ≡ None
+  pub settling_more : (old now next : Holding D A) (p : IsSettling hash accepts old now)
+      (note : Note)
+      → owed (rules_of hash accepts old) old.id
+      (with_notes (state_of old)
+      (settle (rules_of hash accepts old) old.id (marks (state_of old)) (state_of old)))
+      ≡ None
       → owed (rules_of hash accepts now) now.id (state_of now) ≡ Some note
       → HasNoted hash accepts (note ∷ []) now next
       → IsSettling hash accepts old next
@@ -76,20 +115,42 @@ module _ {D A : Type 0} (hash : List ℕ → Digest32) (accepts : A → Block �
         noted = noted_on hash accepts old now next p.notes (note ∷ []) p.noted noted;
         count = let n = length-append p.notes (note ∷ []) in let m = p.count in omega (arith, e);
         rest =
-            let step : settle (rules_of hash accepts old) old.id (suc fuel) (with_notes (state_of old) p.notes) ≡ note ∷ settle (rules_of hash accepts old) old.id fuel (with_notes (with_notes (state_of old) p.notes) (note ∷ [])) = rw (sym (owed_now old now p) ∙ more) refl in
-            p.rest ∙ (ap (λ (n : ℕ). p.notes ++ settle (rules_of hash accepts old) old.id n (with_notes (state_of old) p.notes)) e
+            let step : settle (rules_of hash accepts old) old.id (suc fuel)
+            (with_notes (state_of old) p.notes)
+            ≡ note
+            ∷ settle (rules_of hash accepts old) old.id fuel
+            (with_notes (with_notes (state_of old) p.notes) (note ∷ [])) =
+            rw (sym (owed_now old now p) ∙ more) refl in
+            p.rest
+            ∙ (ap
+            (λ (n : ℕ). p.notes
+            ++ settle (rules_of hash accepts old) old.id n
+            (with_notes (state_of old) p.notes))
+            e
             ∙ (ap (λ (l : List Note). p.notes ++ l) step
-            ∙ (ap (λ (s : State). p.notes ++ (note ∷ settle (rules_of hash accepts old) old.id fuel s)) (notes_on (state_of old) p.notes (note ∷ []))
-            ∙ sym (append_assoc p.notes (note ∷ []) (settle (rules_of hash accepts old) old.id fuel (with_notes (state_of old) (p.notes ++ note ∷ [])))))));
+            ∙ (ap
+            (λ (s : State). p.notes
+            ++ (note ∷ settle (rules_of hash accepts old) old.id fuel s))
+            (notes_on (state_of old) p.notes (note ∷ []))
+            ∙ sym
+            (append_assoc p.notes (note ∷ [])
+            (settle (rules_of hash accepts old) old.id fuel
+            (with_notes (state_of old) (p.notes ++ note ∷ [])))))));
       }
 
   -- how many were written
-  pub staged_more : (old now : Holding D A) (xs : List Note) → HasNoted hash accepts xs old now → length now.store.staged ≡ length old.store.staged + length xs
-  staged_more old now xs p = ap (λ (t : Store). length t.staged) p.store ∙ length-append old.store.staged xs
+  pub staged_more : (old now : Holding D A) (xs : List Note) → HasNoted hash accepts xs old now
+      → length now.store.staged ≡ length old.store.staged + length xs
+  staged_more old now xs p =
+      ap (λ (t : Store). length t.staged) p.store ∙ length-append old.store.staged xs
 
   -- so fewer may be written yet
-  pub settling_falls : (old now next : Holding D A) (p : IsSettling hash accepts old now) (note : Note)
-      → owed (rules_of hash accepts old) old.id (with_notes (state_of old) (settle (rules_of hash accepts old) old.id (marks (state_of old)) (state_of old))) ≡ None
+  pub settling_falls : (old now next : Holding D A) (p : IsSettling hash accepts old now)
+      (note : Note)
+      → owed (rules_of hash accepts old) old.id
+      (with_notes (state_of old)
+      (settle (rules_of hash accepts old) old.id (marks (state_of old)) (state_of old)))
+      ≡ None
       → owed (rules_of hash accepts now) now.id (state_of now) ≡ Some note
       → HasNoted hash accepts (note ∷ []) now next
       → left old next < left old now

@@ -36,25 +36,40 @@ use Rattle.node.proofs.Noting.{notes_on}
 
 -- a tally that is told more notes stands for the member with them
 pub stands_told : (hash : List ℕ → Digest32) (r : Rules)
-    → ((t : Known) (s : State) → voter.IsTallyOf hash t r s → (note : Note) → voter.IsTallyOf hash (with_note t note) r (with_notes s (note ∷ [])))
-    → (notes : List Note) (t : Known) (s : State) → voter.IsTallyOf hash t r s → voter.IsTallyOf hash (record t { notes = t.notes ++ notes }) r (with_notes s notes)
-stands_told hash r law [] t s stands = subst (λ (u : Known). voter.IsTallyOf hash u r (with_notes s [])) (λ i. record t { notes = sym (append-nil t.notes) i }) (subst (λ (u : State). voter.IsTallyOf hash t r u) (sym (no_notes s)) stands)
+    → ((t : Known) (s : State) → voter.IsTallyOf hash t r s → (note : Note)
+    → voter.IsTallyOf hash (with_note t note) r (with_notes s (note ∷ [])))
+    → (notes : List Note) (t : Known) (s : State) → voter.IsTallyOf hash t r s
+    → voter.IsTallyOf hash (record t { notes = t.notes ++ notes }) r (with_notes s notes)
+stands_told hash r law [] t s stands =
+    subst (λ (u : Known). voter.IsTallyOf hash u r (with_notes s []))
+    (λ i. record t { notes = sym (append-nil t.notes) i })
+    (subst (λ (u : State). voter.IsTallyOf hash t r u) (sym (no_notes s)) stands)
 stands_told hash r law (note ∷ notes) t s stands =
-    let more = stands_told hash r law notes (with_note t note) (with_notes s (note ∷ [])) (law t s stands note) in
-    subst (λ (u : Known). voter.IsTallyOf hash u r (with_notes s (note ∷ notes))) (λ i. record t { notes = append_assoc t.notes (note ∷ []) notes i }) (subst (λ (u : State). voter.IsTallyOf hash (record t { notes = (t.notes ++ note ∷ []) ++ notes }) r u) (notes_on s (note ∷ []) notes) more)
+    let more =
+    stands_told hash r law notes (with_note t note) (with_notes s (note ∷ []))
+    (law t s stands note) in
+    subst (λ (u : Known). voter.IsTallyOf hash u r (with_notes s (note ∷ notes)))
+    (λ i. record t { notes = append_assoc t.notes (note ∷ []) notes i })
+    (subst
+    (λ (u : State). voter.IsTallyOf hash
+    (record t { notes = (t.notes ++ note ∷ []) ++ notes }) r u)
+    (notes_on s (note ∷ []) notes) more)
 
 -- a note that can be stored can be counted
 pub storable_countable : (note : Note) → is_storable note ≡ true → is_countable note ≡ true
-storable_countable (Note.Cert c) h = (and_parts (well_formed c.vote) (nat_lt (length c.signers) (2 ^ 16)) h).0
+storable_countable (Note.Cert c) h =
+    (and_parts (well_formed c.vote) (nat_lt (length c.signers) (2 ^ 16)) h).0
 storable_countable (Note.Vote v) h = h
 storable_countable (Note.Certified p) h = h
 storable_countable _ h = refl
 
 -- what passes of all passes at each place
-pub all_at : {X : Type 0} (p : X → Bool) (xs : List X) (i : ℕ) (x : X) → list_all p xs ≡ true → i < length xs → x ≡ get_or xs i x → p x ≡ true
+pub all_at : {X : Type 0} (p : X → Bool) (xs : List X) (i : ℕ) (x : X) → list_all p xs ≡ true
+    → i < length xs → x ≡ get_or xs i x → p x ≡ true
 all_at p [] i x all l e = absurd (omega arith)
 all_at p (y ∷ ys) zero x all l e = ap p e ∙ (and_parts (p y) (list_all p ys) all).0
-all_at p (y ∷ ys) (suc i) x all l e = all_at p ys i x (and_parts (p y) (list_all p ys) all).1 (omega arith) e
+all_at p (y ∷ ys) (suc i) x all l e =
+    all_at p ys i x (and_parts (p y) (list_all p ys) all).1 (omega arith) e
 
 filter_all : {X : Type 0} (xs : List X) → filter (λ x. true) xs ≡ xs
 filter_all [] = refl
@@ -65,24 +80,36 @@ take_none zero = refl
 take_none (suc n) = refl
 
 -- no chunks show nothing
-nothing_shown : (hash : List ℕ → Digest32) (x : Epochs) (c : Commitment) → 0 < c.config.minimum → shown (kept.rules_of hash x) (kept.came_of []) c ≡ None
+nothing_shown : (hash : List ℕ → Digest32) (x : Epochs) (c : Commitment) → 0 < c.config.minimum
+    → shown (kept.rules_of hash x) (kept.came_of []) c ≡ None
 nothing_shown hash x c some =
     let no : (0 == c.config.minimum) ≡ false = grind arith in
-    ap (λ l. option_and_then (if_committed (kept.rules_of hash x) c) (block_of (kept.rules_of hash x) c.config l)) (take_none c.config.minimum) ∙ rw no refl
+    ap
+    (λ l. option_and_then (if_committed (kept.rules_of hash x) c)
+    (block_of (kept.rules_of hash x) c.config l))
+    (take_none c.config.minimum)
+    ∙ rw no refl
 
 module _ {D A : Type 0} (hash : List ℕ → Digest32) (accepts : A → Block → Block → Bool) where
   pub stands_begun : (id : ℕ) (x : Epochs) (backlog : ℕ) (app : A) (t : Store) (log : LogState D)
       → t.epochs ≡ x → t.backlog ≡ backlog → t.failed ≡ false
-      → ((u : Known) (s : State) → voter.IsTallyOf hash u (coded hash x backlog (accepts app)) s → (note : Note) → voter.IsTallyOf hash (with_note u note) (coded hash x backlog (accepts app)) (with_notes s (note ∷ [])))
-      → voter.IsTallyOf hash (unknowing x id) (coded hash x backlog (accepts app)) (record { notes = []; came = nothing_came; given = t.given })
-      → shards.StandsFor hash (record { epochs = x; kept = [] }) (coded hash x backlog (accepts app)) nothing_came
+      → ((u : Known) (s : State) → voter.IsTallyOf hash u (coded hash x backlog (accepts app)) s
+      → (note : Note)
+      → voter.IsTallyOf hash (with_note u note) (coded hash x backlog (accepts app))
+      (with_notes s (note ∷ [])))
+      → voter.IsTallyOf hash (unknowing x id) (coded hash x backlog (accepts app))
+      (record { notes = []; came = nothing_came; given = t.given })
+      → shards.StandsFor hash (record { epochs = x; kept = [] })
+      (coded hash x backlog (accepts app)) nothing_came
       → PartsStand hash accepts (begun id x backlog app t log)
   stands_begun id x backlog app t log epochs same running law first chunks = record {
     epochs = epochs;
     backlog = same;
     running = running;
     id = refl;
-    tally = stands_told hash (coded hash x backlog (accepts app)) law (stored_notes t) (unknowing x id) (record { notes = []; came = nothing_came; given = t.given }) first;
+    tally =
+        stands_told hash (coded hash x backlog (accepts app)) law (stored_notes t) (unknowing x id)
+        (record { notes = []; came = nothing_came; given = t.given }) first;
     shards = chunks;
     rows = refl;
     named = refl;
@@ -91,23 +118,43 @@ module _ {D A : Type 0} (hash : List ℕ → Digest32) (accepts : A → Block �
 
   -- a start as a whole
   pub opened : (h d : Holding D A) (out : StepOut)
-      → h.store.staged ≡ [] → came_of h ≡ nothing_came → h.store.given ≡ [] → h.store.tickets ≡ no_tickets
-      → out.sent ≡ flat_map (note_sends (rules_of hash accepts h) h.id (stored_notes h.store)) (unwrap_or (last_or None h.store.frames) []) ++ asks h.id (missing (rules_of hash accepts h) (state_of h)) []
+      → h.store.staged ≡ [] → came_of h ≡ nothing_came → h.store.given ≡ []
+      → h.store.tickets ≡ no_tickets
+      → out.sent
+      ≡ flat_map (note_sends (rules_of hash accepts h) h.id (stored_notes h.store))
+      (unwrap_or (last_or None h.store.frames) [])
+      ++ asks h.id (missing (rules_of hash accepts h) (state_of h)) []
       → out.handed ≡ deliveries (rules_of hash accepts h) (state_of h)
       → out.tickets ≡ []
-      → d ≡ record h { store = record h.store { given = h.store.given ++ map (λ x. x.height) out.handed } }
+      → d
+      ≡ record h
+      { store = record h.store { given = h.store.given ++ map (λ x. x.height) out.handed } }
       → stepped (member_of true d) out ≡ start (rules_of hash accepts h) h.id h.store.frames
   opened h d out quiet fresh given tickets sent handed none left =
       let r = rules_of hash accepts h in
       let frames = flat_map (λ (frame : List Note). frame) h.store.frames in
       let notes = ap (λ l. frames ++ l) quiet ∙ append-nil frames in
       let first : State = record { notes = frames; came = nothing_came; given = [] } in
-      let state : state_of h ≡ first = λ i. record { notes = notes i; came = fresh i; given = given i } in
-      let all = sent ∙ (λ i. flat_map (note_sends r h.id (notes i)) (unwrap_or (last_or None h.store.frames) []) ++ map (λ c. to_all (Message.Ask h.id c)) (filter_all (missing r (state i)) i)) in
+      let state : state_of h ≡ first =
+      λ i. record { notes = notes i; came = fresh i; given = given i } in
+      let all =
+      sent
+      ∙ (λ i. flat_map (note_sends r h.id (notes i))
+      (unwrap_or (last_or None h.store.frames) [])
+      ++ map (λ c. to_all (Message.Ask h.id c)) (filter_all (missing r (state i)) i)) in
       let out_now = handed ∙ ap (deliveries r) state in
-      let given_now = ap (λ (k : Holding D A). k.store.given) left ∙ (λ i. given i ++ map (λ x. x.height) (out_now i)) in
+      let given_now =
+      ap (λ (k : Holding D A). k.store.given) left
+      ∙ (λ i. given i ++ map (λ x. x.height) (out_now i)) in
       λ i. record {
-        member = record { frames = (ap (λ (k : Holding D A). k.store.frames) left) i; came = (ap (λ (k : Holding D A). came_of k) left ∙ fresh) i; given = given_now i; tickets = (ap (λ (k : Holding D A). k.store.tickets) left ∙ tickets) i; live = true };
+        member =
+            record {
+              frames = (ap (λ (k : Holding D A). k.store.frames) left) i;
+              came = (ap (λ (k : Holding D A). came_of k) left ∙ fresh) i;
+              given = given_now i;
+              tickets = (ap (λ (k : Holding D A). k.store.tickets) left ∙ tickets) i;
+              live = true;
+            };
         sent = all i;
         handed = out_now i;
         tickets = none i;

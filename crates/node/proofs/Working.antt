@@ -28,7 +28,9 @@ at_work state h running failed frames readable settled still = record {
 }
 
 -- another log is nothing that a node stands on
-stands_logged : {D A : Type 0} (hash : List ℕ → Digest32) (accepts : A → Block → Block → Bool) (h : Holding D A) (log : LogState D) → PartsStand hash accepts h → PartsStand hash accepts (record h { log = log })
+stands_logged : {D A : Type 0} (hash : List ℕ → Digest32) (accepts : A → Block → Block → Bool)
+    (h : Holding D A) (log : LogState D)
+    → PartsStand hash accepts h → PartsStand hash accepts (record h { log = log })
 stands_logged hash accepts h log s = record {
   epochs = s.epochs;
   backlog = s.backlog;
@@ -42,8 +44,14 @@ stands_logged hash accepts h log s = record {
 }
 
 -- so it is ready with a stop on its disk, or without
-pub ready_logged : {D A : Type 0} (hash : List ℕ → Digest32) (accepts : A → Block → Block → Bool) (stopped : Bool) (old new : Holding D A) (log : LogState D)
-    → (stopped ≡ false → new ≡ record old { log = log }) → (stopped ≡ true → new ≡ old) → IsReady hash accepts old → IsReady hash accepts new
-ready_logged hash accepts true old new log armed same ready = subst (λ h. IsReady hash accepts h) (sym (same refl)) ready
+pub ready_logged : {D A : Type 0} (hash : List ℕ → Digest32) (accepts : A → Block → Block → Bool)
+    (stopped : Bool) (old new : Holding D A) (log : LogState D)
+    → (stopped ≡ false → new ≡ record old { log = log }) → (stopped ≡ true → new ≡ old)
+    → IsReady hash accepts old → IsReady hash accepts new
+ready_logged hash accepts true old new log armed same ready =
+    subst (λ h. IsReady hash accepts h) (sym (same refl)) ready
 ready_logged hash accepts false old new log armed same ready =
-    subst (λ h. IsReady hash accepts h) (sym (armed refl)) (record { stands = stands_logged hash accepts old log ready.stands; quiet = ready.quiet })
+    subst (λ h. IsReady hash accepts h) (sym (armed refl)) (record {
+      stands = stands_logged hash accepts old log ready.stands;
+      quiet = ready.quiet;
+    })

@@ -18,8 +18,8 @@ pub record SeatState (D A V : Type 0) : Type 0 where
   pub verifier : V
   pub lost : Bool
 
--- A step of a node, with what it answered: one step of the rules, or a refusal, by which the node is
--- out. Where it was out before, it answers Failed and nothing changes.
+-- A step of a node, with what it answered: one step of the rules, or a refusal, by which the node
+-- is out. Where it was out before, it answers Failed and nothing changes.
 pub record IsStep {D A : Type 0} (hash : List ℕ → Digest32) (accepts : A → Block → Block → Bool)
     (signed : ℕ → Vote → Bool) (state : D → DiskState) (continues : D → D → Type 0)
     (old : NodeState D A) (event : Event) (result : Result StepOut StoreError) (new : NodeState D A)

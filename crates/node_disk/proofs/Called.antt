@@ -14,36 +14,60 @@ use Rattle.node_disk.specs.declared.record.Outcome.{Outcome}
 use Rattle.node_disk.specs.declared.record.Outcome.TheVariants.{Done, Failed, Stopped}
 use Rattle.node_disk.proofs.Moments.{torn_same}
 
-run_push : (held : Held) (entries : List Entry) (e : Entry) → run held (entries ++ e ∷ []) ≡ step (run held entries) e
+run_push : (held : Held) (entries : List Entry) (e : Entry)
+    → run held (entries ++ e ∷ []) ≡ step (run held entries) e
 run_push held [] e = refl
 run_push held (f ∷ entries) e = run_push (step held f) entries e
 
-moments_push : (held : Held) (entries : List Entry) (e : Entry) → moments held (entries ++ e ∷ []) ≡ moments held entries ++ moment_of (opened e.reopened (run held entries)) ∷ []
+moments_push : (held : Held) (entries : List Entry) (e : Entry)
+    → moments held (entries ++ e ∷ [])
+    ≡ moments held entries ++ moment_of (opened e.reopened (run held entries)) ∷ []
 moments_push held [] e = refl
-moments_push held (f ∷ entries) e = ap (λ (l : List Moment). moment_of (opened f.reopened held) ∷ l) (moments_push (step held f) entries e)
+moments_push held (f ∷ entries) e =
+    ap (λ (l : List Moment). moment_of (opened f.reopened held) ∷ l)
+    (moments_push (step held f) entries e)
 
 done_only : (o : Outcome) → is_done o ≡ true → o ≡ Done
 done_only Done is = refl
 done_only Failed is = absurd (let no : false ≡ true = is in cc)
 done_only (Stopped c x) is = absurd (let no : false ≡ true = is in cc)
 
-ranges_push : (writes : List Written) (w : Written) → map range_of (writes ++ w ∷ []) ≡ map range_of writes ++ range_of w ∷ []
+ranges_push : (writes : List Written) (w : Written)
+    → map range_of (writes ++ w ∷ []) ≡ map range_of writes ++ range_of w ∷ []
 ranges_push writes w = map-append range_of writes (w ∷ [])
 
 -- other bytes of that number in the range
-pub torn_put : (old : List ℕ) (place count : ℕ) (bytes : List ℕ) → length bytes ≡ count → place ≤ length old → Torn place count old (put_at old place bytes)
+pub torn_put : (old : List ℕ) (place count : ℕ) (bytes : List ℕ) → length bytes ≡ count
+    → place ≤ length old → Torn place count old (put_at old place bytes)
 torn_put old place count bytes size inside =
     let front : length (take place old) ≡ place = omega (arith, length-take place old) in
-    let both : length (take place old ++ bytes) ≡ place + count = omega (arith, length-append (take place old) bytes) in
+    let both : length (take place old ++ bytes) ≡ place + count =
+    omega (arith, length-append (take place old) bytes) in
     let same : place + length bytes ≡ place + count = omega arith in
     record {
-      before = ap (λ (l : List ℕ). take place l) (append_assoc (take place old) bytes (drop (place + length bytes) old)) ∙ take_at (take place old) (bytes ++ drop (place + length bytes) old) place front;
-      after = drop_at (take place old ++ bytes) (drop (place + length bytes) old) (place + count) both ∙ ap (λ (n : ℕ). drop n old) same;
-      no_shorter = omega (arith, length-append (take place old ++ bytes) (drop (place + length bytes) old), length-drop (place + length bytes) old);
-      no_longer = omega (arith, length-append (take place old ++ bytes) (drop (place + length bytes) old), length-drop (place + length bytes) old);
+      before =
+          ap (λ (l : List ℕ). take place l)
+          (append_assoc (take place old) bytes (drop (place + length bytes) old))
+          ∙ take_at (take place old) (bytes ++ drop (place + length bytes) old) place front;
+      after =
+          drop_at (take place old ++ bytes) (drop (place + length bytes) old) (place + count) both
+          ∙ ap (λ (n : ℕ). drop n old) same;
+      no_shorter =
+          omega (
+            arith,
+            length-append (take place old ++ bytes) (drop (place + length bytes) old),
+            length-drop (place + length bytes) old,
+          );
+      no_longer =
+          omega (
+            arith,
+            length-append (take place old ++ bytes) (drop (place + length bytes) old),
+            length-drop (place + length bytes) old,
+          );
     }
 
-by_number_done : (failing : List ℕ) (made : ℕ) → is_done (by_number failing made) ≡ not (is_listed failing (made + 1))
+by_number_done : (failing : List ℕ) (made : ℕ)
+    → is_done (by_number failing made) ≡ not (is_listed failing (made + 1))
 by_number_done failing made = cases (is_listed failing (made + 1))
   where
     cases : (b : Bool) → is_done (if b then Failed else Done) ≡ not b
@@ -54,28 +78,51 @@ one_more : (m n : ℕ) → (nat_le m n || m == n + 1) ≡ nat_le m (n + 1)
 one_more m n = grind (arith, nat_tests)
 
 -- a call succeeds exactly where no stop stands at it or before it and its number isn't listed
-pub outcome_done : (stop : Option Stop) (failing : List ℕ) (made : ℕ) → is_done (outcome_at stop failing made) ≡ not (is_reached stop (made + 1) || is_listed failing (made + 1))
+pub outcome_done : (stop : Option Stop) (failing : List ℕ) (made : ℕ)
+    → is_done (outcome_at stop failing made)
+    ≡ not (is_reached stop (made + 1) || is_listed failing (made + 1))
 outcome_done None failing made = by_number_done failing made
 outcome_done (Some stop) failing made =
-    cases (nat_le (stop.after + stop.call) made) (stop.after + stop.call == made + 1) (nat_le (stop.after + stop.call) (made + 1)) (is_listed failing (made + 1)) (by_number failing made) (by_number_done failing made) stop.cut stop.fill reaches
+    cases (nat_le (stop.after + stop.call) made) (stop.after + stop.call == made + 1)
+    (nat_le (stop.after + stop.call) (made + 1)) (is_listed failing (made + 1))
+    (by_number failing made) (by_number_done failing made) stop.cut stop.fill reaches
   where
-    reaches : (nat_le (stop.after + stop.call) made || stop.after + stop.call == made + 1) ≡ nat_le (stop.after + stop.call) (made + 1)
+    reaches : (nat_le (stop.after + stop.call) made || stop.after + stop.call == made + 1)
+        ≡ nat_le (stop.after + stop.call) (made + 1)
     reaches = one_more (stop.after + stop.call) made
 
-    cases : (past here by listed : Bool) (other : Outcome) → is_done other ≡ not listed → (cut fill : ℕ) → (past || here) ≡ by → is_done (if past then Failed else (if here then Stopped cut fill else other)) ≡ not (by || listed)
+    cases : (past here by listed : Bool) (other : Outcome) → is_done other ≡ not listed
+        → (cut fill : ℕ) → (past || here) ≡ by
+        → is_done (if past then Failed else (if here then Stopped cut fill else other))
+        ≡ not (by || listed)
     cases true here by listed other is cut fill reach = cc
     cases false true by listed other is cut fill reach = cc
     cases false false by listed other is cut fill reach = cc
 
 -- a call that was added to the record, by the fields of the disk before and after
-pub called_by : (request : Request) (calls now : List Call) (added : Call) (old new : MemoryState) → now ≡ calls ++ added ∷ [] → request_of added.action ≡ request → added.outcome ≡ outcome_at old.stop old.failing (length calls)
-    → added.reopened ≡ old.reopened → old.calls ≡ map entry_of calls → new.calls ≡ map entry_of now → new.reopened ≡ false → new.stop ≡ old.stop → new.failing ≡ old.failing → HasCalled request old new
-called_by request calls now added old new pushed asked known reopened before after closed stop failing =
-    let count : length calls ≡ length old.calls = sym (length-map calls entry_of) ∙ ap length (sym before) in
-    let outcome : added.outcome ≡ next_outcome old = known ∙ ap (λ (n : ℕ). outcome_at old.stop old.failing n) count in
-    let entry : entry_of added ≡ record { reopened = old.reopened; request = request; outcome = next_outcome old } = λ i. record { reopened = reopened i; request = asked i; outcome = outcome i } in
+pub called_by : (request : Request) (calls now : List Call) (added : Call) (old new : MemoryState)
+    → now ≡ calls ++ added ∷ [] → request_of added.action ≡ request
+    → added.outcome ≡ outcome_at old.stop old.failing (length calls)
+    → added.reopened ≡ old.reopened → old.calls ≡ map entry_of calls → new.calls ≡ map entry_of now
+    → new.reopened ≡ false → new.stop ≡ old.stop → new.failing ≡ old.failing
+    → HasCalled request old new
+called_by request calls now added old new pushed asked known reopened before after closed stop
+    failing =
+    let count : length calls ≡ length old.calls =
+    sym (length-map calls entry_of) ∙ ap length (sym before) in
+    let outcome : added.outcome ≡ next_outcome old =
+    known ∙ ap (λ (n : ℕ). outcome_at old.stop old.failing n) count in
+    let entry : entry_of added ≡ record {
+      reopened = old.reopened;
+      request = request;
+      outcome = next_outcome old;
+    } =
+    λ i. record { reopened = reopened i; request = asked i; outcome = outcome i } in
     record {
-      calls = after ∙ ap (map entry_of) pushed ∙ map-append entry_of calls (added ∷ []) ∙ ap (λ (l : List Entry). l ++ entry_of added ∷ []) (sym before) ∙ ap (λ (e : Entry). old.calls ++ e ∷ []) entry;
+      calls =
+          after ∙ ap (map entry_of) pushed ∙ map-append entry_of calls (added ∷ [])
+          ∙ ap (λ (l : List Entry). l ++ entry_of added ∷ []) (sym before)
+          ∙ ap (λ (e : Entry). old.calls ++ e ∷ []) entry;
       reopened = closed;
       stop = stop;
       failing = failing;
@@ -91,77 +138,131 @@ module _ (request : Request) (old new : MemoryState) (called : HasCalled request
 
   pub held_now : held_after new.calls new.reopened ≡ effect held request (next_outcome old)
   unfolding held_after
-  held_now = ap (λ (r : Bool). opened r (run empty_disk new.calls)) called.reopened ∙ ap (λ (l : List Entry). run empty_disk l) called.calls ∙ run_push empty_disk old.calls entry
+  held_now =
+      ap (λ (r : Bool). opened r (run empty_disk new.calls)) called.reopened
+      ∙ ap (λ (l : List Entry). run empty_disk l) called.calls ∙ run_push empty_disk old.calls entry
 
   pub past_now : past_of new.calls ≡ past_of old.calls ++ moment_of held ∷ []
   unfolding held_after past_of
-  past_now = ap (λ (l : List Entry). moments empty_disk l) called.calls ∙ moments_push empty_disk old.calls entry
+  past_now =
+      ap (λ (l : List Entry). moments empty_disk l) called.calls
+      ∙ moments_push empty_disk old.calls entry
 
-  told_now : told_calls new.calls ≡ told_calls old.calls ++ told_request request (is_done (next_outcome old)) ∷ []
+  told_now : told_calls new.calls
+      ≡ told_calls old.calls ++ told_request request (is_done (next_outcome old)) ∷ []
   unfolding told_calls
   told_now = ap (map told_entry) called.calls ∙ map-append told_entry old.calls (entry ∷ [])
 
-  pub told_some : (done : Bool) → is_done (next_outcome old) ≡ done → (memory_state new).calls ≡ told_more (memory_state old).calls (told_request request done ∷ [])
-  told_some done is = ap (λ (l : List DeviceCall). Some l) told_now ∙ ap (λ (b : Bool). Some (told_calls old.calls ++ told_request request b ∷ [])) is
+  pub told_some : (done : Bool) → is_done (next_outcome old) ≡ done
+      → (memory_state new).calls
+      ≡ told_more (memory_state old).calls (told_request request done ∷ [])
+  told_some done is =
+      ap (λ (l : List DeviceCall). Some l) told_now
+      ∙ ap (λ (b : Bool). Some (told_calls old.calls ++ told_request request b ∷ [])) is
 
-  pub keeps_now : (outcome : Outcome) (bytes : List ℕ) (pending : List (ℕ × List ℕ)) (calls : List Call) → outcome ≡ outcome_at old.stop old.failing (length calls) → old.calls ≡ map entry_of calls → bytes ≡ (effect held request outcome).seen → pending ≡ done_writes (effect held request outcome).writes
+  pub keeps_now : (outcome : Outcome) (bytes : List ℕ) (pending : List (ℕ × List ℕ))
+      (calls : List Call)
+      → outcome ≡ outcome_at old.stop old.failing (length calls) → old.calls ≡ map entry_of calls
+      → bytes ≡ (effect held request outcome).seen
+      → pending ≡ done_writes (effect held request outcome).writes
       → IsHeldBy (held_after new.calls new.reopened) bytes pending
   keeps_now outcome bytes pending calls known before seen unsynced =
-      let count : length calls ≡ length old.calls = sym (length-map calls entry_of) ∙ ap length (sym before) in
-      let same : effect held request outcome ≡ held_after new.calls new.reopened = ap (λ (o : Outcome). effect held request o) (known ∙ ap (λ (n : ℕ). outcome_at old.stop old.failing n) count) ∙ sym held_now in
-      record { seen = seen ∙ ap (λ (h : Held). h.seen) same; unsynced = unsynced ∙ ap (λ (h : Held). done_writes h.writes) same }
+      let count : length calls ≡ length old.calls =
+      sym (length-map calls entry_of) ∙ ap length (sym before) in
+      let same : effect held request outcome ≡ held_after new.calls new.reopened =
+      ap (λ (o : Outcome). effect held request o)
+      (known ∙ ap (λ (n : ℕ). outcome_at old.stop old.failing n) count)
+      ∙ sym held_now in
+      record {
+        seen = seen ∙ ap (λ (h : Held). h.seen) same;
+        unsynced = unsynced ∙ ap (λ (h : Held). done_writes h.writes) same;
+      }
 
-  pub outcome_was : (outcome : Outcome) (calls : List Call) (done : Bool) → outcome ≡ outcome_at old.stop old.failing (length calls) → old.calls ≡ map entry_of calls → is_done outcome ≡ done → is_done (next_outcome old) ≡ done
+  pub outcome_was : (outcome : Outcome) (calls : List Call) (done : Bool)
+      → outcome ≡ outcome_at old.stop old.failing (length calls) → old.calls ≡ map entry_of calls
+      → is_done outcome ≡ done → is_done (next_outcome old) ≡ done
   outcome_was outcome calls done known before is =
-      let count : length calls ≡ length old.calls = sym (length-map calls entry_of) ∙ ap length (sym before) in
+      let count : length calls ≡ length old.calls =
+      sym (length-map calls entry_of) ∙ ap length (sym before) in
       ap is_done (sym (known ∙ ap (λ (n : ℕ). outcome_at old.stop old.failing n) count)) ∙ is
 
   pub called_continues : Continues old new
-  called_continues = record { requests = request ∷ []; calls = called.calls; reopened = called.reopened; stop = called.stop; failing = called.failing }
+  called_continues =
+      record {
+        requests = request ∷ [];
+        calls = called.calls;
+        reopened = called.reopened;
+        stop = called.stop;
+        failing = called.failing;
+      }
 
   pub called_succeeds : is_done (next_outcome old) ≡ true → next_fails old ≡ false
-  called_succeeds done = flip (next_fails old) (sym (outcome_done old.stop old.failing (length old.calls)) ∙ done)
+  called_succeeds done =
+      flip (next_fails old) (sym (outcome_done old.stop old.failing (length old.calls)) ∙ done)
     where
       flip : (b : Bool) → not b ≡ true → b ≡ false
       flip true is = cc
       flip false is = refl
 
   pub called_fails : is_done (next_outcome old) ≡ false → next_fails old ≡ true
-  called_fails fails = flip (next_fails old) (sym (outcome_done old.stop old.failing (length old.calls)) ∙ fails)
+  called_fails fails =
+      flip (next_fails old) (sym (outcome_done old.stop old.failing (length old.calls)) ∙ fails)
     where
       flip : (b : Bool) → not b ≡ false → b ≡ true
       flip true is = refl
       flip false is = cc
 
-module _ (place : ℕ) (bytes : List ℕ) (old new : MemoryState) (called : HasCalled (Write place bytes) old new) where
+module _ (place : ℕ) (bytes : List ℕ) (old new : MemoryState)
+    (called : HasCalled (Write place bytes) old new) where
   abbrev held_before : Held
   held_before = held_after old.calls old.reopened
 
-  pub write_done : is_done (next_outcome old) ≡ true → HasWritten place bytes (memory_state old) (memory_state new)
+  pub write_done : is_done (next_outcome old) ≡ true
+      → HasWritten place bytes (memory_state old) (memory_state new)
   write_done done =
       let next : held_after new.calls new.reopened ≡ effect held_before (Write place bytes) Done =
-      held_now (Write place bytes) old new called ∙ ap (λ (o : Outcome). effect held_before (Write place bytes) o) (done_only (next_outcome old) done) in
+      held_now (Write place bytes) old new called
+      ∙ ap (λ (o : Outcome). effect held_before (Write place bytes) o)
+      (done_only (next_outcome old) done) in
       record {
         seen = ap (λ (h : Held). h.seen) next;
         synced = ap (λ (h : Held). h.synced) next;
-        ranges = ap (λ (h : Held). map range_of h.writes) next ∙ ranges_push held_before.writes (record { place = place; bytes = bytes; done = true });
+        ranges =
+            ap (λ (h : Held). map range_of h.writes) next
+            ∙ ranges_push held_before.writes (record { place = place; bytes = bytes; done = true });
         past = past_now (Write place bytes) old new called;
         calls = told_some (Write place bytes) old new called true done;
       }
 
-  failed_as : (o : Outcome) → is_done o ≡ false → place ≤ length held_before.seen → Torn place (length bytes) held_before.seen (effect held_before (Write place bytes) o).seen
+  failed_as : (o : Outcome) → is_done o ≡ false → place ≤ length held_before.seen
+      → Torn place (length bytes) held_before.seen (effect held_before (Write place bytes) o).seen
       × ((effect held_before (Write place bytes) o).synced ≡ held_before.synced)
-      × (map range_of (effect held_before (Write place bytes) o).writes ≡ map range_of held_before.writes ++ (place, length bytes) ∷ [])
+      × (map range_of (effect held_before (Write place bytes) o).writes
+      ≡ map range_of held_before.writes ++ (place, length bytes) ∷ [])
   failed_as Done fails inside = absurd (let so : true ≡ false = fails in cc)
-  failed_as Failed fails inside = (torn_same place (length bytes) held_before.seen, refl, ranges_push held_before.writes (record { place = place; bytes = bytes; done = false }))
-  failed_as (Stopped cut fill) fails inside = (torn_put held_before.seen place (length bytes) (torn cut fill bytes) (length-torn cut fill bytes) inside, refl, ranges_push held_before.writes (record { place = place; bytes = bytes; done = false }))
+  failed_as Failed fails inside = (
+    torn_same place (length bytes) held_before.seen,
+    refl,
+    ranges_push held_before.writes (record { place = place; bytes = bytes; done = false }),
+  )
+  failed_as (Stopped cut fill) fails inside = (
+    torn_put held_before.seen place (length bytes) (torn cut fill bytes)
+        (length-torn cut fill bytes) inside,
+    refl,
+    ranges_push held_before.writes (record { place = place; bytes = bytes; done = false }),
+  )
 
-  pub write_failed : is_done (next_outcome old) ≡ false → place ≤ length held_before.seen → Rose old.faults new.faults → HasFailedToWrite place bytes (memory_state old) (memory_state new)
+  pub write_failed : is_done (next_outcome old) ≡ false → place ≤ length held_before.seen
+      → Rose old.faults new.faults
+      → HasFailedToWrite place bytes (memory_state old) (memory_state new)
   write_failed not_done inside rose =
-      let next : held_after new.calls new.reopened ≡ effect held_before (Write place bytes) (next_outcome old) = held_now (Write place bytes) old new called in
+      let next : held_after new.calls new.reopened
+      ≡ effect held_before (Write place bytes) (next_outcome old) =
+      held_now (Write place bytes) old new called in
       let so = failed_as (next_outcome old) not_done inside in
       record {
-        seen = subst (λ (h : Held). Torn place (length bytes) held_before.seen h.seen) (sym next) so.0;
+        seen =
+            subst (λ (h : Held). Torn place (length bytes) held_before.seen h.seen) (sym next) so.0;
         synced = ap (λ (h : Held). h.synced) next ∙ so.1;
         ranges = ap (λ (h : Held). map range_of h.writes) next ∙ so.2;
         past = past_now (Write place bytes) old new called;
@@ -173,9 +274,12 @@ module _ (old new : MemoryState) (called : HasCalled Sync old new) where
   abbrev held_then : Held
   held_then = held_after old.calls old.reopened
 
-  pub sync_done : is_done (next_outcome old) ≡ true → HasSynced (memory_state old) (memory_state new)
+  pub sync_done : is_done (next_outcome old) ≡ true
+      → HasSynced (memory_state old) (memory_state new)
   sync_done done =
-      let next : held_after new.calls new.reopened ≡ effect held_then Sync Done = held_now Sync old new called ∙ ap (λ (o : Outcome). effect held_then Sync o) (done_only (next_outcome old) done) in
+      let next : held_after new.calls new.reopened ≡ effect held_then Sync Done =
+      held_now Sync old new called
+      ∙ ap (λ (o : Outcome). effect held_then Sync o) (done_only (next_outcome old) done) in
       record {
         seen = ap (λ (h : Held). h.seen) next;
         synced = ap (λ (h : Held). h.synced) next;
@@ -184,16 +288,20 @@ module _ (old new : MemoryState) (called : HasCalled Sync old new) where
         calls = told_some Sync old new called true done;
       }
 
-  not_synced : (o : Outcome) → is_done o ≡ false → (length (effect held_then Sync o).seen ≡ length held_then.seen)
+  not_synced : (o : Outcome) → is_done o ≡ false
+      → (length (effect held_then Sync o).seen ≡ length held_then.seen)
       × ((effect held_then Sync o).synced ≡ held_then.synced)
       × ((effect held_then Sync o).writes ≡ held_then.writes)
   not_synced Done fails = absurd (let so : true ≡ false = fails in cc)
   not_synced Failed fails = (refl, refl, refl)
-  not_synced (Stopped cut fill) fails = (length-put_torn cut fill (done_writes held_then.writes) held_then.seen, refl, refl)
+  not_synced (Stopped cut fill) fails =
+      (length-put_torn cut fill (done_writes held_then.writes) held_then.seen, refl, refl)
 
-  pub sync_failed : is_done (next_outcome old) ≡ false → Rose old.faults new.faults → HasFailedToSync (memory_state old) (memory_state new)
+  pub sync_failed : is_done (next_outcome old) ≡ false → Rose old.faults new.faults
+      → HasFailedToSync (memory_state old) (memory_state new)
   sync_failed not_done rose =
-      let next : held_after new.calls new.reopened ≡ effect held_then Sync (next_outcome old) = held_now Sync old new called in
+      let next : held_after new.calls new.reopened ≡ effect held_then Sync (next_outcome old) =
+      held_now Sync old new called in
       let so = not_synced (next_outcome old) not_done in
       record {
         seen = ap (λ (h : Held). length h.seen) next ∙ so.0;

@@ -33,12 +33,17 @@ failed (Wrote place bytes done) = refl
 failed (Synced done) = refl
 
 -- with no stop and no numbers that fail, each call goes well
-all_went : (made : ℕ) (reopened : Bool) (rs : List Request) → list_all went (map told_entry (decided None [] made reopened rs)) ≡ true
+all_went : (made : ℕ) (reopened : Bool) (rs : List Request)
+    → list_all went (map told_entry (decided None [] made reopened rs)) ≡ true
 all_went made reopened [] = refl
 all_went made reopened (r ∷ rs) = rw (went_request r) (all_went (made + 1) false rs)
 
-not_failed : (did : List DeviceCall) (next : DeviceCall) → list_all went (did ++ failing next ∷ []) ≡ false
-not_failed did next = list_all-append went did (failing next ∷ []) ∙ ap (λ (b : Bool). list_all went did && (b && true)) (failed next) ∙ and_false (list_all went did)
+not_failed : (did : List DeviceCall) (next : DeviceCall)
+    → list_all went (did ++ failing next ∷ []) ≡ false
+not_failed did next =
+    list_all-append went did (failing next ∷ [])
+    ∙ ap (λ (b : Bool). list_all went did && (b && true)) (failed next)
+    ∙ and_false (list_all went did)
   where
     and_false : (b : Bool) → (b && false) ≡ false
     and_false true = refl
@@ -49,13 +54,28 @@ unfolding told_calls
 told_append a b = map-append told_entry a b
 
 -- so it cuts nothing short
-pub never_cut : (old new : MemoryState) (calls : List DeviceCall) → is_calm old ≡ true → Continues old new → IsCutShort calls (memory_state old) (memory_state new) → ⊥
+pub never_cut : (old new : MemoryState) (calls : List DeviceCall) → is_calm old ≡ true
+    → Continues old new → IsCutShort calls (memory_state old) (memory_state new) → ⊥
 never_cut old new calls calm went_on short =
-    let told : Some (told_calls new.calls) ≡ Some (told_calls old.calls ++ (short.did ++ failing short.next ∷ [])) = short.told in
-    let same : told_calls new.calls ≡ told_calls old.calls ++ (short.did ++ failing short.next ∷ []) = cc in
-    let ran : new.calls ≡ old.calls ++ decided None [] (length old.calls) old.reopened went_on.requests = rw (calm_stop old calm, calm_failing old calm) at went_on.calls in
-    let is : told_calls old.calls ++ map told_entry (decided None [] (length old.calls) old.reopened went_on.requests) ≡ told_calls old.calls ++ (short.did ++ failing short.next ∷ []) =
-    sym (told_append old.calls (decided None [] (length old.calls) old.reopened went_on.requests)) ∙ sym (ap told_calls ran) ∙ same in
-    let tail = append_cancel_left (told_calls old.calls) (map told_entry (decided None [] (length old.calls) old.reopened went_on.requests)) (short.did ++ failing short.next ∷ []) is in
-    let no : true ≡ false = sym (all_went (length old.calls) old.reopened went_on.requests) ∙ ap (list_all went) tail ∙ not_failed short.did short.next in
+    let told : Some (told_calls new.calls)
+    ≡ Some (told_calls old.calls ++ (short.did ++ failing short.next ∷ [])) =
+    short.told in
+    let same : told_calls new.calls
+    ≡ told_calls old.calls ++ (short.did ++ failing short.next ∷ []) =
+    cc in
+    let ran : new.calls
+    ≡ old.calls ++ decided None [] (length old.calls) old.reopened went_on.requests =
+    rw (calm_stop old calm, calm_failing old calm) at went_on.calls in
+    let is : told_calls old.calls
+    ++ map told_entry (decided None [] (length old.calls) old.reopened went_on.requests)
+    ≡ told_calls old.calls ++ (short.did ++ failing short.next ∷ []) =
+    sym (told_append old.calls (decided None [] (length old.calls) old.reopened went_on.requests))
+    ∙ sym (ap told_calls ran) ∙ same in
+    let tail =
+    append_cancel_left (told_calls old.calls)
+    (map told_entry (decided None [] (length old.calls) old.reopened went_on.requests))
+    (short.did ++ failing short.next ∷ []) is in
+    let no : true ≡ false =
+    sym (all_went (length old.calls) old.reopened went_on.requests) ∙ ap (list_all went) tail
+    ∙ not_failed short.did short.next in
     cc

@@ -2,7 +2,8 @@
 use Rattle.std.proofs.Common.{◌≡◌, List, [], Bool, true, false, refl}
 use Rattle.node_disk.specs.Record.{Entry, held_after}
 
-pub reopened_seen : (calls : List Entry) (reopened : Bool) → (held_after calls true).seen ≡ (held_after calls reopened).seen
+pub reopened_seen : (calls : List Entry) (reopened : Bool)
+    → (held_after calls true).seen ≡ (held_after calls reopened).seen
 unfolding held_after
 reopened_seen calls true = refl
 reopened_seen calls false = refl

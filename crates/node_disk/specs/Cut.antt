@@ -8,7 +8,8 @@ leaves_it call cut fill = (call == 3 || call == 4) && (nat_le 1 cut || fill == 1
 
 -- the frames that such a stop leaves
 abbrev pub kept_frames : ℕ → ℕ → ℕ → List (List ℕ) → List ℕ → List (List ℕ)
-kept_frames call cut fill frames frame = if leaves_it call cut fill then frames ++ frame ∷ [] else frames
+kept_frames call cut fill frames frame =
+    if leaves_it call cut fill then frames ++ frame ∷ [] else frames
 
 -- a disk in memory whose one fault to come is a stop at this device call from now
 pub record IsArmed (call cut fill : ℕ) (disk : MemoryState) : Type 0 where

@@ -13,10 +13,11 @@ abbrev pub failing : DeviceCall → DeviceCall
 failing (Wrote place bytes done) = Wrote place bytes false
 failing (Synced done) = Synced false
 
--- What a disk tells of itself: this moment, the moments before each of its device calls, those calls where it tells
--- them, how often a call failed, and how often a device call was tried, those refused for memory included. A crash in
--- the middle of a write leaves an image of the moment behind it, and one in the middle of a sync an image of the moment
--- before it, so the moments between the calls say what any crash leaves.
+-- What a disk tells of itself: this moment, the moments before each of its device calls, those
+-- calls where it tells them, how often a call failed, and how often a device call was tried, those
+-- refused for memory included. A crash in the middle of a write leaves an image of the moment
+-- behind it, and one in the middle of a sync an image of the moment before it, so the moments
+-- between the calls say what any crash leaves.
 pub record DiskState : Type 0 where
   pub now : Moment
   pub past : List Moment
@@ -92,7 +93,8 @@ pub record IsSame (old new : DiskState) : Type 0 where
   pub past : new.past ≡ old.past
   pub calls : new.calls ≡ old.calls
 
--- The disk went on from old to new, and a crash at any moment since, both included, leaves an image that has P.
+-- The disk went on from old to new, and a crash at any moment since, both included, leaves an image
+-- that has P.
 pub record LeavesOnly (old new : DiskState) (P : List ℕ → Type 0) : Type 0 where
   pub since : List Moment
   pub past : new.past ≡ old.past ++ since

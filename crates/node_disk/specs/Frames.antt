@@ -12,15 +12,21 @@ abbrev pub with_front : List (List ℕ) → Result (List (List ℕ)) ℕ → Res
 with_front frames (Ok more) = Ok (frames ++ more)
 with_front frames (Err place) = Err place
 
--- The frames from this place on, after so many bytes more are passed, or the place of the open gate whose frame is cut.
+-- The frames from this place on, after so many bytes more are passed, or the place of the open gate
+-- whose frame is cut.
 abbrev pub walk : ℕ → ℕ → List ℕ → Result (List (List ℕ)) ℕ
 walk place skip [] = Ok []
 walk place (suc skip) (byte ∷ bytes) = walk (place + 1) skip bytes
 walk place zero (gate ∷ bytes) =
     let count = count_of bytes in
-    if gate == 1 then (if nat_lt (8 + count) (length bytes) then with_front (take count (drop 8 bytes) ∷ []) (walk (place + 1) (8 + count) bytes) else Err place) else Ok []
+    if gate == 1
+    then (if nat_lt (8 + count) (length bytes)
+    then with_front (take count (drop 8 bytes) ∷ []) (walk (place + 1) (8 + count) bytes)
+    else Err place)
+    else Ok []
 
--- The frames of a log, or the place of the open gate whose frame is cut. A file shorter than two bytes has no frames.
+-- The frames of a log, or the place of the open gate whose frame is cut. A file shorter than two
+-- bytes has no frames.
 abbrev pub read_log : List ℕ → Result (List (List ℕ)) ℕ
 read_log [] = Ok []
 read_log (byte ∷ []) = Ok []

@@ -6,8 +6,9 @@ use Rattle.node_disk.specs.Record.{Request, Entry, Held, held_after, past_of, to
 use Rattle.node_disk.specs.declared.record.Outcome.{Outcome}
 use Rattle.node_disk.specs.declared.record.Stop.{Stop}
 
--- The record of its device calls, whether it was reopened since the last of them, the stop that is armed, the numbers of
--- the device calls that fail, how often a call failed, and how often a device call was tried.
+-- The record of its device calls, whether it was reopened since the last of them, the stop that is
+-- armed, the numbers of the device calls that fail, how often a call failed, and how often a device
+-- call was tried.
 pub record MemoryState : Type 0 where
   pub calls : List Entry
   pub reopened : Bool
@@ -18,7 +19,8 @@ pub record MemoryState : Type 0 where
 
 -- a new disk, with these numbers of calls that fail
 abbrev pub new_disk : List ℕ → MemoryState
-new_disk failing = record { calls = []; reopened = false; stop = None; failing = failing; faults = 0; tries = 0 }
+new_disk failing =
+    record { calls = []; reopened = false; stop = None; failing = failing; faults = 0; tries = 0 }
 
 -- the disk after a restart: no stop is armed
 abbrev pub reopened_disk : MemoryState → MemoryState
@@ -26,7 +28,14 @@ reopened_disk disk = record disk { reopened = true; stop = None }
 
 -- what it tells of itself
 abbrev pub memory_state : MemoryState → DiskState
-memory_state disk = record { now = moment_of (held_after disk.calls disk.reopened); past = past_of disk.calls; calls = Some (told_calls disk.calls); faults = disk.faults; tries = disk.tries }
+memory_state disk =
+    record {
+      now = moment_of (held_after disk.calls disk.reopened);
+      past = past_of disk.calls;
+      calls = Some (told_calls disk.calls);
+      faults = disk.faults;
+      tries = disk.tries;
+    }
 
 -- its bytes, and the writes that wait for a sync, are those that it holds
 pub record IsHeldBy (held : Held) (bytes : List ℕ) (pending : List (ℕ × List ℕ)) : Type 0 where
@@ -37,16 +46,19 @@ pub record IsHeldBy (held : Held) (bytes : List ℕ) (pending : List (ℕ × Lis
 abbrev pub is_stopped : MemoryState → Bool
 is_stopped disk = is_reached disk.stop (length disk.calls)
 
--- the next device call fails: a stop stands at it or was reached before it, or its number is one of those that fail
+-- the next device call fails: a stop stands at it or was reached before it, or its number is one of
+-- those that fail
 abbrev pub next_fails : MemoryState → Bool
-next_fails disk = is_reached disk.stop (length disk.calls + 1) || is_listed disk.failing (length disk.calls + 1)
+next_fails disk =
+    is_reached disk.stop (length disk.calls + 1) || is_listed disk.failing (length disk.calls + 1)
 
 -- these are no numbers
 abbrev pub is_none_listed : List ℕ → Bool
 is_none_listed [] = true
 is_none_listed (number ∷ failing) = false
 
--- no call to come fails: no stop is armed or was reached, and no number of a device call is one that fails
+-- no call to come fails: no stop is armed or was reached, and no number of a device call is one
+-- that fails
 abbrev pub is_calm : MemoryState → Bool
 is_calm disk = is_none disk.stop && is_none_listed disk.failing
 
@@ -56,11 +68,16 @@ next_outcome disk = outcome_at disk.stop disk.failing (length disk.calls)
 
 -- a stop at this device call from now, the first being 1
 abbrev pub stop_from_now : MemoryState → ℕ → ℕ → ℕ → Option Stop
-stop_from_now disk call cut fill = Some (record { after = length disk.calls; call = call; cut = cut; fill = fill })
+stop_from_now disk call cut fill =
+    Some (record { after = length disk.calls; call = call; cut = cut; fill = fill })
 
 -- one device call more, which went as the stop and the numbers that fail decide
 pub record HasCalled (request : Request) (old new : MemoryState) : Type 0 where
-  pub calls : new.calls ≡ old.calls ++ record { reopened = old.reopened; request = request; outcome = next_outcome old } ∷ []
+  pub calls : new.calls ≡ old.calls ++ record {
+    reopened = old.reopened;
+    request = request;
+    outcome = next_outcome old;
+  } ∷ []
   pub reopened : new.reopened ≡ false
   pub stop : new.stop ≡ old.stop
   pub failing : new.failing ≡ old.failing
@@ -68,7 +85,8 @@ pub record HasCalled (request : Request) (old new : MemoryState) : Type 0 where
 -- some device calls more, each of which went as the stop and the numbers that fail decide
 pub record Continues (old new : MemoryState) : Type 0 where
   pub requests : List Request
-  pub calls : new.calls ≡ old.calls ++ decided old.stop old.failing (length old.calls) old.reopened requests
+  pub calls : new.calls
+      ≡ old.calls ++ decided old.stop old.failing (length old.calls) old.reopened requests
   pub reopened : new.reopened ≡ reopened_still old.reopened requests
   pub stop : new.stop ≡ old.stop
   pub failing : new.failing ≡ old.failing

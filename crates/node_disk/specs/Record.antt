@@ -16,7 +16,8 @@ pub data Request : Type 0 where
   Write : (place : ℕ) (bytes : List ℕ) → Request
   Sync : Request
 
--- a recorded device call: whether the disk was reopened since the one before, what it asked for, and how it went
+-- a recorded device call: whether the disk was reopened since the one before, what it asked for,
+-- and how it went
 pub record Entry : Type 0 where
   pub reopened : Bool
   pub request : Request
@@ -29,7 +30,8 @@ request_of action.Sync = Sync
 
 -- the entry that a recorded call keeps
 abbrev pub entry_of : Call → Entry
-entry_of call = record { reopened = call.reopened; request = request_of call.action; outcome = call.outcome }
+entry_of call =
+    record { reopened = call.reopened; request = request_of call.action; outcome = call.outcome }
 
 -- a write since the last sync, and whether it was done
 pub record Written : Type 0 where
@@ -37,7 +39,8 @@ pub record Written : Type 0 where
   pub bytes : List ℕ
   pub done : Bool
 
--- what a disk holds: what a read gives, what the last sync that succeeded left, and the writes since
+-- what a disk holds: what a read gives, what the last sync that succeeded left, and the writes
+-- since
 pub record Held : Type 0 where
   pub seen : List ℕ
   pub synced : List ℕ
@@ -53,7 +56,8 @@ range_of write = (write.place, length write.bytes)
 
 -- what a disk tells of this moment
 abbrev pub moment_of : Held → Moment
-moment_of held = record { seen = held.seen; synced = held.synced; ranges = map range_of held.writes }
+moment_of held =
+    record { seen = held.seen; synced = held.synced; ranges = map range_of held.writes }
 
 -- the first of these bytes, as many as the cut says, and the fill for each of the rest
 abbrev pub torn : ℕ → ℕ → List ℕ → List ℕ
@@ -66,12 +70,14 @@ put_within old place bytes = take (length old) (put_at old place bytes)
 -- these writes, joined in order and torn
 abbrev pub put_torn : ℕ → ℕ → List (ℕ × List ℕ) → List ℕ → List ℕ
 put_torn cut fill [] seen = seen
-put_torn cut fill (write ∷ writes) seen = put_torn (cut - length write.1) fill writes (put_within seen write.0 (torn cut fill write.1))
+put_torn cut fill (write ∷ writes) seen =
+    put_torn (cut - length write.1) fill writes (put_within seen write.0 (torn cut fill write.1))
 
 -- the places and bytes of the writes that were done
 abbrev pub done_writes : List Written → List (ℕ × List ℕ)
 done_writes [] = []
-done_writes (write ∷ writes) = if write.done then (write.place, write.bytes) ∷ done_writes writes else done_writes writes
+done_writes (write ∷ writes) =
+    if write.done then (write.place, write.bytes) ∷ done_writes writes else done_writes writes
 
 -- the place and the bytes of a write that waits for a sync
 abbrev pub write_of : Pending → ℕ × List ℕ
@@ -79,17 +85,30 @@ write_of write = (write.place, write.bytes.items)
 
 -- one write more since the last sync
 abbrev pub with_write : Held → List ℕ → ℕ → List ℕ → Bool → Held
-with_write held seen place bytes done = record { seen = seen; synced = held.synced; writes = held.writes ++ record { place = place; bytes = bytes; done = done } ∷ [] }
+with_write held seen place bytes done =
+    record {
+      seen = seen;
+      synced = held.synced;
+      writes = held.writes ++ record { place = place; bytes = bytes; done = done } ∷ [];
+    }
 
--- What a disk holds after a device call. One that fails leaves the bytes as they were, and a write that fails counts as
--- a written range. A stop at a write leaves it torn, and a stop at a sync the writes since the last one.
+-- What a disk holds after a device call. One that fails leaves the bytes as they were, and a write
+-- that fails counts as a written range. A stop at a write leaves it torn, and a stop at a sync the
+-- writes since the last one.
 abbrev pub effect : Held → Request → Outcome → Held
-effect held (Write place bytes) Done = with_write held (put_at held.seen place bytes) place bytes true
+effect held (Write place bytes) Done =
+    with_write held (put_at held.seen place bytes) place bytes true
 effect held (Write place bytes) Failed = with_write held held.seen place bytes false
-effect held (Write place bytes) (Stopped cut fill) = with_write held (put_at held.seen place (torn cut fill bytes)) place bytes false
+effect held (Write place bytes) (Stopped cut fill) =
+    with_write held (put_at held.seen place (torn cut fill bytes)) place bytes false
 effect held Sync Done = record { seen = held.seen; synced = held.seen; writes = [] }
 effect held Sync Failed = held
-effect held Sync (Stopped cut fill) = record { seen = put_torn cut fill (done_writes held.writes) held.seen; synced = held.synced; writes = held.writes }
+effect held Sync (Stopped cut fill) =
+    record {
+      seen = put_torn cut fill (done_writes held.writes) held.seen;
+      synced = held.synced;
+      writes = held.writes;
+    }
 
 -- after a reopening all that a read gives is on the disk
 abbrev pub opened : Bool → Held → Held
@@ -108,7 +127,8 @@ run held (entry ∷ entries) = run (step held entry) entries
 -- the moments before each of these calls
 abbrev pub moments : Held → List Entry → List Moment
 moments held [] = []
-moments held (entry ∷ entries) = moment_of (opened entry.reopened held) ∷ moments (step held entry) entries
+moments held (entry ∷ entries) =
+    moment_of (opened entry.reopened held) ∷ moments (step held entry) entries
 
 -- a device call succeeded
 abbrev pub is_done : Outcome → Bool
@@ -150,16 +170,21 @@ is_listed failing number = list_any (λ n. n == number) failing
 abbrev pub by_number : List ℕ → ℕ → Outcome
 by_number failing made = if is_listed failing (made + 1) then Failed else Done
 
--- how the next device call goes: behind a stop it fails, at a stop it is stopped, and else the numbers that fail decide
+-- how the next device call goes: behind a stop it fails, at a stop it is stopped, and else the
+-- numbers that fail decide
 abbrev pub outcome_at : Option Stop → List ℕ → ℕ → Outcome
 outcome_at None failing made = by_number failing made
 outcome_at (Some stop) failing made =
-    if nat_le (stop.after + stop.call) made then Failed else (if stop.after + stop.call == made + 1 then Stopped stop.cut stop.fill else by_number failing made)
+    if nat_le (stop.after + stop.call) made then Failed
+    else (if stop.after + stop.call == made + 1 then Stopped stop.cut stop.fill
+    else by_number failing made)
 
 -- how these go, one after another, after so many
 abbrev pub decided : Option Stop → List ℕ → ℕ → Bool → List Request → List Entry
 decided stop failing made reopened [] = []
-decided stop failing made reopened (request ∷ requests) = record { reopened = reopened; request = request; outcome = outcome_at stop failing made } ∷ decided stop failing (made + 1) false requests
+decided stop failing made reopened (request ∷ requests) =
+    record { reopened = reopened; request = request; outcome = outcome_at stop failing made }
+    ∷ decided stop failing (made + 1) false requests
 
 -- a disk was reopened, and none of these was called since
 abbrev pub reopened_still : Bool → List Request → Bool

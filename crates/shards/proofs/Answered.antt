@@ -29,47 +29,86 @@ abbrev pub count : Commitment → List KeptChunk → ℕ
 count c kept = length (filter (λ (k : KeptChunk). same_commitment c k.commitment) kept)
 
 -- with one more of the same commitment
-pub chunks_with : (c : Commitment) (kept : List KeptChunk) (x : Chunk) → chunks_of c (with_chunk kept c x) ≡ chunks_of c kept ++ x ∷ []
-chunks_with c kept x = chunks_more c kept c x ∙ ap (λ b. chunks_of c kept ++ (if b then x ∷ [] else [])) (same_commitment_self c)
+pub chunks_with : (c : Commitment) (kept : List KeptChunk) (x : Chunk)
+    → chunks_of c (with_chunk kept c x) ≡ chunks_of c kept ++ x ∷ []
+chunks_with c kept x =
+    chunks_more c kept c x
+    ∙ ap (λ b. chunks_of c kept ++ (if b then x ∷ [] else [])) (same_commitment_self c)
 
 counted : (c : Commitment) (kept : List KeptChunk) → length (chunks_of c kept) ≡ count c kept
-counted c kept = length-map (filter (λ (k : KeptChunk). same_commitment c k.commitment) kept) (λ (k : KeptChunk). k.chunk)
+counted c kept =
+    length-map (filter (λ (k : KeptChunk). same_commitment c k.commitment) kept)
+    (λ (k : KeptChunk). k.chunk)
 
-all_under : (hash : List ℕ → Digest32) (epochs : Epochs) (c : Commitment) (xs : List Chunk) → AllByRecursion (λ x. IsTrue (is_chunk_of (rules_of hash epochs) c x)) xs → AreUnder hash c xs
+all_under : (hash : List ℕ → Digest32) (epochs : Epochs) (c : Commitment) (xs : List Chunk)
+    → AllByRecursion (λ x. IsTrue (is_chunk_of (rules_of hash epochs) c x)) xs → AreUnder hash c xs
 all_under hash epochs c [] a = tt
-all_under hash epochs c (x ∷ xs) a =
-    ((and_parts (list_any (λ (list : List ℕ). same_counts c.config (config_for (length list))) epochs.lists) (is_under (rules_of hash epochs) c x) a.0).1, all_under hash epochs c xs a.1)
+all_under hash epochs c (x ∷ xs) a = (
+  (and_parts
+      (list_any (λ (list : List ℕ). same_counts c.config (config_for (length list))) epochs.lists)
+      (is_under (rules_of hash epochs) c x) a.0).1,
+  all_under hash epochs c xs a.1,
+)
 
 -- k chunks that are kept are enough
-pub enough_kept : (hash : List ℕ → Digest32) (epochs : Epochs) (kept : List KeptChunk) (c : Commitment) (x : Chunk) → AreTakenOnce (rules_of hash epochs) kept → is_known kept c x ≡ false
-    → is_chunk_of (rules_of hash epochs) c x ≡ true → 2 ≤ c.config.minimum → total_of c.config ≤ 65535 → count c kept ≡ c.config.minimum - 1 → AreEnough hash c (chunks_of c kept ++ x ∷ [])
+pub enough_kept : (hash : List ℕ → Digest32) (epochs : Epochs) (kept : List KeptChunk)
+    (c : Commitment) (x : Chunk)
+    → AreTakenOnce (rules_of hash epochs) kept → is_known kept c x ≡ false
+    → is_chunk_of (rules_of hash epochs) c x ≡ true → 2 ≤ c.config.minimum
+    → total_of c.config ≤ 65535 → count c kept ≡ c.config.minimum - 1
+    → AreEnough hash c (chunks_of c kept ++ x ∷ [])
 enough_kept hash epochs kept c x are new taken some few n =
     let more = keep_more (rules_of hash epochs) kept c x are new taken in
     record {
       some = some;
       few = few;
       enough = omega (arith, length-append (chunks_of c kept) (x ∷ []), counted c kept);
-      under = all_under hash epochs c (chunks_of c kept ++ x ∷ []) (subst (AllByRecursion (λ y. IsTrue (is_chunk_of (rules_of hash epochs) c y))) (chunks_with c kept x) (more.taken c));
+      under =
+          all_under hash epochs c (chunks_of c kept ++ x ∷ [])
+          (subst (AllByRecursion (λ y. IsTrue (is_chunk_of (rules_of hash epochs) c y)))
+          (chunks_with c kept x) (more.taken c));
       apart = rw (← chunks_with c kept x) (more.apart c);
     }
 
 -- the verdict on the k-th chunk
-pub verdict_shown : (r : Rules) (kept : List KeptChunk) (c : Commitment) (x : Chunk) (block : Option Block) → 2 ≤ c.config.minimum → count c kept ≡ c.config.minimum - 1
-    → block ≡ option_and_then (if_committed r c) (block_of r c.config (chunks_of c kept ++ x ∷ [])) → of_shown block ≡ kept_verdict r kept c x
+pub verdict_shown : (r : Rules) (kept : List KeptChunk) (c : Commitment) (x : Chunk)
+    (block : Option Block)
+    → 2 ≤ c.config.minimum → count c kept ≡ c.config.minimum - 1
+    → block ≡ option_and_then (if_committed r c) (block_of r c.config (chunks_of c kept ++ x ∷ []))
+    → of_shown block ≡ kept_verdict r kept c x
 verdict_shown r kept c x block some n is =
-    let long : length (chunks_of c (with_chunk kept c x)) ≡ c.config.minimum = ap length (chunks_with c kept x) ∙ omega (arith, length-append (chunks_of c kept) (x ∷ []), counted c kept) in
-    let last : (length (chunks_of c kept) + 1 == c.config.minimum) ≡ true = eq-eqb _ _ (omega (arith, counted c kept)) in
-    ap of_shown (is ∙ (ap (λ xs. option_and_then (if_committed r c) (block_of r c.config xs)) (sym (chunks_with c kept x)) ∙ sym (shown_kept r c (with_chunk kept c x) long)))
+    let long : length (chunks_of c (with_chunk kept c x)) ≡ c.config.minimum =
+    ap length (chunks_with c kept x)
+    ∙ omega (arith, length-append (chunks_of c kept) (x ∷ []), counted c kept) in
+    let last : (length (chunks_of c kept) + 1 == c.config.minimum) ≡ true =
+    eq-eqb _ _ (omega (arith, counted c kept)) in
+    ap of_shown
+    (is
+    ∙ (ap (λ xs. option_and_then (if_committed r c) (block_of r c.config xs))
+    (sym (chunks_with c kept x))
+    ∙ sym (shown_kept r c (with_chunk kept c x) long)))
     ∙ sym (cond-true (length (chunks_of c kept) + 1 == c.config.minimum) _ Kept last)
 
 -- the verdict on another
-pub verdict_kept : (r : Rules) (kept : List KeptChunk) (c : Commitment) (x : Chunk) → 2 ≤ c.config.minimum → (count c kept ≡ c.config.minimum - 1 → ⊥) → Kept ≡ kept_verdict r kept c x
-verdict_kept r kept c x some other = go (cases_Bool (length (chunks_of c kept) + 1 == c.config.minimum))
+pub verdict_kept : (r : Rules) (kept : List KeptChunk) (c : Commitment) (x : Chunk)
+    → 2 ≤ c.config.minimum → (count c kept ≡ c.config.minimum - 1 → ⊥)
+    → Kept ≡ kept_verdict r kept c x
+verdict_kept r kept c x some other =
+    go (cases_Bool (length (chunks_of c kept) + 1 == c.config.minimum))
   where
-    go : ((length (chunks_of c kept) + 1 == c.config.minimum) ≡ true) ⊎ ((length (chunks_of c kept) + 1 == c.config.minimum) ≡ false) → Kept ≡ kept_verdict r kept c x
+    go : ((length (chunks_of c kept) + 1 == c.config.minimum) ≡ true)
+        ⊎ ((length (chunks_of c kept) + 1 == c.config.minimum) ≡ false)
+        → Kept ≡ kept_verdict r kept c x
     go (inl t) = absurd (other (let e = eqb-true _ _ t in omega (arith, counted c kept)))
     go (inr f) = sym (cond-false (length (chunks_of c kept) + 1 == c.config.minimum) _ Kept f)
 
 -- the verdict on a chunk that isn't known and that the rules take
-pub verdict_taken : (r : Rules) (kept : List KeptChunk) (c : Commitment) (x : Chunk) (v : Verdict) → is_known kept c x ≡ false → is_chunk_of r c x ≡ true → v ≡ kept_verdict r kept c x → v ≡ verdict r kept c x
-verdict_taken r kept c x v new taken is = is ∙ (sym (cond-true (is_chunk_of r c x) (kept_verdict r kept c x) Foreign taken) ∙ sym (cond-false (is_known kept c x) Known (if is_chunk_of r c x then kept_verdict r kept c x else Foreign) new))
+pub verdict_taken : (r : Rules) (kept : List KeptChunk) (c : Commitment) (x : Chunk) (v : Verdict)
+    → is_known kept c x ≡ false → is_chunk_of r c x ≡ true → v ≡ kept_verdict r kept c x
+    → v ≡ verdict r kept c x
+verdict_taken r kept c x v new taken is =
+    is
+    ∙ (sym (cond-true (is_chunk_of r c x) (kept_verdict r kept c x) Foreign taken)
+    ∙ sym
+    (cond-false (is_known kept c x) Known
+    (if is_chunk_of r c x then kept_verdict r kept c x else Foreign) new))

@@ -30,7 +30,8 @@ use Rattle.cw_rules_coded.proofs.RealCoder.{listed_at, byte_at}
 
 -- ---- lists by place
 
-pub listed_from : {X : Type 0} (n : ℕ) (f : ℕ → X) (i : ℕ) (x : X) → slice_get (listed n f) i ≡ Some x → f i ≡ x
+pub listed_from : {X : Type 0} (n : ℕ) (f : ℕ → X) (i : ℕ) (x : X)
+    → slice_get (listed n f) i ≡ Some x → f i ≡ x
 listed_from n f i x h = go (cases_lt i n)
   where
     go : (i < n) ⊎ (n ≤ i) → f i ≡ x
@@ -43,23 +44,33 @@ all_bytes [] h = tt
 all_bytes (x ∷ xs) h = (h 0, all_bytes xs (λ i. h (suc i)))
 
 -- what holds of those that pass a test, and of those that don't, holds of all
-pub all_parts : {X : Type 0} (P : X → Type 0) (p : X → Bool) (xs : List X) → AllByRecursion P (filter p xs ++ filter (λ x. not (p x)) xs) → AllByRecursion P xs
-all_parts {X = X} P p xs h = let both = split (filter p xs) (filter (λ x. not (p x)) xs) h in join xs both.0 both.1
+pub all_parts : {X : Type 0} (P : X → Type 0) (p : X → Bool) (xs : List X)
+    → AllByRecursion P (filter p xs ++ filter (λ x. not (p x)) xs) → AllByRecursion P xs
+all_parts {X = X} P p xs h =
+    let both = split (filter p xs) (filter (λ x. not (p x)) xs) h in join xs both.0 both.1
   where
-    split : (ys zs : List X) → AllByRecursion P (ys ++ zs) → AllByRecursion P ys × AllByRecursion P zs
+    split : (ys zs : List X) → AllByRecursion P (ys ++ zs)
+        → AllByRecursion P ys × AllByRecursion P zs
     split [] zs a = (tt, a)
     split (y ∷ ys) zs a = let more = split ys zs a.1 in ((a.0, more.0), more.1)
 
-    join : (ys : List X) → AllByRecursion P (filter p ys) → AllByRecursion P (filter (λ x. not (p x)) ys) → AllByRecursion P ys
+    join : (ys : List X) → AllByRecursion P (filter p ys)
+        → AllByRecursion P (filter (λ x. not (p x)) ys) → AllByRecursion P ys
     join [] a b = tt
     join (y ∷ ys) a b = go (p y) (join ys) a b
       where
-        go : (t : Bool) → (AllByRecursion P (filter p ys) → AllByRecursion P (filter (λ x. not (p x)) ys) → AllByRecursion P ys)
-            → AllByRecursion P (cond t (y ∷ filter p ys) (filter p ys)) → AllByRecursion P (cond (not t) (y ∷ filter (λ x. not (p x)) ys) (filter (λ x. not (p x)) ys)) → AllByRecursion P (y ∷ ys)
+        go : (t : Bool)
+            → (AllByRecursion P (filter p ys) → AllByRecursion P (filter (λ x. not (p x)) ys)
+            → AllByRecursion P ys)
+            → AllByRecursion P (cond t (y ∷ filter p ys) (filter p ys))
+            → AllByRecursion P
+            (cond (not t) (y ∷ filter (λ x. not (p x)) ys) (filter (λ x. not (p x)) ys))
+            → AllByRecursion P (y ∷ ys)
         go true more a b = (a.0, more a.1 b)
         go false more a b = (b.0, more a b.1)
 
-pub length-parts : {X : Type 0} (p : X → Bool) (xs : List X) → length (filter p xs ++ filter (λ x. not (p x)) xs) ≡ length xs
+pub length-parts : {X : Type 0} (p : X → Bool) (xs : List X)
+    → length (filter p xs ++ filter (λ x. not (p x)) xs) ≡ length xs
 length-parts {X = X} p xs = length-append (filter p xs) (filter (λ x. not (p x)) xs) ∙ sum xs
   where
     sum : (ys : List X) → length (filter p ys) + length (filter (λ x. not (p x)) ys) ≡ length ys
@@ -67,7 +78,10 @@ length-parts {X = X} p xs = length-append (filter p xs) (filter (λ x. not (p x)
     sum (y ∷ ys) = go (p y) (sum ys)
       where
         go : (b : Bool) → length (filter p ys) + length (filter (λ x. not (p x)) ys) ≡ length ys →
-            length (cond b (y ∷ filter p ys) (filter p ys)) + length (cond (not b) (y ∷ filter (λ x. not (p x)) ys) (filter (λ x. not (p x)) ys)) ≡ suc (length ys)
+            length (cond b (y ∷ filter p ys) (filter p ys))
+            + length
+            (cond (not b) (y ∷ filter (λ x. not (p x)) ys) (filter (λ x. not (p x)) ys))
+            ≡ suc (length ys)
         go true e = omega arith
         go false e = omega arith
 
@@ -80,67 +94,116 @@ all_compared k cs e = go (length (filter (λ (c : Checked Digest32). nat_lt c.in
     go false = refl
 
 -- what holds of those that are compared holds of all
-pub all_in_order : (P : Checked Digest32 → Type 0) (k : ℕ) (cs : List (Checked Digest32)) → length cs ≡ k → All P (take (compared k cs) (in_order k cs)) → AllByRecursion P cs
+pub all_in_order : (P : Checked Digest32 → Type 0) (k : ℕ) (cs : List (Checked Digest32))
+    → length cs ≡ k → All P (take (compared k cs) (in_order k cs)) → AllByRecursion P cs
 all_in_order P k cs e h =
     let long = length-parts (λ (c : Checked Digest32). nat_lt c.index k) cs in
-    let whole : take (compared k cs) (in_order k cs) ≡ in_order k cs = take_all (compared k cs) (in_order k cs) (omega (arith, all_compared k cs e)) in
-    all_parts P (λ (c : Checked Digest32). nat_lt c.index k) cs (recursion_from_All P (in_order k cs) (subst (All P) whole h))
+    let whole : take (compared k cs) (in_order k cs) ≡ in_order k cs =
+    take_all (compared k cs) (in_order k cs) (omega (arith, all_compared k cs e)) in
+    all_parts P (λ (c : Checked Digest32). nat_lt c.index k) cs
+    (recursion_from_All P (in_order k cs) (subst (All P) whole h))
 
 module _ (hash : List ℕ → Digest32) (epochs : Epochs) (c : Commitment) where
   -- ---- from what is decoded
 
-  pub rows_of_text : (text : List ℕ) (chunks : List Chunk) → total_of c.config ≤ 65535 → AreUnder hash c chunks
-      → AllByRecursion (λ (y : Checked Digest32). y.shard ≡ row_at c.config.minimum text y.index) (map (checked_of hash c) chunks)
-      → AllByRecursion (λ (x : Chunk). slice_get (code_rows text c.config.minimum c.config.extra) x.index ≡ Some x.shard) chunks
+  pub rows_of_text : (text : List ℕ) (chunks : List Chunk) → total_of c.config ≤ 65535
+      → AreUnder hash c chunks
+      → AllByRecursion (λ (y : Checked Digest32). y.shard ≡ row_at c.config.minimum text y.index)
+      (map (checked_of hash c) chunks)
+      → AllByRecursion
+      (λ (x : Chunk). slice_get (code_rows text c.config.minimum c.config.extra) x.index
+      ≡ Some x.shard)
+      chunks
   rows_of_text text [] few u a = tt
   rows_of_text text (x ∷ xs) few u a =
-      let stands = stands_under hash epochs c x few u.0 in
-      (listed_at (c.config.minimum + c.config.extra) (row_at c.config.minimum text) x.index stands.within ∙ ap Some (sym a.0), rows_of_text text xs few u.1 a.1)
+      let stands = stands_under hash epochs c x few u.0 in (
+        listed_at (c.config.minimum + c.config.extra) (row_at c.config.minimum text) x.index
+            stands.within
+            ∙ ap Some (sym a.0),
+        rows_of_text text xs few u.1 a.1,
+      )
 
   -- chunks that are decoded to a text are rows of its codeword
-  pub of_text : (chunks : List Chunk) (text : List ℕ) → IsCoder (rules_of hash epochs) → AreEnough hash c chunks → AreByteChunks chunks
-      → IsDecoding hash digest_bytes c.config c.root (map (checked_of hash c) chunks) text → AreOfText hash c chunks text
+  pub of_text : (chunks : List Chunk) (text : List ℕ) → IsCoder (rules_of hash epochs)
+      → AreEnough hash c chunks → AreByteChunks chunks
+      → IsDecoding hash digest_bytes c.config c.root (map (checked_of hash c) chunks) text
+      → AreOfText hash c chunks text
   of_text chunks text coder are bytes d =
       let two = are.some in
       let short = d.short in
-      let long : length (map (checked_of hash c) chunks) ≡ c.config.minimum = length-map chunks (checked_of hash c) ∙ are.enough in
-      let rows = all_in_order (λ (y : Checked Digest32). y.shard ≡ row_at c.config.minimum text y.index) c.config.minimum (map (checked_of hash c) chunks) long d.rows in
+      let long : length (map (checked_of hash c) chunks) ≡ c.config.minimum =
+      length-map chunks (checked_of hash c) ∙ are.enough in
+      let rows =
+      all_in_order (λ (y : Checked Digest32). y.shard ≡ row_at c.config.minimum text y.index)
+      c.config.minimum (map (checked_of hash c) chunks) long d.rows in
       record {
-        decodes = coder.complete c.config chunks text (omega arith) are.few are.apart bytes are.enough (all_bytes text d.bytes, omega arith) (rows_of_text text chunks are.few are.under rows);
+        decodes =
+            coder.complete c.config chunks text (omega arith) are.few are.apart bytes are.enough
+            (all_bytes text d.bytes, omega arith)
+            (rows_of_text text chunks are.few are.under rows);
         rooted = d.rooted;
       }
 
   -- ---- from what is refused
 
-  pub chunks_of_text : (text : List ℕ) (chunks : List Chunk) → total_of c.config ≤ 65535 → AreUnder hash c chunks
-      → AllByRecursion (λ (x : Chunk). slice_get (code_rows text c.config.minimum c.config.extra) x.index ≡ Some x.shard) chunks
+  pub chunks_of_text : (text : List ℕ) (chunks : List Chunk) → total_of c.config ≤ 65535
+      → AreUnder hash c chunks
+      → AllByRecursion
+      (λ (x : Chunk). slice_get (code_rows text c.config.minimum c.config.extra) x.index
+      ≡ Some x.shard)
+      chunks
       → AllByRecursion (IsChunkOf c.config text c.root) (map (checked_of hash c) chunks)
   chunks_of_text text [] few u a = tt
   chunks_of_text text (x ∷ xs) few u a =
-      let stands = stands_under hash epochs c x few u.0 in
-      (record { rooted = refl; within = stands.within; row = sym (listed_from (c.config.minimum + c.config.extra) (row_at c.config.minimum text) x.index x.shard a.0) }, chunks_of_text text xs few u.1 a.1)
+      let stands = stands_under hash epochs c x few u.0 in (
+        record {
+          rooted = refl;
+          within = stands.within;
+          row =
+              sym
+              (listed_from (c.config.minimum + c.config.extra) (row_at c.config.minimum text)
+              x.index x.shard a.0);
+        },
+        chunks_of_text text xs few u.1 a.1,
+      )
 
-  elsewhere : (i : ℕ) (chunks : List Chunk) → AllByRecursion (λ (d : Chunk). i ≢ d.index) chunks → (k : ℕ) → k < length (indices_of (map (checked_of hash c) chunks)) → get_or (indices_of (map (checked_of hash c) chunks)) k i ≡ i → ⊥
+  elsewhere : (i : ℕ) (chunks : List Chunk) → AllByRecursion (λ (d : Chunk). i ≢ d.index) chunks
+      → (k : ℕ) → k < length (indices_of (map (checked_of hash c) chunks))
+      → get_or (indices_of (map (checked_of hash c) chunks)) k i ≡ i → ⊥
   elsewhere i [] a k l e = absurd (omega arith)
   elsewhere i (x ∷ xs) a zero l e = a.0 (sym e)
   elsewhere i (x ∷ xs) a (suc k) l e = elsewhere i xs a.1 k (omega arith) e
 
-  pub sound_indices : (chunks : List Chunk) → total_of c.config ≤ 65535 → AreUnder hash c chunks → AreApart chunks → AreSound (total_of c.config) (indices_of (map (checked_of hash c) chunks))
+  pub sound_indices : (chunks : List Chunk) → total_of c.config ≤ 65535 → AreUnder hash c chunks
+      → AreApart chunks → AreSound (total_of c.config) (indices_of (map (checked_of hash c) chunks))
   sound_indices [] few u a = tt
   sound_indices (x ∷ xs) few u a =
       let stands = stands_under hash epochs c x few u.0 in
       (stands.within, λ h. elsewhere x.index xs a.0 h.0 h.1 h.2, sound_indices xs few u.1 a.1)
 
   -- chunks that are refused, and not for want of memory, are of no text
-  pub of_no_text : (chunks : List Chunk) (e : ReedSolomonError) → IsCoder (rules_of hash epochs) → AnyEnoughDecode hash digest_bytes → AreEnough hash c chunks
-      → IsDecodeRefusal hash digest_bytes c.config c.root (map (checked_of hash c) chunks) e → e ≢ NoMemory → (text : List ℕ) → AreOfText hash c chunks text → ⊥
+  pub of_no_text : (chunks : List Chunk) (e : ReedSolomonError) → IsCoder (rules_of hash epochs)
+      → AnyEnoughDecode hash digest_bytes → AreEnough hash c chunks
+      → IsDecodeRefusal hash digest_bytes c.config c.root (map (checked_of hash c) chunks) e
+      → e ≢ NoMemory → (text : List ℕ) → AreOfText hash c chunks text → ⊥
   of_no_text chunks e coder any are refusal other text of =
       let two = are.some in
       let is = coder.sound c.config chunks text of.decodes in
-      let long : length (map (checked_of hash c) chunks) ≡ c.config.minimum = length-map chunks (checked_of hash c) ∙ are.enough in
-      let encoded : IsEncoding hash digest_bytes c.config text c.root (listed (total_of c.config) (piece_of hash digest_bytes c.config text)) =
-      record { total = are.few; codable = codable c.config (length text) are.some are.few is.1.1; rooted = of.rooted; each = refl } in
-      let decoded = any c.config text c.root (listed (total_of c.config) (piece_of hash digest_bytes c.config text)) (map (checked_of hash c) chunks) (omega arith) (byte_at text is.1.0) encoded
-      (All-from_recursion (IsChunkOf c.config text c.root) (map (checked_of hash c) chunks) (chunks_of_text text chunks are.few are.under is.2))
+      let long : length (map (checked_of hash c) chunks) ≡ c.config.minimum =
+      length-map chunks (checked_of hash c) ∙ are.enough in
+      let encoded : IsEncoding hash digest_bytes c.config text c.root
+      (listed (total_of c.config) (piece_of hash digest_bytes c.config text)) =
+      record {
+        total = are.few;
+        codable = codable c.config (length text) are.some are.few is.1.1;
+        rooted = of.rooted;
+        each = refl;
+      } in
+      let decoded =
+      any c.config text c.root
+      (listed (total_of c.config) (piece_of hash digest_bytes c.config text))
+      (map (checked_of hash c) chunks) (omega arith) (byte_at text is.1.0) encoded
+      (All-from_recursion (IsChunkOf c.config text c.root) (map (checked_of hash c) chunks)
+      (chunks_of_text text chunks are.few are.under is.2))
       (sound_indices chunks are.few are.under are.apart) (omega arith) in
       other (decoded.taken e refusal)

@@ -23,40 +23,68 @@ use Rattle.shards.proofs.KeptLemmas.{chunks_more, none_whole, rows_kept}
 use Rattle.cw_types.proofs.Same.{same_commitment-true}
 
 -- what the first k chunks that are kept of a commitment show
-pub shown_first : (r : Rules) (kept : List KeptChunk) (c : Commitment) → shown r (came_of kept) c ≡ option_and_then (if_committed r c) (block_of r c.config (take c.config.minimum (chunks_of c kept)))
+pub shown_first : (r : Rules) (kept : List KeptChunk) (c : Commitment)
+    → shown r (came_of kept) c
+    ≡ option_and_then (if_committed r c)
+    (block_of r c.config (take c.config.minimum (chunks_of c kept)))
 shown_first r kept c =
-    ap (λ o. option_or o (option_and_then (if_committed r c) (block_of r c.config (take c.config.minimum (filter_map (row_of c) (map part_of kept)))))) (none_whole r c kept)
-    ∙ ap (λ xs. option_and_then (if_committed r c) (block_of r c.config (take c.config.minimum xs))) (rows_kept c kept)
+    ap
+    (λ o. option_or o
+    (option_and_then (if_committed r c)
+    (block_of r c.config
+    (take c.config.minimum (filter_map (row_of c) (map part_of kept))))))
+    (none_whole r c kept)
+    ∙ ap (λ xs. option_and_then (if_committed r c) (block_of r c.config (take c.config.minimum xs)))
+    (rows_kept c kept)
 
 -- ---- of a member
 
-came_rows : (c : Commitment) (parts : List Part) → filter_map (row_of c) parts ≡ chunks_of c (filter_map kept_of parts)
+came_rows : (c : Commitment) (parts : List Part)
+    → filter_map (row_of c) parts ≡ chunks_of c (filter_map kept_of parts)
 came_rows c [] = refl
 came_rows c (Whole b ∷ parts) = came_rows c parts
 came_rows c (Row d y ∷ parts) = go (same_commitment c d) refl (came_rows c parts)
   where
-    go : (b : Bool) → same_commitment c d ≡ b → filter_map (row_of c) parts ≡ chunks_of c (filter_map kept_of parts) → filter_map (row_of c) (Row d y ∷ parts) ≡ chunks_of c (filter_map kept_of (Row d y ∷ parts))
+    go : (b : Bool) → same_commitment c d ≡ b
+        → filter_map (row_of c) parts ≡ chunks_of c (filter_map kept_of parts)
+        → filter_map (row_of c) (Row d y ∷ parts)
+        ≡ chunks_of c (filter_map kept_of (Row d y ∷ parts))
     go true e more = rw e (ap (λ xs. y ∷ xs) more)
     go false e more = rw e more
 
-module _ (hash : List ℕ → Digest32) (t : Gathered) (r : Rules) (came : Came) (stands : StandsFor hash t r came) where
+module _ (hash : List ℕ → Digest32) (t : Gathered) (r : Rules) (came : Came)
+    (stands : StandsFor hash t r came) where
   pub member_rows : (c : Commitment) → filter_map (row_of c) came.parts ≡ chunks_of c t.kept
   member_rows c = came_rows c came.parts ∙ ap (chunks_of c) stands.rows
 
-  pub member_shown : (c : Commitment) → first_some (whole_of r c) came.parts ≡ None → shown r came c ≡ shown (rules_of hash t.epochs) (came_of t.kept) c
+  pub member_shown : (c : Commitment) → first_some (whole_of r c) came.parts ≡ None
+      → shown r came c ≡ shown (rules_of hash t.epochs) (came_of t.kept) c
   member_shown c none =
-      ap (λ o. option_or o (option_and_then (if_committed r c) (block_of r c.config (take c.config.minimum (filter_map (row_of c) came.parts))))) none
-      ∙ (ap (λ xs. option_and_then (if_committed r c) (block_of r c.config (take c.config.minimum xs))) (member_rows c)
-      ∙ (ap (λ (q : Rules). option_and_then (if_committed q c) (block_of q c.config (take c.config.minimum (chunks_of c t.kept)))) stands.rules
+      ap
+      (λ o. option_or o
+      (option_and_then (if_committed r c)
+      (block_of r c.config (take c.config.minimum (filter_map (row_of c) came.parts)))))
+      none
+      ∙ (ap
+      (λ xs. option_and_then (if_committed r c)
+      (block_of r c.config (take c.config.minimum xs)))
+      (member_rows c)
+      ∙ (ap
+      (λ (q : Rules). option_and_then (if_committed q c)
+      (block_of q c.config (take c.config.minimum (chunks_of c t.kept))))
+      stands.rules
       ∙ sym (shown_first (rules_of hash t.epochs) t.kept c)))
 
 -- ---- of enough chunks
 
-chunks_append : (c : Commitment) (kept more : List KeptChunk) → chunks_of c (kept ++ more) ≡ chunks_of c kept ++ chunks_of c more
+chunks_append : (c : Commitment) (kept more : List KeptChunk)
+    → chunks_of c (kept ++ more) ≡ chunks_of c kept ++ chunks_of c more
 chunks_append c [] more = refl
 chunks_append c (k ∷ ks) more = go (same_commitment c k.commitment) refl (chunks_append c ks more)
   where
-    go : (b : Bool) → same_commitment c k.commitment ≡ b → chunks_of c (ks ++ more) ≡ chunks_of c ks ++ chunks_of c more → chunks_of c ((k ∷ ks) ++ more) ≡ chunks_of c (k ∷ ks) ++ chunks_of c more
+    go : (b : Bool) → same_commitment c k.commitment ≡ b
+        → chunks_of c (ks ++ more) ≡ chunks_of c ks ++ chunks_of c more
+        → chunks_of c ((k ∷ ks) ++ more) ≡ chunks_of c (k ∷ ks) ++ chunks_of c more
     go true e later = rw e (ap (λ xs. k.chunk ∷ xs) later)
     go false e later = rw e later
 
@@ -65,10 +93,14 @@ take_first zero xs ys h = refl
 take_first (suc n) [] ys h = absurd (omega arith)
 take_first (suc n) (x ∷ xs) ys h = ap (λ zs. x ∷ zs) (take_first n xs ys (omega arith))
 
-pub enough_stay : (r : Rules) (kept more : List KeptChunk) (c : Commitment) → c.config.minimum ≤ length (chunks_of c kept) → shown r (came_of (kept ++ more)) c ≡ shown r (came_of kept) c
+pub enough_stay : (r : Rules) (kept more : List KeptChunk) (c : Commitment)
+    → c.config.minimum ≤ length (chunks_of c kept)
+    → shown r (came_of (kept ++ more)) c ≡ shown r (came_of kept) c
 enough_stay r kept more c enough =
     shown_first r (kept ++ more) c
-    ∙ (ap (λ xs. option_and_then (if_committed r c) (block_of r c.config xs)) (ap (take c.config.minimum) (chunks_append c kept more) ∙ take_first c.config.minimum (chunks_of c kept) (chunks_of c more) enough)
+    ∙ (ap (λ xs. option_and_then (if_committed r c) (block_of r c.config xs))
+    (ap (take c.config.minimum) (chunks_append c kept more)
+    ∙ take_first c.config.minimum (chunks_of c kept) (chunks_of c more) enough)
     ∙ sym (shown_first r kept c))
 
 -- ---- of a verdict
@@ -83,62 +115,100 @@ shown_garbage (Some a) e = cc
 
 module _ (r : Rules) (kept more : List KeptChunk) (c : Commitment) (x : Chunk) where
   -- the k-th chunk and what is kept behind it
-  kth_stays : (length (chunks_of c kept) + 1 == c.config.minimum) ≡ true → shown r (came_of (with_chunk kept c x ++ more)) c ≡ shown r (came_of (with_chunk kept c x)) c
+  kth_stays : (length (chunks_of c kept) + 1 == c.config.minimum) ≡ true
+      → shown r (came_of (with_chunk kept c x ++ more)) c
+      ≡ shown r (came_of (with_chunk kept c x)) c
   kth_stays last =
       let e = eqb-true (length (chunks_of c kept) + 1) c.config.minimum last in
-      enough_stay r (with_chunk kept c x) more c (omega (arith, e, ap length (chunks_with c kept x), length-append (chunks_of c kept) (x ∷ [])))
+      enough_stay r (with_chunk kept c x) more c
+      (omega (
+        arith,
+        e,
+        ap length (chunks_with c kept x),
+        length-append (chunks_of c kept) (x ∷ []),
+      ))
 
   -- a verdict that is given at the k-th chunk alone says what is shown
-  shows : (v : Verdict) (o : Option Block) → (Known ≡ v → ⊥) → (Foreign ≡ v → ⊥) → (Kept ≡ v → ⊥) → ((p : Option Block) → of_shown p ≡ v → p ≡ o)
+  shows : (v : Verdict) (o : Option Block) → (Known ≡ v → ⊥) → (Foreign ≡ v → ⊥) → (Kept ≡ v → ⊥)
+      → ((p : Option Block) → of_shown p ≡ v → p ≡ o)
       → (known taken last : Bool) → (length (chunks_of c kept) + 1 == c.config.minimum) ≡ last
-      → (if known then Known else if taken then (if last then of_shown (shown r (came_of (with_chunk kept c x)) c) else Kept) else Foreign) ≡ v
-      → shown r (came_of ((if known then kept else if taken then with_chunk kept c x else kept) ++ more)) c ≡ o
+      → (if known then Known else if taken
+      then (if last then of_shown (shown r (came_of (with_chunk kept c x)) c) else Kept)
+      else Foreign)
+      ≡ v
+      → shown r
+      (came_of ((if known then kept else if taken then with_chunk kept c x else kept) ++ more))
+      c
+      ≡ o
   shows v o a b d by true taken last is e = absurd (a e)
   shows v o a b d by false false last is e = absurd (b e)
   shows v o a b d by false true false is e = absurd (d e)
-  shows v o a b d by false true true is e = kth_stays is ∙ by (shown r (came_of (with_chunk kept c x)) c) e
+  shows v o a b d by false true true is e =
+      kth_stays is ∙ by (shown r (came_of (with_chunk kept c x)) c) e
 
-  pub held_stays : (b : Block) → verdict r kept c x ≡ Held b → shown r (came_of (kept_after r kept c x ++ more)) c ≡ Some b
-  held_stays b = shows (Held b) (Some b) (λ e. cc) (λ e. cc) (λ e. cc) (λ p e. shown_held p b e) (is_known kept c x) (is_chunk_of r c x) (length (chunks_of c kept) + 1 == c.config.minimum) refl
+  pub held_stays : (b : Block) → verdict r kept c x ≡ Held b
+      → shown r (came_of (kept_after r kept c x ++ more)) c ≡ Some b
+  held_stays b =
+      shows (Held b) (Some b) (λ e. cc) (λ e. cc) (λ e. cc) (λ p e. shown_held p b e)
+      (is_known kept c x) (is_chunk_of r c x)
+      (length (chunks_of c kept) + 1 == c.config.minimum) refl
 
-  pub garbage_stays : verdict r kept c x ≡ Garbage → shown r (came_of (kept_after r kept c x ++ more)) c ≡ None
-  garbage_stays = shows Garbage None (λ e. cc) (λ e. cc) (λ e. cc) shown_garbage (is_known kept c x) (is_chunk_of r c x) (length (chunks_of c kept) + 1 == c.config.minimum) refl
+  pub garbage_stays : verdict r kept c x ≡ Garbage
+      → shown r (came_of (kept_after r kept c x ++ more)) c ≡ None
+  garbage_stays =
+      shows Garbage None (λ e. cc) (λ e. cc) (λ e. cc) shown_garbage (is_known kept c x)
+      (is_chunk_of r c x) (length (chunks_of c kept) + 1 == c.config.minimum) refl
 
 -- ---- of a chunk that shows no block
 
 -- fewer than k chunks show nothing
-few_are_none : (r : Rules) → IsCoder r → (x : Counts) (chunks : List Chunk) → length chunks < x.minimum → block_of r x chunks ≡ None
+few_are_none : (r : Rules) → IsCoder r → (x : Counts) (chunks : List Chunk)
+    → length chunks < x.minimum → block_of r x chunks ≡ None
 few_are_none r coder x chunks few = go (r.text_of x chunks) refl
   where
-    go : (o : Option (List ℕ)) → r.text_of x chunks ≡ o → option_and_then r.read_block (r.text_of x chunks) ≡ None
+    go : (o : Option (List ℕ)) → r.text_of x chunks ≡ o
+        → option_and_then r.read_block (r.text_of x chunks) ≡ None
     go None e = rw e refl
     go (Some text) e = absurd (let long = (coder.sound x chunks text e).0 in omega arith)
 
-few_show_none : (r : Rules) → IsCoder r → (kept : List KeptChunk) (c : Commitment) → length (chunks_of c kept) < c.config.minimum → shown r (came_of kept) c ≡ None
+few_show_none : (r : Rules) → IsCoder r → (kept : List KeptChunk) (c : Commitment)
+    → length (chunks_of c kept) < c.config.minimum → shown r (came_of kept) c ≡ None
 few_show_none r coder kept c few =
     shown_first r kept c
-    ∙ (ap (λ xs. option_and_then (if_committed r c) (block_of r c.config xs)) (take_all c.config.minimum (chunks_of c kept) (omega (arith, few)))
-    ∙ ap (option_and_then (if_committed r c)) (few_are_none r coder c.config (chunks_of c kept) few))
+    ∙ (ap (λ xs. option_and_then (if_committed r c) (block_of r c.config xs))
+    (take_all c.config.minimum (chunks_of c kept) (omega (arith, few)))
+    ∙ ap (option_and_then (if_committed r c))
+    (few_are_none r coder c.config (chunks_of c kept) few))
 
 none_held : (o : Option Block) → ((b : Block) → of_shown o ≡ Held b → ⊥) → o ≡ None
 none_held None unheld = refl
 none_held (Some b) unheld = absurd (unheld b refl)
 
 -- a chunk leaves what is shown of another commitment
-pub others_stay : (r : Rules) (kept : List KeptChunk) (c d : Commitment) (x : Chunk) → same_commitment d c ≡ false → shown r (came_of (kept_after r kept c x)) d ≡ shown r (came_of kept) d
+pub others_stay : (r : Rules) (kept : List KeptChunk) (c d : Commitment) (x : Chunk)
+    → same_commitment d c ≡ false
+    → shown r (came_of (kept_after r kept c x)) d ≡ shown r (came_of kept) d
 others_stay r kept c d x other = go (is_known kept c x) (is_chunk_of r c x)
   where
-    go : (known taken : Bool) → shown r (came_of (if known then kept else if taken then with_chunk kept c x else kept)) d ≡ shown r (came_of kept) d
+    go : (known taken : Bool)
+        → shown r (came_of (if known then kept else if taken then with_chunk kept c x else kept)) d
+        ≡ shown r (came_of kept) d
     go true taken = refl
     go false false = refl
     go false true =
         shown_first r (with_chunk kept c x) d
-        ∙ (ap (λ xs. option_and_then (if_committed r d) (block_of r d.config (take d.config.minimum xs))) (chunks_more d kept c x ∙ (ap (λ b. chunks_of d kept ++ (if b then x ∷ [] else [])) other ∙ append-nil (chunks_of d kept)))
+        ∙ (ap
+        (λ xs. option_and_then (if_committed r d)
+        (block_of r d.config (take d.config.minimum xs)))
+        (chunks_more d kept c x
+        ∙ (ap (λ b. chunks_of d kept ++ (if b then x ∷ [] else [])) other
+        ∙ append-nil (chunks_of d kept)))
         ∙ sym (shown_first r kept d))
 
 module _ (r : Rules) (coder : IsCoder r) (kept : List KeptChunk) (c : Commitment) (x : Chunk) where
   -- what is kept before the last of k chunks, and after more, shows the same
-  not_last : (length (chunks_of c kept) + 1 == c.config.minimum) ≡ false → shown r (came_of (with_chunk kept c x)) c ≡ shown r (came_of kept) c
+  not_last : (length (chunks_of c kept) + 1 == c.config.minimum) ≡ false
+      → shown r (came_of (with_chunk kept c x)) c ≡ shown r (came_of kept) c
   not_last is = go (cases_lt (length (chunks_of c kept)) c.config.minimum)
     where
       other : length (chunks_of c kept) + 1 ≡ c.config.minimum → ⊥
@@ -147,30 +217,47 @@ module _ (r : Rules) (coder : IsCoder r) (kept : List KeptChunk) (c : Commitment
       long : length (chunks_of c (with_chunk kept c x)) ≡ length (chunks_of c kept) + 1
       long = ap length (chunks_with c kept x) ∙ length-append (chunks_of c kept) (x ∷ [])
 
-      go : (length (chunks_of c kept) < c.config.minimum) ⊎ (c.config.minimum ≤ length (chunks_of c kept)) → shown r (came_of (with_chunk kept c x)) c ≡ shown r (came_of kept) c
+      go : (length (chunks_of c kept) < c.config.minimum)
+          ⊎ (c.config.minimum ≤ length (chunks_of c kept))
+          → shown r (came_of (with_chunk kept c x)) c ≡ shown r (came_of kept) c
       go (inr more) = enough_stay r kept (record { commitment = c; chunk = x } ∷ []) c more
       go (inl less) = by_next (cases_lt (length (chunks_of c kept) + 1) c.config.minimum)
         where
-          by_next : (length (chunks_of c kept) + 1 < c.config.minimum) ⊎ (c.config.minimum ≤ length (chunks_of c kept) + 1) → shown r (came_of (with_chunk kept c x)) c ≡ shown r (came_of kept) c
-          by_next (inl few) = few_show_none r coder (with_chunk kept c x) c (omega (arith, few, long)) ∙ sym (few_show_none r coder kept c less)
+          by_next : (length (chunks_of c kept) + 1 < c.config.minimum)
+              ⊎ (c.config.minimum ≤ length (chunks_of c kept) + 1)
+              → shown r (came_of (with_chunk kept c x)) c ≡ shown r (came_of kept) c
+          by_next (inl few) =
+              few_show_none r coder (with_chunk kept c x) c (omega (arith, few, long))
+              ∙ sym (few_show_none r coder kept c less)
           by_next (inr last) = absurd (other (omega (arith, less, last)))
 
   own_stays : (known taken last : Bool) → (length (chunks_of c kept) + 1 == c.config.minimum) ≡ last
-      → ((b : Block) → (if known then Known else if taken then (if last then of_shown (shown r (came_of (with_chunk kept c x)) c) else Kept) else Foreign) ≡ Held b → ⊥)
-      → shown r (came_of (if known then kept else if taken then with_chunk kept c x else kept)) c ≡ shown r (came_of kept) c
+      → ((b : Block)
+      → (if known then Known else if taken
+      then (if last then of_shown (shown r (came_of (with_chunk kept c x)) c) else Kept)
+      else Foreign)
+      ≡ Held b
+      → ⊥)
+      → shown r (came_of (if known then kept else if taken then with_chunk kept c x else kept)) c
+      ≡ shown r (came_of kept) c
   own_stays true taken last is unheld = refl
   own_stays false false last is unheld = refl
   own_stays false true false is unheld = not_last is
   own_stays false true true is unheld =
       let e = eqb-true (length (chunks_of c kept) + 1) c.config.minimum is in
-      none_held (shown r (came_of (with_chunk kept c x)) c) unheld ∙ sym (few_show_none r coder kept c (omega (arith, e)))
+      none_held (shown r (came_of (with_chunk kept c x)) c) unheld
+      ∙ sym (few_show_none r coder kept c (omega (arith, e)))
 
   -- a chunk that shows no block leaves what is shown
-  pub unheld_stays : (d : Commitment) → ((b : Block) → verdict r kept c x ≡ Held b → ⊥) → shown r (came_of (kept_after r kept c x)) d ≡ shown r (came_of kept) d
+  pub unheld_stays : (d : Commitment) → ((b : Block) → verdict r kept c x ≡ Held b → ⊥)
+      → shown r (came_of (kept_after r kept c x)) d ≡ shown r (came_of kept) d
   unheld_stays d unheld = go (cases_Bool (same_commitment d c))
     where
-      go : (same_commitment d c ≡ true) ⊎ (same_commitment d c ≡ false) → shown r (came_of (kept_after r kept c x)) d ≡ shown r (came_of kept) d
+      go : (same_commitment d c ≡ true) ⊎ (same_commitment d c ≡ false)
+          → shown r (came_of (kept_after r kept c x)) d ≡ shown r (came_of kept) d
       go (inl t) =
-          subst (λ e. shown r (came_of (kept_after r kept c x)) e ≡ shown r (came_of kept) e) (sym (same_commitment-true d c t))
-          (own_stays (is_known kept c x) (is_chunk_of r c x) (length (chunks_of c kept) + 1 == c.config.minimum) refl unheld)
+          subst (λ e. shown r (came_of (kept_after r kept c x)) e ≡ shown r (came_of kept) e)
+          (sym (same_commitment-true d c t))
+          (own_stays (is_known kept c x) (is_chunk_of r c x)
+          (length (chunks_of c kept) + 1 == c.config.minimum) refl unheld)
       go (inr f) = others_stay r kept c d x f

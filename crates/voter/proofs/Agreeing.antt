@@ -29,7 +29,12 @@ use Rattle.voter.proofs.Voted.{own_at}
 
 -- a state of these notes and of what came
 abbrev state_with : List Note → List Ballot → State
-state_with notes ballots = record { notes = notes; came = record { ballots = ballots; parts = []; wishes = [] }; given = [] }
+state_with notes ballots =
+    record {
+      notes = notes;
+      came = record { ballots = ballots; parts = []; wishes = [] };
+      given = [];
+    }
 
 -- rules over these bytes
 abbrev rules_with : Epochs → (List ℕ → Digest32) → (Block → List ℕ) → (Context → List ℕ) → Rules
@@ -55,49 +60,102 @@ notarize_with r id notes ballots own p =
     && is_member r.epochs p.epoch id
     && list_any (is_single (leader r.epochs p.epoch p.view) (Notarize p)) ballots
     && not (has_voted notes p.epoch p.view)
-    && option_map_or (λ c. (own && is_payload_for r p c) || is_again r notes p c) (settled (genesis_commitment r) notes p.epoch p.parent) false
+    && option_map_or (λ c. (own && is_payload_for r p c) || is_again r notes p c)
+    (settled (genesis_commitment r) notes p.epoch p.parent) false
     && all_nullified notes p.epoch p.parent p.view)
     (Note.Vote (Notarize p))
 
-module _ (hash : List ℕ → Digest32) (t : Known) (r : Rules) (s : State) (stands : IsTallyOf hash t r s) where
+module _ (hash : List ℕ → Digest32) (t : Known) (r : Rules) (s : State)
+    (stands : IsTallyOf hash t r s) where
   pub cert_agrees : first_some (cert_owed r t.id s) (named_votes s) ≡ owing.cert_owed hash t
-  cert_agrees = λ i. first_some (cert_owed (rules_with (stands.epochs i) hash block_bytes context_bytes) t.id (state_with (stands.notes i) (stands.ballots i))) (named_votes (state_with (stands.notes i) (stands.ballots i)))
+  cert_agrees =
+      λ i. first_some
+      (cert_owed (rules_with (stands.epochs i) hash block_bytes context_bytes) t.id
+      (state_with (stands.notes i) (stands.ballots i)))
+      (named_votes (state_with (stands.notes i) (stands.ballots i)))
 
-  pub finalize_agrees : first_some (finalize_owed r t.id s) (named_proposals s) ≡ owing.finalize_owed hash t
-  finalize_agrees = λ i. first_some (finalize_owed (rules_with (stands.epochs i) hash block_bytes context_bytes) t.id (state_with (stands.notes i) (stands.ballots i))) (named_proposals (state_with (stands.notes i) (stands.ballots i)))
+  pub finalize_agrees : first_some (finalize_owed r t.id s) (named_proposals s)
+      ≡ owing.finalize_owed hash t
+  finalize_agrees =
+      λ i. first_some
+      (finalize_owed (rules_with (stands.epochs i) hash block_bytes context_bytes) t.id
+      (state_with (stands.notes i) (stands.ballots i)))
+      (named_proposals (state_with (stands.notes i) (stands.ballots i)))
 
-  own_row : (p : Proposal) → has_own_row r t.id s p ≡ has_own_row (vote_rules hash t.epochs) t.id (state_of t) p
-  own_row p = ap (λ (x : Epochs). option_map_or (λ at. list_any (is_row_at at p.payload) s.came.parts) (place x p.epoch t.id) false) stands.epochs ∙ (at (place t.epochs p.epoch t.id) refl ∙ sym (own_at p.payload t.own (place t.epochs p.epoch t.id)))
+  own_row : (p : Proposal)
+      → has_own_row r t.id s p ≡ has_own_row (vote_rules hash t.epochs) t.id (state_of t) p
+  own_row p =
+      ap
+      (λ (x : Epochs). option_map_or (λ at. list_any (is_row_at at p.payload) s.came.parts)
+      (place x p.epoch t.id) false)
+      stands.epochs
+      ∙ (at (place t.epochs p.epoch t.id) refl
+      ∙ sym (own_at p.payload t.own (place t.epochs p.epoch t.id)))
     where
-      at : (o : Option ℕ) → place t.epochs p.epoch t.id ≡ o → option_map_or (λ at. list_any (is_row_at at p.payload) s.came.parts) (place t.epochs p.epoch t.id) false ≡ option_map_or (λ at. list_any (is_own_at at p.payload) t.own) (place t.epochs p.epoch t.id) false
+      at : (o : Option ℕ) → place t.epochs p.epoch t.id ≡ o
+          → option_map_or (λ at. list_any (is_row_at at p.payload) s.came.parts)
+          (place t.epochs p.epoch t.id) false
+          ≡ option_map_or (λ at. list_any (is_own_at at p.payload) t.own)
+          (place t.epochs p.epoch t.id) false
       at None e = rw e refl
       at (Some n) e = rw e (stands.own p.epoch n p.payload e)
 
-  notarize_same : (p : Proposal) → notarize_owed r t.id s p ≡ notarize_owed (vote_rules hash t.epochs) t.id (state_of t) p
-  notarize_same p = λ i. notarize_with (rules_with (stands.epochs i) (stands.hash_same i) (stands.blocks i) (stands.contexts i)) t.id (stands.notes i) (stands.ballots i) (own_row p i) p
+  notarize_same : (p : Proposal)
+      → notarize_owed r t.id s p ≡ notarize_owed (vote_rules hash t.epochs) t.id (state_of t) p
+  notarize_same p =
+      λ i. notarize_with
+      (rules_with (stands.epochs i) (stands.hash_same i) (stands.blocks i) (stands.contexts i))
+      t.id (stands.notes i) (stands.ballots i) (own_row p i) p
 
-  pub notarize_agrees : first_some (notarize_owed r t.id s) (named_proposals s) ≡ owing.notarize_owed hash t
-  notarize_agrees = same_first (notarize_owed r t.id s) (notarize_owed (vote_rules hash t.epochs) t.id (state_of t)) notarize_same (named_proposals s) ∙ (λ i. first_some (notarize_owed (vote_rules hash t.epochs) t.id (state_of t)) (named_proposals (state_with (stands.notes i) (stands.ballots i))))
+  pub notarize_agrees : first_some (notarize_owed r t.id s) (named_proposals s)
+      ≡ owing.notarize_owed hash t
+  notarize_agrees =
+      same_first (notarize_owed r t.id s)
+      (notarize_owed (vote_rules hash t.epochs) t.id (state_of t)) notarize_same
+      (named_proposals s)
+      ∙ (λ i. first_some (notarize_owed (vote_rules hash t.epochs) t.id (state_of t))
+      (named_proposals (state_with (stands.notes i) (stands.ballots i))))
 
-  pub certified_agrees : first_some (certified_owed r s) (named_proposals s) ≡ option_map Note.Certified (find (block_fits r t.notes) (owing.uncertified t))
+  pub certified_agrees : first_some (certified_owed r s) (named_proposals s)
+      ≡ option_map Note.Certified (find (block_fits r t.notes) (owing.uncertified t))
   certified_agrees =
-      (λ i. first_some (certified_owed r (state_with (stands.notes i) (stands.ballots i))) (named_proposals (state_with (stands.notes i) (stands.ballots i))))
+      (λ i. first_some (certified_owed r (state_with (stands.notes i) (stands.ballots i)))
+      (named_proposals (state_with (stands.notes i) (stands.ballots i))))
       ∙ certified_found r t
 
   genesis_same : types.genesis_commitment hash ≡ genesis_commitment r
-  genesis_same = sym (λ i. genesis_commitment (rules_with (stands.epochs i) (stands.hash_same i) (stands.blocks i) (stands.contexts i)))
+  genesis_same =
+      sym
+      (λ i. genesis_commitment
+      (rules_with (stands.epochs i) (stands.hash_same i) (stands.blocks i)
+      (stands.contexts i)))
 
-  over_same : (epoch below : ℕ) (o : Option (ℕ × Commitment)) → owing.parent_over (types.genesis_commitment hash) t.notes epoch below ≡ o → owing.parent_over (genesis_commitment r) t.notes epoch below ≡ o
-  over_same epoch below o e = subst (λ c. owing.parent_over c t.notes epoch below ≡ o) genesis_same e
+  over_same : (epoch below : ℕ) (o : Option (ℕ × Commitment))
+      → owing.parent_over (types.genesis_commitment hash) t.notes epoch below ≡ o
+      → owing.parent_over (genesis_commitment r) t.notes epoch below ≡ o
+  over_same epoch below o e =
+      subst (λ c. owing.parent_over c t.notes epoch below ≡ o) genesis_same e
 
-  pub parent_starts : (epoch : ℕ) → best_parent r s.notes epoch (view_of s.notes epoch) ≡ best_from r t.notes epoch (view_of t.notes epoch)
-  parent_starts epoch = ap (λ notes. best_parent r notes epoch (view_of notes epoch)) stands.notes ∙ best_start r t.notes epoch
+  pub parent_starts : (epoch : ℕ)
+      → best_parent r s.notes epoch (view_of s.notes epoch)
+      ≡ best_from r t.notes epoch (view_of t.notes epoch)
+  parent_starts epoch =
+      ap (λ notes. best_parent r notes epoch (view_of notes epoch)) stands.notes
+      ∙ best_start r t.notes epoch
 
-  pub parent_missing : (epoch below : ℕ) → owing.parent_over (types.genesis_commitment hash) t.notes epoch below ≡ None → best_from r t.notes epoch below ≡ None
+  pub parent_missing : (epoch below : ℕ)
+      → owing.parent_over (types.genesis_commitment hash) t.notes epoch below ≡ None
+      → best_from r t.notes epoch below ≡ None
   parent_missing epoch below e = best_none r t.notes epoch below (over_same epoch below None e)
 
-  pub parent_held : (epoch below view : ℕ) (c : Commitment) (b : Block) → owing.parent_over (types.genesis_commitment hash) t.notes epoch below ≡ Some (view, c) → held r t.notes c ≡ Some b → best_from r t.notes epoch below ≡ Some (view, c, b)
-  parent_held epoch below view c b e h = best_held r t.notes epoch below view c b (over_same epoch below (Some (view, c)) e) h
+  pub parent_held : (epoch below view : ℕ) (c : Commitment) (b : Block)
+      → owing.parent_over (types.genesis_commitment hash) t.notes epoch below ≡ Some (view, c)
+      → held r t.notes c ≡ Some b → best_from r t.notes epoch below ≡ Some (view, c, b)
+  parent_held epoch below view c b e h =
+      best_held r t.notes epoch below view c b (over_same epoch below (Some (view, c)) e) h
 
-  pub parent_next : (epoch below view : ℕ) (c : Commitment) → owing.parent_over (types.genesis_commitment hash) t.notes epoch below ≡ Some (view, c) → held r t.notes c ≡ None → best_from r t.notes epoch below ≡ best_from r t.notes epoch view
-  parent_next epoch below view c e h = best_next r t.notes epoch below view c (over_same epoch below (Some (view, c)) e) h
+  pub parent_next : (epoch below view : ℕ) (c : Commitment)
+      → owing.parent_over (types.genesis_commitment hash) t.notes epoch below ≡ Some (view, c)
+      → held r t.notes c ≡ None → best_from r t.notes epoch below ≡ best_from r t.notes epoch view
+  parent_next epoch below view c e h =
+      best_next r t.notes epoch below view c (over_same epoch below (Some (view, c)) e) h

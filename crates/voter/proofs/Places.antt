@@ -7,18 +7,26 @@ use Rattle.std.proofs.lemmas.Bool.Decides.{nat_tests}
 use Rattle.std.specs.Option.{is_some, option_or}
 
 -- the answers are those of the elements that have one
-pub filtered : {X Y : Type 0} (f : X → Option Y) (xs : List X) (i : ℕ) → slice_get (filter_map f xs) i ≡ option_and_then f (slice_get (filter (λ x. is_some (f x)) xs) i)
+pub filtered : {X Y : Type 0} (f : X → Option Y) (xs : List X) (i : ℕ)
+    → slice_get (filter_map f xs) i
+    ≡ option_and_then f (slice_get (filter (λ x. is_some (f x)) xs) i)
 filtered f [] i = refl
 filtered {Y = Y} f (x ∷ xs) i = go (f x) refl (filtered f xs) i
   where
-    go : (o : Option Y) → f x ≡ o → ((j : ℕ) → slice_get (filter_map f xs) j ≡ option_and_then f (slice_get (filter (λ z. is_some (f z)) xs) j))
-        → (j : ℕ) → slice_get (filter_map f (x ∷ xs)) j ≡ option_and_then f (slice_get (filter (λ z. is_some (f z)) (x ∷ xs)) j)
+    go : (o : Option Y) → f x ≡ o
+        → ((j : ℕ)
+        → slice_get (filter_map f xs) j
+        ≡ option_and_then f (slice_get (filter (λ z. is_some (f z)) xs) j))
+        → (j : ℕ)
+        → slice_get (filter_map f (x ∷ xs)) j
+        ≡ option_and_then f (slice_get (filter (λ z. is_some (f z)) (x ∷ xs)) j)
     go None e more j = rw e (more j)
     go (Some y) e more zero = rw e (sym e)
     go (Some y) e more (suc j) = rw e (more j)
 
 -- behind the first list comes the second
-pub appended : {X : Type 0} (xs ys : List X) (i : ℕ) → slice_get (xs ++ ys) i ≡ option_or (slice_get xs i) (slice_get ys (i - length xs))
+pub appended : {X : Type 0} (xs ys : List X) (i : ℕ)
+    → slice_get (xs ++ ys) i ≡ option_or (slice_get xs i) (slice_get ys (i - length xs))
 appended [] ys i = let e : i - 0 ≡ i = omega arith in ap (slice_get ys) (sym e)
 appended (x ∷ xs) ys zero = refl
 appended (x ∷ xs) ys (suc i) =
@@ -26,19 +34,25 @@ appended (x ∷ xs) ys (suc i) =
     appended xs ys i ∙ ap (λ j. option_or (slice_get xs i) (slice_get ys j)) (sym e)
 
 -- an element that is counted off stands where its number says
-pub counted : {X : Type 0} (p : ℕ × X → Bool) (n : ℕ) (xs : List X) (i at : ℕ) (x : X) → slice_get (filter p (enumerate_from n xs)) i ≡ Some (at, x) → (n ≤ at) × (slice_get xs (at - n) ≡ Some x)
+pub counted : {X : Type 0} (p : ℕ × X → Bool) (n : ℕ) (xs : List X) (i at : ℕ) (x : X)
+    → slice_get (filter p (enumerate_from n xs)) i ≡ Some (at, x)
+    → (n ≤ at) × (slice_get xs (at - n) ≡ Some x)
 counted p n [] i at x h = cc
 counted {X = X} p n (y ∷ ys) i at x h = go (p (n, y)) refl (counted p (n + 1) ys) i h
   where
-    later : (n + 1 ≤ at) × (slice_get ys (at - (n + 1)) ≡ Some x) → (n ≤ at) × (slice_get (y ∷ ys) (at - n) ≡ Some x)
+    later : (n + 1 ≤ at) × (slice_get ys (at - (n + 1)) ≡ Some x)
+        → (n ≤ at) × (slice_get (y ∷ ys) (at - n) ≡ Some x)
     later found =
         let below : n + 1 ≤ at = found.0 in
         let e : at - n ≡ suc (at - (n + 1)) = omega arith in
         let le : n ≤ at = omega arith in
         (le, ap (slice_get (y ∷ ys)) e ∙ found.1)
 
-    go : (b : Bool) → p (n, y) ≡ b → ((j at2 : ℕ) (z : _) → slice_get (filter p (enumerate_from (n + 1) ys)) j ≡ Some (at2, z) → (n + 1 ≤ at2) × (slice_get ys (at2 - (n + 1)) ≡ Some z))
-        → (j : ℕ) → slice_get (filter p (enumerate_from n (y ∷ ys))) j ≡ Some (at, x) → (n ≤ at) × (slice_get (y ∷ ys) (at - n) ≡ Some x)
+    go : (b : Bool) → p (n, y) ≡ b
+        → ((j at2 : ℕ) (z : _) → slice_get (filter p (enumerate_from (n + 1) ys)) j ≡ Some (at2, z)
+        → (n + 1 ≤ at2) × (slice_get ys (at2 - (n + 1)) ≡ Some z))
+        → (j : ℕ) → slice_get (filter p (enumerate_from n (y ∷ ys))) j ≡ Some (at, x)
+        → (n ≤ at) × (slice_get (y ∷ ys) (at - n) ≡ Some x)
     go false e more j k = later (more j at x (rw e at k))
     go true e more zero k =
         let here : ◌≡◌ {A = ℕ × X} (n, y) (at, x) = same_Some (n, y) (at, x) (rw e at k) in
@@ -50,11 +64,17 @@ counted {X = X} p n (y ∷ ys) i at x h = go (p (n, y)) refl (counted p (n + 1) 
     go true e more (suc j) k = later (more j at x (rw e at k))
 
 -- the element of a rank is that at the place
-pub ranked : {X : Type 0} (i n : ℕ) (xs : List X) → n ≤ i → find (λ e. e.0 == i) (enumerate_from n xs) ≡ option_map (λ x. (i, x)) (slice_get xs (i - n))
+pub ranked : {X : Type 0} (i n : ℕ) (xs : List X) → n ≤ i
+    → find (λ e. e.0 == i) (enumerate_from n xs) ≡ option_map (λ x. (i, x)) (slice_get xs (i - n))
 ranked i n [] le = refl
 ranked i n (x ∷ xs) le = go (cases_Bool (n == i)) (ranked i (n + 1) xs)
   where
-    go : ((n == i) ≡ true) ⊎ ((n == i) ≡ false) → (n + 1 ≤ i → find (λ e. e.0 == i) (enumerate_from (n + 1) xs) ≡ option_map (λ z. (i, z)) (slice_get xs (i - (n + 1)))) → find (λ e. e.0 == i) (enumerate_from n (x ∷ xs)) ≡ option_map (λ z. (i, z)) (slice_get (x ∷ xs) (i - n))
+    go : ((n == i) ≡ true) ⊎ ((n == i) ≡ false)
+        → (n + 1 ≤ i
+        → find (λ e. e.0 == i) (enumerate_from (n + 1) xs)
+        ≡ option_map (λ z. (i, z)) (slice_get xs (i - (n + 1))))
+        → find (λ e. e.0 == i) (enumerate_from n (x ∷ xs))
+        ≡ option_map (λ z. (i, z)) (slice_get (x ∷ xs) (i - n))
     go (inl e) more =
         let same : n ≡ i = eqb-true n i e in
         let zeroth : i - n ≡ 0 = omega arith in
@@ -65,42 +85,57 @@ ranked i n (x ∷ xs) le = go (cases_Bool (n == i)) (ranked i (n + 1) xs)
         rw (e, down) (more other)
 
 -- of two lists behind one another, what the first one names
-pub first_place : {X Y Z : Type 0} (f : X → Option Z) (h : Y → Option Z) (xs : List X) (ys : List Y) (at : ℕ) (z : Z)
-    → Some z ≡ option_and_then f (slice_get (filter (λ x. is_some (f x)) xs) at) → Some z ≡ slice_get (filter_map f xs ++ filter_map h ys) at
+pub first_place : {X Y Z : Type 0} (f : X → Option Z) (h : Y → Option Z) (xs : List X) (ys : List Y)
+    (at : ℕ) (z : Z)
+    → Some z ≡ option_and_then f (slice_get (filter (λ x. is_some (f x)) xs) at)
+    → Some z ≡ slice_get (filter_map f xs ++ filter_map h ys) at
 first_place f h xs ys at z e =
     let there : slice_get (filter_map f xs) at ≡ Some z = filtered f xs at ∙ sym e in
-    sym (appended (filter_map f xs) (filter_map h ys) at ∙ ap (λ o. option_or o (slice_get (filter_map h ys) (at - length (filter_map f xs)))) there)
+    sym
+    (appended (filter_map f xs) (filter_map h ys) at
+    ∙ ap (λ o. option_or o (slice_get (filter_map h ys) (at - length (filter_map f xs))))
+    there)
 
 -- and what the second one names
-pub second_place : {X Y Z : Type 0} (f : X → Option Z) (h : Y → Option Z) (xs : List X) (ys : List Y) (at left : ℕ)
-    → None ≡ option_and_then f (slice_get (filter (λ x. is_some (f x)) xs) at) → left ≡ at - length (filter_map f xs)
-    → option_and_then h (slice_get (filter (λ y. is_some (h y)) ys) left) ≡ slice_get (filter_map f xs ++ filter_map h ys) at
+pub second_place : {X Y Z : Type 0} (f : X → Option Z) (h : Y → Option Z) (xs : List X)
+    (ys : List Y) (at left : ℕ)
+    → None ≡ option_and_then f (slice_get (filter (λ x. is_some (f x)) xs) at)
+    → left ≡ at - length (filter_map f xs)
+    → option_and_then h (slice_get (filter (λ y. is_some (h y)) ys) left)
+    ≡ slice_get (filter_map f xs ++ filter_map h ys) at
 second_place f h xs ys at left e same =
     let none : slice_get (filter_map f xs) at ≡ None = filtered f xs at ∙ sym e in
-    let there : slice_get (filter_map f xs ++ filter_map h ys) at ≡ slice_get (filter_map h ys) (at - length (filter_map f xs)) =
-    appended (filter_map f xs) (filter_map h ys) at ∙ ap (λ o. option_or o (slice_get (filter_map h ys) (at - length (filter_map f xs)))) none in
+    let there : slice_get (filter_map f xs ++ filter_map h ys) at
+    ≡ slice_get (filter_map h ys) (at - length (filter_map f xs)) =
+    appended (filter_map f xs) (filter_map h ys) at
+    ∙ ap (λ o. option_or o (slice_get (filter_map h ys) (at - length (filter_map f xs)))) none in
     sym (there ∙ (ap (slice_get (filter_map h ys)) (sym same) ∙ filtered h ys left))
 
 -- of a list that is mapped
-mapped : {X Y : Type 0} (f : X → Y) (xs : List X) (i : ℕ) → slice_get (map f xs) i ≡ option_map f (slice_get xs i)
+mapped : {X Y : Type 0} (f : X → Y) (xs : List X) (i : ℕ)
+    → slice_get (map f xs) i ≡ option_map f (slice_get xs i)
 mapped f [] i = refl
 mapped f (x ∷ xs) zero = refl
 mapped f (x ∷ xs) (suc i) = mapped f xs i
 
-from_first : {X : Type 0} (i : ℕ) (xs : List X) → find (λ e. e.0 == i) (enumerate_from 0 xs) ≡ option_map (λ x. (i, x)) (slice_get xs i)
+from_first : {X : Type 0} (i : ℕ) (xs : List X)
+    → find (λ e. e.0 == i) (enumerate_from 0 xs) ≡ option_map (λ x. (i, x)) (slice_get xs i)
 from_first i xs =
     let same : i - 0 ≡ i = omega arith in
     ranked i 0 xs (omega arith) ∙ ap (λ j. option_map (λ x. (i, x)) (slice_get xs j)) same
 
 -- what has a rank stands there
-at_rank : {X : Type 0} (i rank : ℕ) (xs : List X) (x : X) → find (λ e. e.0 == i) (enumerate_from 0 xs) ≡ Some (rank, x) → slice_get xs i ≡ Some x
+at_rank : {X : Type 0} (i rank : ℕ) (xs : List X) (x : X)
+    → find (λ e. e.0 == i) (enumerate_from 0 xs) ≡ Some (rank, x) → slice_get xs i ≡ Some x
 at_rank {X = X} i rank xs x h = go (slice_get xs i) (sym (from_first i xs) ∙ h)
   where
-    go : (o : Option X) → ◌≡◌ {A = Option (ℕ × X)} (option_map (λ z. (i, z)) o) (Some (rank, x)) → o ≡ Some x
+    go : (o : Option X) → ◌≡◌ {A = Option (ℕ × X)} (option_map (λ z. (i, z)) o) (Some (rank, x))
+        → o ≡ Some x
     go None k = cc
     go (Some y) k = ap (λ (q : ℕ × X). Some q.1) (same_Some (i, y) (rank, x) k)
 
-no_rank : {X : Type 0} (i : ℕ) (xs : List X) → find (λ e. e.0 == i) (enumerate_from 0 xs) ≡ None → slice_get xs i ≡ None
+no_rank : {X : Type 0} (i : ℕ) (xs : List X) → find (λ e. e.0 == i) (enumerate_from 0 xs) ≡ None
+    → slice_get xs i ≡ None
 no_rank {X = X} i xs h = go (slice_get xs i) (sym (from_first i xs) ∙ h)
   where
     go : (o : Option X) → ◌≡◌ {A = Option (ℕ × X)} (option_map (λ z. (i, z)) o) None → o ≡ None
@@ -108,15 +143,25 @@ no_rank {X = X} i xs h = go (slice_get xs i) (sym (from_first i xs) ∙ h)
     go (Some y) k = cc
 
 -- the element that is found by its rank among those that pass a test, by its own number
-pub picked : {X : Type 0} (p : ℕ × X → Bool) (xs : List X) (i rank at : ℕ) (x : X) → find (λ e. e.0 == i) (enumerate_from 0 (filter p (enumerate_from 0 xs))) ≡ Some (rank, (at, x))
+pub picked : {X : Type 0} (p : ℕ × X → Bool) (xs : List X) (i rank at : ℕ) (x : X)
+    → find (λ e. e.0 == i) (enumerate_from 0 (filter p (enumerate_from 0 xs)))
+    ≡ Some (rank, (at, x))
     → slice_get xs at ≡ slice_get (map (λ e. e.1) (filter p (enumerate_from 0 xs))) i
 picked {X = X} p xs i rank at x h =
-    let there : slice_get (filter p (enumerate_from 0 xs)) i ≡ Some (at, x) = at_rank i rank (filter p (enumerate_from 0 xs)) (at, x) h in
+    let there : slice_get (filter p (enumerate_from 0 xs)) i ≡ Some (at, x) =
+    at_rank i rank (filter p (enumerate_from 0 xs)) (at, x) h in
     let same : at - 0 ≡ at = omega arith in
-    let own : slice_get xs at ≡ Some x = ap (slice_get xs) (sym same) ∙ (counted p 0 xs i at x there).1 in
-    own ∙ sym (mapped (λ (e : ℕ × X). e.1) (filter p (enumerate_from 0 xs)) i ∙ ap (option_map (λ (e : ℕ × X). e.1)) there)
+    let own : slice_get xs at ≡ Some x =
+    ap (slice_get xs) (sym same) ∙ (counted p 0 xs i at x there).1 in
+    own
+    ∙ sym
+    (mapped (λ (e : ℕ × X). e.1) (filter p (enumerate_from 0 xs)) i
+    ∙ ap (option_map (λ (e : ℕ × X). e.1)) there)
 
 -- where none is found there is none
-pub none_picked : {X : Type 0} (p : ℕ × X → Bool) (xs : List X) (i : ℕ) → find (λ e. e.0 == i) (enumerate_from 0 (filter p (enumerate_from 0 xs))) ≡ None
+pub none_picked : {X : Type 0} (p : ℕ × X → Bool) (xs : List X) (i : ℕ)
+    → find (λ e. e.0 == i) (enumerate_from 0 (filter p (enumerate_from 0 xs))) ≡ None
     → slice_get (map (λ e. e.1) (filter p (enumerate_from 0 xs))) i ≡ None
-none_picked {X = X} p xs i h = mapped (λ (e : ℕ × X). e.1) (filter p (enumerate_from 0 xs)) i ∙ ap (option_map (λ (e : ℕ × X). e.1)) (no_rank i (filter p (enumerate_from 0 xs)) h)
+none_picked {X = X} p xs i h =
+    mapped (λ (e : ℕ × X). e.1) (filter p (enumerate_from 0 xs)) i
+    ∙ ap (option_map (λ (e : ℕ × X). e.1)) (no_rank i (filter p (enumerate_from 0 xs)) h)

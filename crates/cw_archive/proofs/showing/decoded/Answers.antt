@@ -14,12 +14,19 @@ returns-in-Ok-clause-some g c =
     let d = c.in-Ok.ensures.decoded in
     let chunks = map (λ x. x.now) c.args.chunks.now in
     let given : map (λ x. x.now) d.0 ≡ map (checked_of hash c.args.commitment.now) chunks =
-    items_from_drains d.0 (d.1.1.0, d.1.1.1, λ _. (d.1.0, d.1.1.2)) (YieldsList-from_slice _ (c.iter.ensures.rest ∙ (c.deref.ensures.value ∙ c.in_ok-checked.ensures.checked))) in
+    items_from_drains d.0 (d.1.1.0, d.1.1.1, λ _. (d.1.0, d.1.1.2))
+    (YieldsList-from_slice _
+    (c.iter.ensures.rest ∙ (c.deref.ensures.value ∙ c.in_ok-checked.ensures.checked))) in
     of_text hash c.args.commitment.now chunks c.in-Ok.text.items
-    (c.coded_laws.ensures.coder hash no_committees 0 (λ b a. true)) c.requires c.in_ok-checked.ensures.bytes
-    (subst (λ xs. IsDecoding hash digest_bytes c.args.commitment.now.config c.args.commitment.now.root xs c.in-Ok.text.items) given d.3)
+    (c.coded_laws.ensures.coder hash no_committees 0 (λ b a. true)) c.requires
+    c.in_ok-checked.ensures.bytes
+    (subst
+    (λ xs. IsDecoding hash digest_bytes c.args.commitment.now.config c.args.commitment.now.root
+    xs c.in-Ok.text.items)
+    given d.3)
 
-none_if : {V E : Type 0} (r : Result (Option V) E) (Q P : Type 0) → IfOk r (λ _. Q) → (Q → P) → IfOk r (λ t. IfNone t P)
+none_if : {V E : Type 0} (r : Result (Option V) E) (Q P : Type 0) → IfOk r (λ _. Q) → (Q → P)
+    → IfOk r (λ t. IfNone t P)
 none_if (Ok None) Q P q f = f q
 none_if (Ok (Some t)) Q P q f = tt
 none_if (Err e) Q P q f = tt
@@ -28,13 +35,22 @@ pub returns-clause-none : goal.returns-clause-none
 returns-clause-none g c =
     let hash = g.H.Hasher.digest_of in
     let chunks = map (λ x. x.now) c.args.chunks.now in
-    none_if c.no_text.result (c.in-Err.error ≢ NoMemory) (IsOfNoBlock hash c.args.commitment.now chunks) c.no_text.ensures.refused
+    none_if c.no_text.result (c.in-Err.error ≢ NoMemory)
+    (IsOfNoBlock hash c.args.commitment.now chunks) c.no_text.ensures.refused
     (λ ne. elim c.in-Err.ensures.refused [
       | inl e ↦ absurd (ne e)
       | inr d ↦
           (let given : map (λ x. x.now) d.0 ≡ map (checked_of hash c.args.commitment.now) chunks =
-          items_from_drains d.0 (d.1.1.0, d.1.1.1, λ _. (d.1.0, d.1.1.2)) (YieldsList-from_slice _ (c.iter.ensures.rest ∙ (c.deref.ensures.value ∙ c.in_ok-checked.ensures.checked))) in
+          items_from_drains d.0 (d.1.1.0, d.1.1.1, λ _. (d.1.0, d.1.1.2))
+          (YieldsList-from_slice _
+          (c.iter.ensures.rest
+          ∙ (c.deref.ensures.value ∙ c.in_ok-checked.ensures.checked))) in
           of_no_text hash c.args.commitment.now chunks c.in-Err.error
-          (c.coded_laws.ensures.coder hash no_committees 0 (λ b a. true)) c.encodings_decode.ensures.any_enough c.requires
-          (subst (λ xs. IsDecodeRefusal hash digest_bytes c.args.commitment.now.config c.args.commitment.now.root xs c.in-Err.error) given d.2) ne)
+          (c.coded_laws.ensures.coder hash no_committees 0 (λ b a. true))
+          c.encodings_decode.ensures.any_enough c.requires
+          (subst
+          (λ xs. IsDecodeRefusal hash digest_bytes c.args.commitment.now.config
+          c.args.commitment.now.root xs c.in-Err.error)
+          given d.2)
+          ne)
     ])

@@ -5,4 +5,6 @@ use Rattle.cw_archive.proofs.showing.least_chunks.Given as goal
 
 -- the chunks of the indices so far, no more than are asked for
 abbrev pub invariant-loop-index : goal.invariant-loop-index
-invariant-loop-index l = (map (λ chunk. chunk.now) l.chunks.items ≡ answers (chunk_at l.commitment l.kept) 0 l.index) × (length l.chunks.items ≤ l.minimum)
+invariant-loop-index l =
+    (map (λ chunk. chunk.now) l.chunks.items ≡ answers (chunk_at l.commitment l.kept) 0 l.index)
+    × (length l.chunks.items ≤ l.minimum)

@@ -15,7 +15,8 @@ pub overflow_mul-result : goal.overflow_mul-result
 overflow_mul-result t c =
     let fits = more_fits c.args.more c.in-Ok.high c.requires
     (elim c.else-more-eq0.branch [
-      | else-more-eq0-via-then-more-eq0+else-byte-gt15 w ↦ absurd (omega (arith, w.if-byte-gt15.false))
+      | else-more-eq0-via-then-more-eq0+else-byte-gt15 w ↦ absurd
+          (omega (arith, w.if-byte-gt15.false))
       | else-more-eq0-via-else-more-eq0 w ↦ omega (arith, w.if-more-eq0.false)
     ]) c.in-Ok.ensures.small in
     omega (arith, fits)
@@ -24,7 +25,8 @@ pub overflow_add-result : goal.overflow_add-result
 overflow_add-result t c =
     let fits = more_fits c.args.more c.in-Ok.high c.requires
     (elim c.else-more-eq0.branch [
-      | else-more-eq0-via-then-more-eq0+else-byte-gt15 w ↦ absurd (omega (arith, w.if-byte-gt15.false))
+      | else-more-eq0-via-then-more-eq0+else-byte-gt15 w ↦ absurd
+          (omega (arith, w.if-byte-gt15.false))
       | else-more-eq0-via-else-more-eq0 w ↦ omega (arith, w.if-more-eq0.false)
     ]) c.in-Ok.ensures.small in
     omega (arith, fits)
@@ -33,6 +35,7 @@ pub returns-in-Ok-clause-small : goal.returns-in-Ok-clause-small
 returns-in-Ok-clause-small t c =
     more_small c.args.more c.from-byte.result c.in-Ok.high c.requires
     (elim c.else-more-eq0.branch [
-      | else-more-eq0-via-then-more-eq0+else-byte-gt15 w ↦ absurd (omega (arith, w.if-byte-gt15.false))
+      | else-more-eq0-via-then-more-eq0+else-byte-gt15 w ↦ absurd
+          (omega (arith, w.if-byte-gt15.false))
       | else-more-eq0-via-else-more-eq0 w ↦ omega (arith, w.if-more-eq0.false)
     ]) (omega arith) c.in-Ok.ensures.small

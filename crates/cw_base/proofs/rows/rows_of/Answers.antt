@@ -9,4 +9,6 @@ loop-i-init c = ap (map (λ row. row.now)) c.new-slices.ensures.items ∙ sym (l
 pub loop-i-preserved : goal.loop-i-preserved
 loop-i-preserved c =
     push_listed c.loop-i.i _ _ _ _ c.loop-i.invariant
-    (ap (map (λ row. row.now)) c.in_ok-push.ensures.items ∙ map-append (λ row. row.now) c.loop-i.slices.items _) c.row.ensures
+    (ap (map (λ row. row.now)) c.in_ok-push.ensures.items
+    ∙ map-append (λ row. row.now) c.loop-i.slices.items _)
+    c.row.ensures

@@ -10,4 +10,6 @@ answer-requires g c =
 pub loop-item-preserved : goal.loop-item-preserved
 loop-item-preserved g c =
     let within : c.loop-item.item-index < length c.args.items.now = omega arith in
-    GivesItems_more g.F.Fn c.args.f.now c.args.items.now c.loop-item.item-index c.item-item.result c.loop-item.answers.items c.push.new.self.items c.answer.result within c.item-item.is c.in_ok-push.ensures.items c.loop-item.invariant c.answer.ensures
+    GivesItems_more g.F.Fn c.args.f.now c.args.items.now c.loop-item.item-index c.item-item.result
+    c.loop-item.answers.items c.push.new.self.items c.answer.result within c.item-item.is
+    c.in_ok-push.ensures.items c.loop-item.invariant c.answer.ensures

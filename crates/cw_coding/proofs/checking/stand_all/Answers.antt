@@ -8,7 +8,8 @@ returns g c =
     let content = g.H.Digest.Digest.content in
     let config = c.args.config.now in
     let root = c.args.commitment.now in
-    all_stood hash content config root c.args.indices.now _ c.args.shards.now _ c.in_ok-stood.stood.items c.loop-i.i (omega (arith, c.requires)) (omega arith)
+    all_stood hash content config root c.args.indices.now _ c.args.shards.now _
+    c.in_ok-stood.stood.items c.loop-i.i (omega (arith, c.requires)) (omega arith)
     (ap (map (λ x. x.0)) c.deref.ensures.value ∙ c.loop-i.invariant.indices)
     (ap (map (λ x. x.1.now)) c.deref.ensures.value ∙ c.loop-i.invariant.shards)
     (stood hash content config root _ _

@@ -9,8 +9,10 @@ use Rattle.cw_coding.proofs.OrderLaws.{index_at}
 use Rattle.cw_coding.proofs.gathering.fitting.Goals as goal
 
 -- the indices of the first chunks
-first_indices : {D : Type 0} (n : ℕ) (chunks : List (Checked D)) (i : ℕ) → Contains (take n (indices_of chunks)) i → Contains (indices_of (take n chunks)) i
-first_indices n chunks i h = subst (λ (xs : List ℕ). Contains xs i) (take-map (λ (x : Checked _). x.index) n chunks) h
+first_indices : {D : Type 0} (n : ℕ) (chunks : List (Checked D)) (i : ℕ)
+    → Contains (take n (indices_of chunks)) i → Contains (indices_of (take n chunks)) i
+first_indices n chunks i h =
+    subst (λ (xs : List ℕ). Contains xs i) (take-map (λ (x : Checked _). x.index) n chunks) h
 
 both : (b : Bool) → b ≡ true → b ≡ false → ⊥
 both b t f = cc
@@ -20,7 +22,9 @@ returns-in-Err g c =
     inr (record {
       place = c.loop-chunk.chunk-index;
       chunk = c.chunk-item.result;
-      at = slice_get_read c.args.shards.now _ c.loop-chunk.chunk-index c.chunk-item.result refl c.loop-chunk-test.true c.chunk-item.is;
+      at =
+          slice_get_read c.args.shards.now _ c.loop-chunk.chunk-index c.chunk-item.result refl
+          c.loop-chunk-test.true c.chunk-item.is;
       before = c.loop-chunk.invariant.fit;
       misfit = c.in-Err.ensures (take c.loop-chunk.chunk-index c.args.shards.now);
     })
@@ -32,19 +36,24 @@ returns-then-index g c =
     let below : index < c.args.total = c.in_default-stray.ensures.2 in
     let at : c.from-index.result ≡ index = c.from-index.ensures ∙ c.index.ensures in
     let marked : get_or given index false ≡ true =
-    get_or_default given index false c.index-in-loop-chunk.result.now (omega (arith, c.loop-chunk.invariant.count, below))
-    ∙ ap (λ (i : ℕ). get_or given i c.index-in-loop-chunk.result.now) (sym at) ∙ sym c.index-in-loop-chunk.ensures ∙ c.if-index.true in
+    get_or_default given index false c.index-in-loop-chunk.result.now
+    (omega (arith, c.loop-chunk.invariant.count, below))
+    ∙ ap (λ (i : ℕ). get_or given i c.index-in-loop-chunk.result.now) (sym at)
+    ∙ sym c.index-in-loop-chunk.ensures ∙ c.if-index.true in
     inr (record {
       place = c.loop-chunk.chunk-index;
       chunk = c.chunk-item.result;
-      at = slice_get_read c.args.shards.now _ c.loop-chunk.chunk-index c.chunk-item.result refl c.loop-chunk-test.true c.chunk-item.is;
+      at =
+          slice_get_read c.args.shards.now _ c.loop-chunk.chunk-index c.chunk-item.result refl
+          c.loop-chunk-test.true c.chunk-item.is;
       before = c.loop-chunk.invariant.fit;
       misfit = (
         c.in_default-stray.ensures.0,
         c.in_default-stray.ensures.1,
         c.index-then-index.ensures,
         below,
-        first_indices c.loop-chunk.chunk-index c.args.shards.now index (c.loop-chunk.invariant.was_given index below marked),
+        first_indices c.loop-chunk.chunk-index c.args.shards.now index
+            (c.loop-chunk.invariant.was_given index below marked),
       );
     })
 
@@ -56,18 +65,26 @@ loop-chunk-preserved g c =
     let below : index < c.args.total = c.in_default-stray.ensures.2 in
     let at : c.from-index.result ≡ index = c.from-index.ensures ∙ c.index.ensures in
     let unmarked : get_or given index false ≡ false =
-    ap (λ (i : ℕ). get_or given i false) (sym at) ∙ ap (λ (b : Bool). get_or given c.from-index.result b) (sym c.if-index.false)
+    ap (λ (i : ℕ). get_or given i false) (sym at)
+    ∙ ap (λ (b : Bool). get_or given c.from-index.result b) (sym c.if-index.false)
     ∙ sym c.index-in-loop-chunk.ensures ∙ c.if-index.false in
     let here : get_or (indices_of c.args.shards.now) n 0 ≡ index =
-    index_at c.args.shards.now n c.chunk-item.result c.loop-chunk-test.true ∙ ap (λ (x : Checked _). x.index) (sym c.chunk-item.is) in
+    index_at c.args.shards.now n c.chunk-item.result c.loop-chunk-test.true
+    ∙ ap (λ (x : Checked _). x.index) (sym c.chunk-item.is) in
     let marks = seen_more c.args.total n c.from-index.result (indices_of c.args.shards.now) given
-    (omega (arith, length-map c.args.shards.now (λ (x : Checked _). x.index), c.loop-chunk-test.true)) (at ∙ sym here) c.loop-chunk.invariant.count (omega (arith, at, below))
+    (omega
+    (arith, length-map c.args.shards.now (λ (x : Checked _). x.index), c.loop-chunk-test.true))
+    (at ∙ sym here) c.loop-chunk.invariant.count (omega (arith, at, below))
     c.loop-chunk.invariant.was_given c.loop-chunk.invariant.is_marked in
     record {
-      fit = fit_more c.args.total c.args.root.now c.args.width c.args.shards.now n c.chunk-item.result c.loop-chunk-test.true c.chunk-item.is c.loop-chunk.invariant.fit
+      fit =
+          fit_more c.args.total c.args.root.now c.args.width c.args.shards.now n c.chunk-item.result
+          c.loop-chunk-test.true c.chunk-item.is c.loop-chunk.invariant.fit
           c.in_default-stray.ensures.0 c.in_default-stray.ensures.1 below
           (λ h. both (get_or given index false) (c.loop-chunk.invariant.is_marked index
-          (subst (λ (xs : List ℕ). Contains xs index) (sym (take-map (λ (x : Checked _). x.index) n c.args.shards.now)) h)) unmarked);
+          (subst (λ (xs : List ℕ). Contains xs index)
+          (sym (take-map (λ (x : Checked _). x.index) n c.args.shards.now)) h))
+          unmarked);
       count = length-set given c.from-index.result true ∙ c.loop-chunk.invariant.count;
       was_given = marks.0;
       is_marked = marks.1;

@@ -7,6 +7,8 @@ abbrev pub invariant-loop-chunk : goal.invariant-loop-chunk
 invariant-loop-chunk g l = record {
   fit : FitTogether l.total l.root l.width (take l.chunk-index l.shards);
   count : length l.given.items ≡ l.total;
-  was_given : (i : ℕ) → i < l.total → get_or l.given.items i false ≡ true → Contains (take l.chunk-index (indices_of l.shards)) i;
-  is_marked : (i : ℕ) → Contains (take l.chunk-index (indices_of l.shards)) i → get_or l.given.items i false ≡ true;
+  was_given : (i : ℕ) → i < l.total → get_or l.given.items i false ≡ true
+      → Contains (take l.chunk-index (indices_of l.shards)) i;
+  is_marked : (i : ℕ) → Contains (take l.chunk-index (indices_of l.shards)) i
+      → get_or l.given.items i false ≡ true;
 }

@@ -11,13 +11,25 @@ returns-clause-value g c =
     let m = c.args.m in
     let text = c.args.text.now in
     let width = c.args.width in
-    let there : (s : ℕ) → s < c.args.given.now.compared → row_of c.deref-2.result.now width (get_or c.deref-3.result.now s 0) ≡ row_at k text (get_or c.args.given.now.indices.items s 0)
-    = row_by_index k m text c.in_ok-rows.rows.items _ c.args.given.now.indices.items _ width c.args.given.now.compared c.requires.width
-    c.in_ok-rows.ensures.value c.deref-2.ensures.value c.deref-3.ensures.value c.requires.compared c.requires.range in
-    let found : root_of g.H.Hasher.digest_of g.H.Digest.Digest.content (row_digests g.H.Hasher.digest_of k m text) ≡ Some c.root-found.result
-    = root_is g.H.Hasher.digest_of g.H.Digest.Digest.content k m text c.deref.result.now width c.in_ok-tree.tree c.root-found.result c.requires.some c.requires.width (c.deref.ensures.value ∙ c.in_ok-rows.ensures.value) c.in_ok-tree.ensures.digests c.root-found.ensures in
+    let there : (s : ℕ) → s < c.args.given.now.compared
+    → row_of c.deref-2.result.now width (get_or c.deref-3.result.now s 0)
+    ≡ row_at k text (get_or c.args.given.now.indices.items s 0)
+    =
+    row_by_index k m text c.in_ok-rows.rows.items _ c.args.given.now.indices.items _ width
+    c.args.given.now.compared c.requires.width
+    c.in_ok-rows.ensures.value c.deref-2.ensures.value c.deref-3.ensures.value c.requires.compared
+    c.requires.range in
+    let found : root_of g.H.Hasher.digest_of g.H.Digest.Digest.content
+    (row_digests g.H.Hasher.digest_of k m text)
+    ≡ Some c.root-found.result
+    =
+    root_is g.H.Hasher.digest_of g.H.Digest.Digest.content k m text c.deref.result.now width
+    c.in_ok-tree.tree c.root-found.result c.requires.some c.requires.width
+    (c.deref.ensures.value ∙ c.in_ok-rows.ensures.value) c.in_ok-tree.ensures.digests
+    c.root-found.ensures in
     let given = c.deref-4.ensures.value in
-    let rows : (s : ℕ) → s < c.args.given.now.compared → row_of c.deref-4.result.now width s ≡ row_of c.args.given.now.rows.items width s
+    let rows : (s : ℕ) → s < c.args.given.now.compared
+    → row_of c.deref-4.result.now width s ≡ row_of c.args.given.now.rows.items width s
     = λ s l. ap (λ xs. row_of xs width s) given in (
       λ yes. let parts = c.both.ensures.0 yes in (
         λ s l. sym (rows s l) ∙ c.same_rows-same.ensures.0 parts.0 s l ∙ there s l,

@@ -5,16 +5,22 @@ use Rattle.cw_coding.proofs.recovering.rebuilt.Goals as goal
 
 pub rebuild-requires-clause-targets : goal.rebuild-requires-clause-targets
 rebuild-requires-clause-targets g c = λ κs h i d within.
-    first_targets c.in_ok-plan.plan c.deref.result.now c.in_ok-targets.targets.items _ c.args.k c.args.m c.in_ok-plan.ensures
+    first_targets c.in_ok-plan.plan c.deref.result.now c.in_ok-targets.targets.items _ c.args.k
+    c.args.m c.in_ok-plan.ensures
     c.deref.ensures.value c.in_ok-targets.ensures.count c.in_ok-targets.ensures.each i d within
 
 pub returns-in-Ok-clause-long : goal.returns-in-Ok-clause-long
 returns-in-Ok-clause-long g c =
-    rebuilt_long c.args.k _ _ _ _ _ _ c.args.width c.requires.even (ap length c.deref.ensures.value ∙ c.in_ok-targets.ensures.count) c.in-Ok.ensures.rows
+    rebuilt_long c.args.k _ _ _ _ _ _ c.args.width c.requires.even
+    (ap length c.deref.ensures.value ∙ c.in_ok-targets.ensures.count) c.in-Ok.ensures.rows
 
 pub returns-in-Ok-clause-value : goal.returns-in-Ok-clause-value
 returns-in-Ok-clause-value g c originals agree =
-    let each : (s : ℕ) → s < c.args.k → get_or c.deref.result.now s 0 ≡ s = rw c.deref.ensures.value c.in_ok-targets.ensures.each in
-    rebuilt_value _ c.args.k c.args.m c.args.indices.now c.args.rows.now _ c.args.width c.deref.result.now _ originals
-    c.in_ok-plan.ensures c.requires.enough c.requires.rows (front_of c.args.rows.now c.from.result c.args.k c.args.width c.from.ensures)
-    (ap length c.deref.ensures.value ∙ c.in_ok-targets.ensures.count) each agree (λ o h. c.in-Ok.ensures.codeword o h)
+    let each : (s : ℕ) → s < c.args.k → get_or c.deref.result.now s 0 ≡ s =
+    rw c.deref.ensures.value c.in_ok-targets.ensures.each in
+    rebuilt_value _ c.args.k c.args.m c.args.indices.now c.args.rows.now _ c.args.width
+    c.deref.result.now _ originals
+    c.in_ok-plan.ensures c.requires.enough c.requires.rows
+    (front_of c.args.rows.now c.from.result c.args.k c.args.width c.from.ensures)
+    (ap length c.deref.ensures.value ∙ c.in_ok-targets.ensures.count) each agree
+    (λ o h. c.in-Ok.ensures.codeword o h)

@@ -10,7 +10,14 @@ pub loop-index-preserved : goal.loop-index-preserved
 loop-index-preserved c =
     let f : ℕ → Transfer = λ i. transfer_at (drop (i * 16) c.args.payload.now) in
     let k : ℕ = c.loop-index.index * 16 in
-    let at : c.at.result ≡ transfer_at (drop k c.args.payload.now) = c.at.ensures ∙ ap (λ (n : ℕ). transfer_at (take n (drop k c.args.payload.now))) (sym (length-drop k c.args.payload.now)) ∙ ap transfer_at (take_all (length (drop k c.args.payload.now)) (drop k c.args.payload.now) (omega arith)) in
-    c.in_ok-push.ensures.items ∙ ap (λ (ts : List Transfer). ts ++ c.at.result ∷ []) c.loop-index.invariant
+    let at : c.at.result ≡ transfer_at (drop k c.args.payload.now) =
+    c.at.ensures
+    ∙ ap (λ (n : ℕ). transfer_at (take n (drop k c.args.payload.now)))
+    (sym (length-drop k c.args.payload.now))
+    ∙ ap transfer_at
+    (take_all (length (drop k c.args.payload.now)) (drop k c.args.payload.now)
+    (omega arith)) in
+    c.in_ok-push.ensures.items
+    ∙ ap (λ (ts : List Transfer). ts ++ c.at.result ∷ []) c.loop-index.invariant
     ∙ ap (λ (t : Transfer). map f (range_with_len 0 c.loop-index.index) ++ t ∷ []) at
     ∙ sym (map-range_with_len_more f 0 c.loop-index.index c.loop-index.index (omega arith))

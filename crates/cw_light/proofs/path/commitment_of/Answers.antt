@@ -12,6 +12,12 @@ pub returns : goal.returns
 returns g c = λ backlog accepts.
     let b : Block = c.args.block.now in
     let hash = g.H.Hasher.digest_of in
-    IfOk-weaker c.commit.result (λ (own : Commitment). own ≡ types.commit hash c.size-n.result b) (λ (own : Commitment). own ≡ rule.commit (coded hash c.args.committees.now backlog accepts) b)
-    (λ own e. e ∙ (ap (λ n. types.commit hash n b) (c.size-n.ensures.value ∙ ap (λ x. size c.args.committees.now x.epoch) c.context.ensures) ∙ c.commits_by_rules.ensures.commit hash c.args.committees.now backlog accepts b))
+    IfOk-weaker c.commit.result (λ (own : Commitment). own ≡ types.commit hash c.size-n.result b)
+    (λ (own : Commitment). own
+    ≡ rule.commit (coded hash c.args.committees.now backlog accepts) b)
+    (λ own e. e
+    ∙ (ap (λ n. types.commit hash n b)
+    (c.size-n.ensures.value
+    ∙ ap (λ x. size c.args.committees.now x.epoch) c.context.ensures)
+    ∙ c.commits_by_rules.ensures.commit hash c.args.committees.now backlog accepts b))
     c.commit.ensures

@@ -12,7 +12,11 @@ returns g c = λ backlog accepts.
     let r : Rules = coded g.H.Hasher.digest_of c.args.committees.now backlog accepts in
     let b : Block = c.args.block.now in
     let of : Commitment = c.args.commitment.now in
-    let other : same_commitment of (genesis_commitment r) ≡ false = sym (c.is_same.ensures ∙ ap (same_commitment of) c.genesis_commitment.ensures) ∙ c.if-is_same.false in
+    let other : same_commitment of (genesis_commitment r) ≡ false =
+    sym (c.is_same.ensures ∙ ap (same_commitment of) c.genesis_commitment.ensures)
+    ∙ c.if-is_same.false in
     c.is_same-2.ensures
     ∙ (ap (λ (x : Commitment). same_commitment x of) (c.in_ok-own.ensures backlog accepts)
-    ∙ sym (cond-false (same_commitment of (genesis_commitment r)) (same_block b (genesis r)) (same_commitment (commit r b) of) other))
+    ∙ sym
+    (cond-false (same_commitment of (genesis_commitment r)) (same_block b (genesis r))
+    (same_commitment (commit r b) of) other))

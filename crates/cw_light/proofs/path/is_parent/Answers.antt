@@ -11,13 +11,22 @@ returns-then-is_named g c = λ backlog accepts.
     let r : Rules = coded g.H.Hasher.digest_of c.args.committees.now backlog accepts in
     let b : Block = c.args.block.now in
     let above : Block = c.args.above.now in
-    let is : is_named_by r above.context.parent b ≡ true = sym (c.in_ok-is_named.ensures backlog accepts ∙ ap (λ (x : Context). is_named_by r x.parent b) c.context.ensures) ∙ c.if-is_named.true in
-    (λ i. nat_eq (c.height.ensures.value i + 1) (c.height-then-is_named.ensures.value i)) ∙ sym (ap (λ t. t && (b.height + 1 == above.height)) is)
+    let is : is_named_by r above.context.parent b ≡ true =
+    sym
+    (c.in_ok-is_named.ensures backlog accepts
+    ∙ ap (λ (x : Context). is_named_by r x.parent b) c.context.ensures)
+    ∙ c.if-is_named.true in
+    (λ i. nat_eq (c.height.ensures.value i + 1) (c.height-then-is_named.ensures.value i))
+    ∙ sym (ap (λ t. t && (b.height + 1 == above.height)) is)
 
 pub returns-else-is_named : goal.returns-else-is_named
 returns-else-is_named g c = λ backlog accepts.
     let r : Rules = coded g.H.Hasher.digest_of c.args.committees.now backlog accepts in
     let b : Block = c.args.block.now in
     let above : Block = c.args.above.now in
-    let is : is_named_by r above.context.parent b ≡ false = sym (c.in_ok-is_named.ensures backlog accepts ∙ ap (λ (x : Context). is_named_by r x.parent b) c.context.ensures) ∙ c.if-is_named.false in
+    let is : is_named_by r above.context.parent b ≡ false =
+    sym
+    (c.in_ok-is_named.ensures backlog accepts
+    ∙ ap (λ (x : Context). is_named_by r x.parent b) c.context.ensures)
+    ∙ c.if-is_named.false in
     c.if-is_named.false ∙ sym (ap (λ t. t && (b.height + 1 == above.height)) is)

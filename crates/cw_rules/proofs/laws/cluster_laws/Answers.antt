@@ -11,16 +11,22 @@ pub returns-clause-lawful : goal.returns-clause-lawful
 returns-clause-lawful c = reached_lawful
 
 pub returns-clause-one_notarized : goal.returns-clause-one_notarized
-returns-clause-one_notarized c r script w cluster reach = one_notarized r.epochs (block_fits r) (members_of w) (reached_lawful r script w cluster reach)
+returns-clause-one_notarized c r script w cluster reach =
+    one_notarized r.epochs (block_fits r) (members_of w) (reached_lawful r script w cluster reach)
 
 pub returns-clause-not_both : goal.returns-clause-not_both
-returns-clause-not_both c r script w cluster reach = not_both_stand r.epochs (block_fits r) (members_of w) (reached_lawful r script w cluster reach)
+returns-clause-not_both c r script w cluster reach =
+    not_both_stand r.epochs (block_fits r) (members_of w) (reached_lawful r script w cluster reach)
 
 pub returns-clause-descent : goal.returns-clause-descent
-returns-clause-descent c r script w cluster reach = finalized_descent r.epochs (block_fits r) (members_of w) (reached_lawful r script w cluster reach)
+returns-clause-descent c r script w cluster reach =
+    finalized_descent r.epochs (block_fits r) (members_of w)
+    (reached_lawful r script w cluster reach)
 
 pub returns-clause-certified : goal.returns-clause-certified
-returns-clause-certified c r script w cluster reach = ancestors_in r cluster.spans (members_of w) (reached_lawful r script w cluster reach) (reached_keep r script w cluster reach)
+returns-clause-certified c r script w cluster reach =
+    ancestors_in r cluster.spans (members_of w) (reached_lawful r script w cluster reach)
+    (reached_keep r script w cluster reach)
 
 pub returns-clause-kept : goal.returns-clause-kept
 returns-clause-kept c r script w cluster reach = (reached_kept r script w cluster reach).each

@@ -16,4 +16,5 @@ pub returns-clause-no_end : goal.returns-clause-no_end
 returns-clause-no_end c n epoch height = (refl, refl)
 
 pub returns-clause-no_epoch : goal.returns-clause-no_epoch
-returns-clause-no_epoch c r s e = ap (option_and_then (λ span. reached_epoch r s.notes span (top_epoch r s.notes span))) e
+returns-clause-no_epoch c r s e =
+    ap (option_and_then (λ span. reached_epoch r s.notes span (top_epoch r s.notes span))) e

@@ -24,13 +24,22 @@ there zero = (omega arith, (omega arith, (omega arith, (omega arith, tt))))
 there (suc zero) = (omega arith, (omega arith, (omega arith, (omega arith, tt))))
 there (suc (suc epoch)) = (omega arith, (omega arith, (omega arith, (omega arith, tt))))
 
-few : (epoch : ℕ) → count_by (λ i. list_any (faults i) three_epochs) (members_in two_epochs epoch) ≤ max_faults (size two_epochs epoch)
+few : (epoch : ℕ)
+    → count_by (λ i. list_any (faults i) three_epochs) (members_in two_epochs epoch)
+    ≤ max_faults (size two_epochs epoch)
 few zero = omega arith
 few (suc zero) = omega arith
 few (suc (suc epoch)) = omega arith
 
 pub returns-clause-cluster : goal.returns-clause-cluster
-returns-clause-cluster c = record { enough = enough; rising = rising; there = there; few = few; spans = λ span e. let f = same_Some 1 span e in omega arith }
+returns-clause-cluster c =
+    record {
+      enough = enough;
+      rising = rising;
+      there = there;
+      few = few;
+      spans = λ span e. let f = same_Some 1 span e in omega arith;
+    }
 
 pub returns-clause-reached : goal.returns-clause-reached
 unfolding same_block same_cert same_commitment same_context same_proposal same_vote

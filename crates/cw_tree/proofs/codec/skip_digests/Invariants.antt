@@ -8,5 +8,7 @@ use Rattle.cw_tree.proofs.codec.skip_digests.Given as goal
 -- what refuses those that are left refuses them all
 abbrev pub invariant-loop-i : goal.invariant-loop-i
 invariant-loop-i g l =
-    ((e : CodecError) (left : List ℕ) → IsRefused e left (digests_at g.D.Digest.SIZE (l.count - l.i) l.reader) → IsRefused e left (digests_at g.D.Digest.SIZE l.count l.fn.reader))
+    ((e : CodecError) (left : List ℕ)
+    → IsRefused e left (digests_at g.D.Digest.SIZE (l.count - l.i) l.reader)
+    → IsRefused e left (digests_at g.D.Digest.SIZE l.count l.fn.reader))
     × IsEnd l.fn.reader l.reader

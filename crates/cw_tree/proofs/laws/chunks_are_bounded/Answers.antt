@@ -8,8 +8,11 @@ returns g c =
     let content = g.D.Digest.content in
     let size = g.D.Digest.SIZE in
     record {
-      proof = λ leaf_count most siblings sized few. proof_bytes-le content size most leaf_count siblings sized few;
+      proof =
+          λ leaf_count most siblings sized few. proof_bytes-le content size most leaf_count siblings
+          sized few;
       chunk = λ shard most p sized narrow few.
-          let own : length (chunk_bytes content p) ≤ 12 + length p.shard + size * most = chunk_bytes-le content size most p sized few in
+          let own : length (chunk_bytes content p) ≤ 12 + length p.shard + size * most =
+          chunk_bytes-le content size most p sized few in
           omega arith;
     }

@@ -6,13 +6,16 @@ pub returns-clause-even : goal.returns-clause-even
 returns-clause-even c = rw c.shard_len_of.ensures (shard_len-even c.args.length c.args.k)
 
 pub returns-clause-positive : goal.returns-clause-positive
-returns-clause-positive c = rw c.shard_len_of.ensures (shard_len-some c.args.length c.args.k c.requires.some)
+returns-clause-positive c =
+    rw c.shard_len_of.ensures (shard_len-some c.args.length c.args.k c.requires.some)
 
 pub returns-clause-narrow : goal.returns-clause-narrow
-returns-clause-narrow c = omega (arith, c.shard_len_of.ensures, shard_len-narrow c.args.length c.args.k c.requires.some)
+returns-clause-narrow c =
+    omega (arith, c.shard_len_of.ensures, shard_len-narrow c.args.length c.args.k c.requires.some)
 
 pub returns-clause-covers : goal.returns-clause-covers
-returns-clause-covers c = rw c.shard_len_of.ensures (shard_len-covers c.args.length c.args.k c.requires.some)
+returns-clause-covers c =
+    rw c.shard_len_of.ensures (shard_len-covers c.args.length c.args.k c.requires.some)
 
 pub returns-clause-fits : goal.returns-clause-fits
 returns-clause-fits c =

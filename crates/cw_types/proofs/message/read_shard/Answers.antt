@@ -5,4 +5,7 @@ use Rattle.cw_types.proofs.message.read_shard.Goals as goal
 
 pub returns-clause-value : goal.returns-clause-value
 unfolding shard_at
-returns-clause-value c = gives_digests c.read.result c.read.new.reader (chunk_at 32 (widest c.args.config.now.minimum 1048745) c.args.reader.now) c.read.ensures.value
+returns-clause-value c =
+    gives_digests c.read.result c.read.new.reader
+    (chunk_at 32 (widest c.args.config.now.minimum 1048745) c.args.reader.now)
+    c.read.ensures.value

@@ -8,5 +8,6 @@ use Rattle.cw_types.proofs.vote.skip_signers.Given as goal
 -- what refuses those that are left refuses them all
 abbrev pub invariant-loop-i : goal.invariant-loop-i
 invariant-loop-i l =
-    ((e : CodecError) (left : List ℕ) → IsRefused e left (signers_at (l.count - l.i) l.reader) → IsRefused e left (signers_at l.count l.fn.reader))
+    ((e : CodecError) (left : List ℕ) → IsRefused e left (signers_at (l.count - l.i) l.reader)
+    → IsRefused e left (signers_at l.count l.fn.reader))
     × IsEnd l.fn.reader l.reader

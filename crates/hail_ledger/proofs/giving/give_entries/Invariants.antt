@@ -4,4 +4,8 @@ use Rattle.hail_ledger.specs.Ledgers.{handed_in_entries}
 use Rattle.hail_ledger.proofs.giving.give_entries.Given as goal
 
 abbrev pub invariant-loop-entry : goal.invariant-loop-entry
-invariant-loop-entry l = (l.replica.payloads ≡ given_all l.chain l.initial.replica.payloads (handed_in_entries l.member (take l.entry-index l.entries))) × NeverFails l.replica
+invariant-loop-entry l =
+    (l.replica.payloads
+    ≡ given_all l.chain l.initial.replica.payloads
+    (handed_in_entries l.member (take l.entry-index l.entries)))
+    × NeverFails l.replica

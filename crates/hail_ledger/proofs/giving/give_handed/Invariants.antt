@@ -3,4 +3,8 @@ use Rattle.hail_ledger.specs.Giving.{NeverFails, given_all}
 use Rattle.hail_ledger.proofs.giving.give_handed.Given as goal
 
 abbrev pub invariant-loop-block : goal.invariant-loop-block
-invariant-loop-block l = (l.replica.payloads ≡ given_all l.chain l.initial.replica.payloads (map (λ h. h.height) (take l.block-index l.handed))) × NeverFails l.replica
+invariant-loop-block l =
+    (l.replica.payloads
+    ≡ given_all l.chain l.initial.replica.payloads
+    (map (λ h. h.height) (take l.block-index l.handed)))
+    × NeverFails l.replica

@@ -5,4 +5,7 @@ use Rattle.hail_ledger.specs.Text as spec
 use Rattle.hail_ledger.proofs.text.put_holdings.Given as goal
 
 abbrev pub invariant-loop-holding : goal.invariant-loop-holding
-invariant-loop-holding l = string_bytes l.out ≡ string_bytes l.fn.out ++ flat_map (spec.balance_line l.member) (take l.holding-index l.holdings)
+invariant-loop-holding l =
+    string_bytes l.out
+    ≡ string_bytes l.fn.out
+    ++ flat_map (spec.balance_line l.member) (take l.holding-index l.holdings)

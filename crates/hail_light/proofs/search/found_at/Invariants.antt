@@ -9,5 +9,9 @@ use Rattle.hail_light.proofs.search.found_at.Given as goal
 abbrev pub invariant-loop-note : goal.invariant-loop-note
 invariant-loop-note g l =
     (backlog : ℕ) (accepts : Block → Block → Bool)
-    → first_some (shown_by (coded g.H.Hasher.digest_of l.committees backlog accepts) (g.V.Verifier.signs l.verifier) l.height l.notes) (drop l.note-index l.notes)
-    ≡ found_at (coded g.H.Hasher.digest_of l.fn.committees backlog accepts) (g.V.Verifier.signs l.fn.verifier) l.fn.height l.fn.notes
+    → first_some
+    (shown_by (coded g.H.Hasher.digest_of l.committees backlog accepts)
+    (g.V.Verifier.signs l.verifier) l.height l.notes)
+    (drop l.note-index l.notes)
+    ≡ found_at (coded g.H.Hasher.digest_of l.fn.committees backlog accepts)
+    (g.V.Verifier.signs l.fn.verifier) l.fn.height l.fn.notes

@@ -12,7 +12,8 @@ abbrev pub invariant-loop-next : goal.invariant-loop-next
 invariant-loop-next g l =
     (epochs : Epochs) (backlog : ℕ) (accepts : Block → Block → Bool)
     → behind (coded g.H.Hasher.digest_of epochs backlog accepts) l.notes l.height l.path l.next
-    ≡ path_to (coded g.H.Hasher.digest_of epochs backlog accepts) l.fn.notes l.fn.height l.fn.commitment
+    ≡ path_to (coded g.H.Hasher.digest_of epochs backlog accepts) l.fn.notes l.fn.height
+    l.fn.commitment
 
 abbrev pub decreases-loop-next : goal.decreases-loop-next
 decreases-loop-next g l = option_map_or (λ b. b.height + 1) l.next 0

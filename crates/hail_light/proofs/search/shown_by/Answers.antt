@@ -9,8 +9,12 @@ returns-in-None g c = λ backlog accepts.
     let hash = g.H.Hasher.digest_of in
     let r : Rules = coded hash c.args.committees.now backlog accepts in
     let s = c.in-Cert.cert in
-    sym (shown_is r (g.V.Verifier.signs c.args.verifier.now) c.args.height c.args.notes.now c.args.note.now s c.in-Finalize.proposal c.in_ok-path_to.field-0
-    c.in-Cert.is c.in-Finalize.is (sym (c.is_valid.ensures hash backlog accepts) ∙ c.if-not-is_valid.false) (c.in_ok-path_to.ensures c.args.committees.now backlog accepts)
+    sym
+    (shown_is r (g.V.Verifier.signs c.args.verifier.now) c.args.height c.args.notes.now
+    c.args.note.now s c.in-Finalize.proposal c.in_ok-path_to.field-0
+    c.in-Cert.is c.in-Finalize.is
+    (sym (c.is_valid.ensures hash backlog accepts) ∙ c.if-not-is_valid.false)
+    (c.in_ok-path_to.ensures c.args.committees.now backlog accepts)
     ∙ ap (option_map (pair s)) c.in-None.is)
 
 pub returns-in_ok-copy-in-Some : goal.returns-in_ok-copy-in-Some
@@ -19,6 +23,10 @@ returns-in_ok-copy-in-Some g c = λ backlog accepts.
     let r : Rules = coded hash c.args.committees.now backlog accepts in
     let s = c.in-Cert.cert in
     ap (λ x. Some (pair x c.in-Some.path)) c.in_ok-copy-in-Some.ensures
-    ∙ sym (shown_is r (g.V.Verifier.signs c.args.verifier.now) c.args.height c.args.notes.now c.args.note.now s c.in-Finalize.proposal c.in_ok-path_to.field-0
-    c.in-Cert.is c.in-Finalize.is (sym (c.is_valid.ensures hash backlog accepts) ∙ c.if-not-is_valid.false) (c.in_ok-path_to.ensures c.args.committees.now backlog accepts)
+    ∙ sym
+    (shown_is r (g.V.Verifier.signs c.args.verifier.now) c.args.height c.args.notes.now
+    c.args.note.now s c.in-Finalize.proposal c.in_ok-path_to.field-0
+    c.in-Cert.is c.in-Finalize.is
+    (sym (c.is_valid.ensures hash backlog accepts) ∙ c.if-not-is_valid.false)
+    (c.in_ok-path_to.ensures c.args.committees.now backlog accepts)
     ∙ ap (option_map (pair s)) c.in-Some.is)

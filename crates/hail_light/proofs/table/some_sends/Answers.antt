@@ -4,4 +4,6 @@ use Rattle.hail_light.proofs.Tables.{any_sent}
 use Rattle.hail_light.proofs.table.some_sends.Goals as goal
 
 pub returns : goal.returns
-returns c = c.any_sends.ensures ∙ sym (any_sent (is_sent_vote c.args.member c.args.vote.now) c.args.entries.now)
+returns c =
+    c.any_sends.ensures
+    ∙ sym (any_sent (is_sent_vote c.args.member c.args.vote.now) c.args.entries.now)

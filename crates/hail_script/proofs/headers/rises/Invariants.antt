@@ -5,4 +5,6 @@ use Rattle.hail_script.proofs.headers.rises.Given as goal
 
 -- the numbers from here on decide
 abbrev pub invariant-loop-number : goal.invariant-loop-number
-invariant-loop-number l = rises_from (option_map_or (λ n. n + 1) l.last 0) (drop l.number-index l.list) ≡ rises_from 0 l.list
+invariant-loop-number l =
+    rises_from (option_map_or (λ n. n + 1) l.last 0) (drop l.number-index l.list)
+    ≡ rises_from 0 l.list

@@ -7,7 +7,18 @@ abbrev pub invariant-loop-index : goal.invariant-loop-index
 invariant-loop-index l = record {
   few : length l.sizes ≤ 64;
   count : l.count ≤ l.index;
-  numbers : l.numbers.items ++ map (λ row. row.0) (lanes.others_from l.head (64 - length l.sizes) (l.index + 1) (map (λ line. line.now) (drop l.index l.lines))) ≡ map (λ row. row.0) (lanes.others_from l.head 64 1 (map (λ line. line.now) l.lines));
-  lines : map (λ line. line.now) l.others.items ++ map (λ row. row.1) (lanes.others_from l.head (64 - length l.sizes) (l.index + 1) (map (λ line. line.now) (drop l.index l.lines))) ≡ map (λ row. row.1) (lanes.others_from l.head 64 1 (map (λ line. line.now) l.lines));
-  sizes : l.sizes ++ lanes.sizes_from l.head (64 - length l.sizes) (l.index + 1) l.count (map (λ line. line.now) (drop l.index l.lines)) ≡ lanes.sizes_from l.head 64 1 0 (map (λ line. line.now) l.lines);
+  numbers : l.numbers.items
+      ++ map (λ row. row.0)
+      (lanes.others_from l.head (64 - length l.sizes) (l.index + 1)
+      (map (λ line. line.now) (drop l.index l.lines)))
+      ≡ map (λ row. row.0) (lanes.others_from l.head 64 1 (map (λ line. line.now) l.lines));
+  lines : map (λ line. line.now) l.others.items
+      ++ map (λ row. row.1)
+      (lanes.others_from l.head (64 - length l.sizes) (l.index + 1)
+      (map (λ line. line.now) (drop l.index l.lines)))
+      ≡ map (λ row. row.1) (lanes.others_from l.head 64 1 (map (λ line. line.now) l.lines));
+  sizes : l.sizes
+      ++ lanes.sizes_from l.head (64 - length l.sizes) (l.index + 1) l.count
+      (map (λ line. line.now) (drop l.index l.lines))
+      ≡ lanes.sizes_from l.head 64 1 0 (map (λ line. line.now) l.lines);
 }

@@ -5,4 +5,6 @@ use Rattle.hail_script.proofs.parse.bears_all.Given as goal
 
 -- the lists from here on decide
 abbrev pub invariant-loop-list : goal.invariant-loop-list
-invariant-loop-list l = list_all (admission.bears l.marks) (drop l.list-index l.list-items) ≡ list_all (admission.bears l.marks) l.committees.lists
+invariant-loop-list l =
+    list_all (admission.bears l.marks) (drop l.list-index l.list-items)
+    ≡ list_all (admission.bears l.marks) l.committees.lists

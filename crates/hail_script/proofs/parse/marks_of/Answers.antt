@@ -12,6 +12,8 @@ loop-event-preserved c =
     let before : List Line = map line_of (take c.loop-event.event-index c.args.events.now) in
     let total = c.args.total in
     let event = c.event-item.result in
-    let more = map_more line_of c.args.events.now c.loop-event.event-index event c.loop-event-test.true in
-    c.mark.ensures ∙ ap (λ (l : List Bool). admission.marked l event) c.loop-event.invariant ∙ marks_more before total event
+    let more =
+    map_more line_of c.args.events.now c.loop-event.event-index event c.loop-event-test.true in
+    c.mark.ensures ∙ ap (λ (l : List Bool). admission.marked l event) c.loop-event.invariant
+    ∙ marks_more before total event
     ∙ sym (ap (λ (l : List Line). grammar.marks l total) (rw (← c.event-item.is) at more))

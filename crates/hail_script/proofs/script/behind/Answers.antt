@@ -7,4 +7,5 @@ returns c =
     let lines = c.args.lines.now in
     let rest = drop c.args.count lines in
     let e = length-drop c.args.count lines in
-    rw (take_all (length lines - c.args.count) rest (omega (arith, e))) (sym (drop-map (λ line. line.now) c.args.count lines))
+    rw (take_all (length lines - c.args.count) rest (omega (arith, e)))
+    (sym (drop-map (λ line. line.now) c.args.count lines))

@@ -5,4 +5,5 @@ abbrev pub ghosts-two_lanes-L-Ledger : goal.ghosts-two_lanes-L-Ledger
 ghosts-two_lanes-L-Ledger g a = record { name = a.blank.name; parts = a.blank.parts }
 
 abbrev pub ghosts-two_lanes-L-Session : goal.ghosts-two_lanes-L-Session
-ghosts-two_lanes-L-Session g a = record { all = a.blank.parts; opening = Some (record { value = 0 }) }
+ghosts-two_lanes-L-Session g a =
+    record { all = a.blank.parts; opening = Some (record { value = 0 }) }

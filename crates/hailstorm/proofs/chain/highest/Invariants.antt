@@ -5,4 +5,6 @@ use Rattle.hailstorm.proofs.chain.highest.Given as goal
 
 -- the entries from here on decide
 abbrev pub invariant-loop-entry : goal.invariant-loop-entry
-invariant-loop-entry l = higher l.found (flat_map (λ e. e.handed) (drop l.entry-index l.entries)) ≡ higher l.fn.found (flat_map (λ e. e.handed) l.entries)
+invariant-loop-entry l =
+    higher l.found (flat_map (λ e. e.handed) (drop l.entry-index l.entries))
+    ≡ higher l.fn.found (flat_map (λ e. e.handed) l.entries)

@@ -11,7 +11,8 @@ use Rattle.hailstorm.proofs.chain.links_to.Given as goal
 abbrev pub invariant-loop-next : goal.invariant-loop-next
 invariant-loop-next g l =
     (r : Rules) (w : World) → GoesBy g.H.Hasher.digest_of r → SitAs l.places w.members
-    → option_map_or (links_to r w l.left) l.next [] ++ reverse l.down.items ≡ option_map_or (λ b. chain_to r w b) l.fn.top []
+    → option_map_or (links_to r w l.left) l.next [] ++ reverse l.down.items
+    ≡ option_map_or (λ b. chain_to r w b) l.fn.top []
 
 abbrev pub decreases-loop-next : goal.decreases-loop-next
 decreases-loop-next g l = l.left + option_map_or (λ _. 1) l.next 0

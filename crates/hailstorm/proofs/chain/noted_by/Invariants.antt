@@ -5,4 +5,6 @@ use Rattle.hailstorm.proofs.chain.noted_by.Given as goal
 
 -- the notes from here on decide
 abbrev pub invariant-loop-note : goal.invariant-loop-note
-invariant-loop-note l = first_some (noted_block_of l.commitment) (drop l.note-index l.notes) ≡ first_some (noted_block_of l.commitment) l.notes
+invariant-loop-note l =
+    first_some (noted_block_of l.commitment) (drop l.note-index l.notes)
+    ≡ first_some (noted_block_of l.commitment) l.notes

@@ -6,10 +6,14 @@ use Rattle.hailstorm.proofs.chain.noted_in.Goals as goal
 
 pub returns-in-Some : goal.returns-in-Some
 returns-in-Some g c =
-    lists_here (noted_block_of c.args.commitment.now) notes_at c.args.places.now c.loop-place.place-index c.place-item.result c.notes_at.result.now c.in-Some.found.now c.loop-place-test.true c.place-item.is
+    lists_here (noted_block_of c.args.commitment.now) notes_at c.args.places.now
+    c.loop-place.place-index c.place-item.result c.notes_at.result.now c.in-Some.found.now
+    c.loop-place-test.true c.place-item.is
     c.notes_at.ensures c.in-Some.ensures c.loop-place.invariant
 
 pub loop-place-preserved : goal.loop-place-preserved
 loop-place-preserved g c =
-    lists_on (noted_block_of c.args.commitment.now) notes_at c.args.places.now c.loop-place.place-index c.place-item.result c.notes_at.result.now c.loop-place-test.true c.place-item.is
+    lists_on (noted_block_of c.args.commitment.now) notes_at c.args.places.now
+    c.loop-place.place-index c.place-item.result c.notes_at.result.now c.loop-place-test.true
+    c.place-item.is
     c.notes_at.ensures c.in_default.ensures c.loop-place.invariant

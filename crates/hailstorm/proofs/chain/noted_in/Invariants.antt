@@ -8,4 +8,6 @@ use Rattle.hailstorm.proofs.chain.noted_in.Given as goal
 -- the places from here on decide
 abbrev pub invariant-loop-place : goal.invariant-loop-place
 invariant-loop-place g l =
-    first_some (noted_block_of l.commitment) (flat_map (λ notes. notes) (drop l.place-index (map notes_at l.places))) ≡ first_some (noted_block_of l.commitment) (flat_map (λ notes. notes) (map notes_at l.places))
+    first_some (noted_block_of l.commitment)
+    (flat_map (λ notes. notes) (drop l.place-index (map notes_at l.places)))
+    ≡ first_some (noted_block_of l.commitment) (flat_map (λ notes. notes) (map notes_at l.places))

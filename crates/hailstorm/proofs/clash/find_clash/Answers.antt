@@ -10,7 +10,18 @@ use Rattle.hailstorm.proofs.clash.find_clash.Goals as goal
 
 pub returns : goal.returns
 returns g c = λ r before after by members grown named.
-    ok_more (λ (x : Option (List ℕ × List ℕ)). x ≡ clash_in g.H.Hasher.digest_of (map notes_at c.args.places.now) c.args.id c.args.old (drop c.args.old c.notes_at-own.result.now)) (λ (x : Option (List ℕ × List ℕ)). x ≡ option_map (encoded r) (clash_at r before after c.args.id)) c.clash_from.result
-    (λ x e. e ∙ ap (λ (l : List Note). clash_in g.H.Hasher.digest_of (map notes_at c.args.places.now) c.args.id c.args.old (drop c.args.old l)) (c.notes_at-own.ensures ∙ ap notes_at c.index-places-id.is)
-    ∙ clash_found g.H.Hasher.digest_of r before after c.args.places.now c.index-places-id.result c.args.id c.args.old by members c.requires.known grown named)
+    ok_more
+    (λ (x : Option (List ℕ × List ℕ)). x
+    ≡ clash_in g.H.Hasher.digest_of (map notes_at c.args.places.now) c.args.id c.args.old
+    (drop c.args.old c.notes_at-own.result.now))
+    (λ (x : Option (List ℕ × List ℕ)). x
+    ≡ option_map (encoded r) (clash_at r before after c.args.id))
+    c.clash_from.result
+    (λ x e. e
+    ∙ ap
+    (λ (l : List Note). clash_in g.H.Hasher.digest_of (map notes_at c.args.places.now)
+    c.args.id c.args.old (drop c.args.old l))
+    (c.notes_at-own.ensures ∙ ap notes_at c.index-places-id.is)
+    ∙ clash_found g.H.Hasher.digest_of r before after c.args.places.now c.index-places-id.result
+    c.args.id c.args.old by members c.requires.known grown named)
     c.clash_from.ensures

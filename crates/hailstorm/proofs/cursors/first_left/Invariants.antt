@@ -6,4 +6,6 @@ use Rattle.hailstorm.proofs.cursors.first_left.Given as goal
 
 -- the lanes up to here have nothing left
 abbrev pub invariant-loop-lane : goal.invariant-loop-lane
-invariant-loop-lane l = (rows : List (ℕ × Line)) → length rows ≡ l.count → flat_map (λ lane. lane) (map (between rows) (take l.lane l.cursors)) ≡ []
+invariant-loop-lane l =
+    (rows : List (ℕ × Line)) → length rows ≡ l.count
+    → flat_map (λ lane. lane) (map (between rows) (take l.lane l.cursors)) ≡ []

@@ -8,5 +8,7 @@ use Rattle.hailstorm.proofs.cursors.runs_from.Given as goal
 abbrev pub invariant-loop-size : goal.invariant-loop-size
 invariant-loop-size l = record {
   within : l.from ≤ l.count;
-  runs : (rows : List (ℕ × Line)) → length rows ≡ l.count → map (between rows) l.runs.items ++ cut (drop l.size-index l.sizes) (drop l.from rows) ≡ cut l.sizes (drop l.fn.from rows);
+  runs : (rows : List (ℕ × Line)) → length rows ≡ l.count
+      → map (between rows) l.runs.items ++ cut (drop l.size-index l.sizes) (drop l.from rows)
+      ≡ cut l.sizes (drop l.fn.from rows);
 }

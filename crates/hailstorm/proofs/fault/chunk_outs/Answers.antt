@@ -8,4 +8,5 @@ use Rattle.hailstorm.proofs.fault.chunk_outs.Goals as goal
 pub loop-chunk-preserved : goal.loop-chunk-preserved
 loop-chunk-preserved c =
     let f = chunk_out c.args.member c.args.list.now c.args.commitment.now in
-    rw (c.in_ok-push_some.ensures, c.chunk_out.ensures, c.loop-chunk.invariant) (sym (some_more f c.loop-chunk.yielded c.in-Some.chunk))
+    rw (c.in_ok-push_some.ensures, c.chunk_out.ensures, c.loop-chunk.invariant)
+    (sym (some_more f c.loop-chunk.yielded c.in-Some.chunk))

@@ -7,13 +7,18 @@ use Rattle.hailstorm.proofs.lane_program.lanes_program.Goals as goal
 pub returns-in-Whole-clause-answer : goal.returns-in-Whole-clause-answer
 returns-in-Whole-clause-answer g c = λ text none left.
     let read = c.in-Whole.ensures in
-    whole_read g.H.Hasher.digest_of text _ _ _ _ _ c.in-Whole.text.items _ c.run_whole.result left read.0 read.1 read.2 (rw c.deref.ensures.value at c.run_whole.ensures.answer)
+    whole_read g.H.Hasher.digest_of text _ _ _ _ _ c.in-Whole.text.items _ c.run_whole.result left
+    read.0 read.1 read.2 (rw c.deref.ensures.value at c.run_whole.ensures.answer)
 
 pub returns-in-Whole-clause-fault : goal.returns-in-Whole-clause-fault
-returns-in-Whole-clause-fault g c = whole_fault g.H.Hasher.digest_of _ _ _ _ _ c.run_whole.result _ _ c.run_whole.ensures.answer
+returns-in-Whole-clause-fault g c =
+    whole_fault g.H.Hasher.digest_of _ _ _ _ _ c.run_whole.result _ _ c.run_whole.ensures.answer
 
 pub returns-in-Whole-clause-silent : goal.returns-in-Whole-clause-silent
-returns-in-Whole-clause-silent g c = whole_silent g.H.Hasher.digest_of _ _ _ _ _ c.run_whole.result c.run_whole.ensures.answer
+returns-in-Whole-clause-silent g c =
+    whole_silent g.H.Hasher.digest_of _ _ _ _ _ c.run_whole.result c.run_whole.ensures.answer
 
 pub returns-in-TooLong-clause-answer : goal.returns-in-TooLong-clause-answer
-returns-in-TooLong-clause-answer g c = λ text none left. long_means g.H.Hasher.digest_of text _ _ _ _ _ c.end_early.result (too_long_early g.H.Hasher.digest_of text _ _ left c.in-TooLong.ensures) c.end_early.ensures
+returns-in-TooLong-clause-answer g c =
+    λ text none left. long_means g.H.Hasher.digest_of text _ _ _ _ _ c.end_early.result
+    (too_long_early g.H.Hasher.digest_of text _ _ left c.in-TooLong.ensures) c.end_early.ensures

@@ -5,8 +5,13 @@ use Rattle.hailstorm.proofs.program.run_storm.Goals as goal
 
 pub returns-in-Ok-run-clause-answer : goal.returns-in-Ok-run-clause-answer
 returns-in-Ok-run-clause-answer g c =
-    done_answer g.H.Hasher.digest_of (Some c.args.number) (spec.storm_script c.args.number) _ _ _ _ c.in-Ok-run.report c.end_with.result (rw (c.deref.ensures.value, c.in-Ok.ensures) at c.in-Ok-run.ensures.ok) c.end_with.ensures
+    done_answer g.H.Hasher.digest_of (Some c.args.number) (spec.storm_script c.args.number) _ _ _ _
+    c.in-Ok-run.report c.end_with.result
+    (rw (c.deref.ensures.value, c.in-Ok.ensures) at c.in-Ok-run.ensures.ok) c.end_with.ensures
 
 pub returns-clause-answer : goal.returns-clause-answer
 returns-clause-answer g c =
-    error_answer g.H.Hasher.digest_of (Some c.args.number) (spec.storm_script c.args.number) _ _ _ _ c.in-Err.error c.end_early.result (rw (c.deref.ensures.value, c.in-Ok.ensures) at c.in-Err.ensures.err) (rw c.early_of.ensures at c.end_early.ensures)
+    error_answer g.H.Hasher.digest_of (Some c.args.number) (spec.storm_script c.args.number) _ _ _ _
+    c.in-Err.error c.end_early.result
+    (rw (c.deref.ensures.value, c.in-Ok.ensures) at c.in-Err.ensures.err)
+    (rw c.early_of.ensures at c.end_early.ensures)

@@ -5,4 +5,7 @@ use Rattle.cw_rules.specs.Report.{Entry}
 use Rattle.hailstorm.proofs.storm.handed_in.Goals as goal
 
 pub returns : goal.returns
-returns c = let whole = sum_by-append (λ (e : Entry). length e.handed) c.args.opening.now c.args.steps.now in omega (arith, whole)
+returns c =
+    let whole =
+    sum_by-append (λ (e : Entry). length e.handed) c.args.opening.now c.args.steps.now in
+    omega (arith, whole)

@@ -5,4 +5,10 @@ use Rattle.hailstorm.proofs.storm.put_chain.Goals as goal
 
 pub returns-in-Some : goal.returns-in-Some
 returns-in-Some g c =
-    subst (λ (t : List ℕ). OnOk c.put_top.result (string_bytes c.put_top.new.out ≡ string_bytes c.args.out.now ++ t)) (sym (top_last g.H.Hasher.digest_of c.args.links.now c.in-Some.top.now c.in-Some.ensures.value)) c.put_top.ensures
+    subst
+    (λ (t : List ℕ). OnOk c.put_top.result
+    (string_bytes c.put_top.new.out ≡ string_bytes c.args.out.now ++ t))
+    (sym
+    (top_last g.H.Hasher.digest_of c.args.links.now c.in-Some.top.now
+    c.in-Some.ensures.value))
+    c.put_top.ensures

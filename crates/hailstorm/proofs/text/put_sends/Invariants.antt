@@ -5,4 +5,7 @@ use Rattle.hailstorm.specs.Text as spec
 use Rattle.hailstorm.proofs.text.put_sends.Given as goal
 
 abbrev pub invariant-loop-sent : goal.invariant-loop-sent
-invariant-loop-sent g l = string_bytes l.out ≡ string_bytes l.fn.out ++ flat_map (spec.sent_line g.H.Hasher.digest_of) (take l.sent-index l.messages)
+invariant-loop-sent g l =
+    string_bytes l.out
+    ≡ string_bytes l.fn.out
+    ++ flat_map (spec.sent_line g.H.Hasher.digest_of) (take l.sent-index l.messages)

@@ -5,4 +5,7 @@ use Rattle.hailstorm.specs.Text as spec
 use Rattle.hailstorm.proofs.text.put_steps.Given as goal
 
 abbrev pub invariant-loop-entry : goal.invariant-loop-entry
-invariant-loop-entry g l = string_bytes l.out ≡ string_bytes l.fn.out ++ flat_map (spec.step_text g.H.Hasher.digest_of) (take l.entry-index l.entries)
+invariant-loop-entry g l =
+    string_bytes l.out
+    ≡ string_bytes l.fn.out
+    ++ flat_map (spec.step_text g.H.Hasher.digest_of) (take l.entry-index l.entries)

@@ -11,4 +11,6 @@ returns-in_ok-seat-in-Ok-Some-clause-makes g c o who =
     let signed = table c.args.votes.now.faulty.now (sent_in c.args.votes.now.pool.now) in
     let w = over (sent_in c.args.votes.now.pool.now) in
     let asks = sym c.in-Ok-Some.ensures ∙ c.in-Ok-Some.field-0-is in
-    took r c.args.id signed w (ask_of c.args.ask.now) c.in-Ok-Some.event c.args.seat c.in_ok-seat-in-Ok-Some.seat c.in_ok-seat-in-Ok-Some.out o c.requires.sound asks c.in_ok-seat-in-Ok-Some.ensures.steps who
+    took r c.args.id signed w (ask_of c.args.ask.now) c.in-Ok-Some.event c.args.seat
+    c.in_ok-seat-in-Ok-Some.seat c.in_ok-seat-in-Ok-Some.out o c.requires.sound asks
+    c.in_ok-seat-in-Ok-Some.ensures.steps who

@@ -15,6 +15,14 @@ returns-in_ok-place-in-Ok-Some-clause-makes g c o who =
     let sound = c.requires.sound in
     let there = who in
     let asks = sym c.in-Ok-Some.ensures ∙ c.in-Ok-Some.field-0-is in
-    let done = λ (s : Seat). cut_step (rules_by g.H.Hasher.digest_of s) s.id signed s.member c.args.stop.call c.args.stop.cut c.args.stop.fill c.in-Ok-Some.event in
-    let made = subst (λ (s : Seat). SitsAs c.in_ok-place-in-Ok-Some.place (Some (done s).member) × (c.in_ok-place-in-Ok-Some.out ≡ out_of (done s))) c.seat.view_is c.in_ok-place-in-Ok-Some.ensures.cut in
-    cut_took r c.args.id signed w c.args.stop.call c.args.stop.cut c.args.stop.fill (ask_of c.args.ask.now) c.in-Ok-Some.event c.args.seat c.in_ok-place-in-Ok-Some.place c.in_ok-place-in-Ok-Some.out o sound asks made.0 made.1 there
+    let done =
+    λ (s : Seat). cut_step (rules_by g.H.Hasher.digest_of s) s.id signed s.member
+    c.args.stop.call c.args.stop.cut c.args.stop.fill c.in-Ok-Some.event in
+    let made =
+    subst
+    (λ (s : Seat). SitsAs c.in_ok-place-in-Ok-Some.place (Some (done s).member)
+    × (c.in_ok-place-in-Ok-Some.out ≡ out_of (done s)))
+    c.seat.view_is c.in_ok-place-in-Ok-Some.ensures.cut in
+    cut_took r c.args.id signed w c.args.stop.call c.args.stop.cut c.args.stop.fill
+    (ask_of c.args.ask.now) c.in-Ok-Some.event c.args.seat c.in_ok-place-in-Ok-Some.place
+    c.in_ok-place-in-Ok-Some.out o sound asks made.0 made.1 there

@@ -17,23 +17,39 @@ pub turn_line-requires-clause-known : goal.turn_line-requires-clause-known
 turn_line-requires-clause-known g c κs within =
     let s = c.args.script.now.script in
     let all = c.lines.ensures.value ∙ ap (λ (s : Scenario). s.lines) c.script-plain.ensures in
-    let at = line_at c.lines.result.now s.lines c.args.from c.index-lines-from.result c.index-lines-from.result all (one_within c.lines.result.now s.lines c.args.from all c.requires.within) c.index-lines-from.is in
-    let known = known_at s c.args.from (line_of c.index-lines-from.result) (rw c.script-plain.ensures at c.lines.ensures.runnable) at in
+    let at =
+    line_at c.lines.result.now s.lines c.args.from c.index-lines-from.result
+    c.index-lines-from.result all
+    (one_within c.lines.result.now s.lines c.args.from all c.requires.within)
+    c.index-lines-from.is in
+    let known =
+    known_at s c.args.from (line_of c.index-lines-from.result)
+    (rw c.script-plain.ensures at c.lines.ensures.runnable) at in
     omega (arith, known, c.requires.between.count)
 
 pub turn_line-requires-clause-short : goal.turn_line-requires-clause-short
 turn_line-requires-clause-short g c κs within =
     let s = c.args.script.now.script in
     let all = c.lines.ensures.value ∙ ap (λ (s : Scenario). s.lines) c.script-plain.ensures in
-    let at = line_at c.lines.result.now s.lines c.args.from c.index-lines-from.result c.index-lines-from.result all (one_within c.lines.result.now s.lines c.args.from all c.requires.within) c.index-lines-from.is in
-    short_at s c.args.from (line_of c.index-lines-from.result) (rw c.script-plain.ensures at c.lines.ensures.runnable) at
+    let at =
+    line_at c.lines.result.now s.lines c.args.from c.index-lines-from.result
+    c.index-lines-from.result all
+    (one_within c.lines.result.now s.lines c.args.from all c.requires.within)
+    c.index-lines-from.is in
+    short_at s c.args.from (line_of c.index-lines-from.result)
+    (rw c.script-plain.ensures at c.lines.ensures.runnable) at
 
 pub turn_line-requires-clause-later : goal.turn_line-requires-clause-later
 turn_line-requires-clause-later g c κs within =
     let s = c.args.script.now.script in
     let all = c.lines.ensures.value ∙ ap (λ (s : Scenario). s.lines) c.script-plain.ensures in
-    let at = line_at c.lines.result.now s.lines c.args.from c.index-lines-from.result c.index-lines-from.result all (one_within c.lines.result.now s.lines c.args.from all c.requires.within) c.index-lines-from.is in
-    later_at s c.args.from (line_of c.index-lines-from.result) (rw c.script-plain.ensures at c.lines.ensures.runnable) at
+    let at =
+    line_at c.lines.result.now s.lines c.args.from c.index-lines-from.result
+    c.index-lines-from.result all
+    (one_within c.lines.result.now s.lines c.args.from all c.requires.within)
+    c.index-lines-from.is in
+    later_at s c.args.from (line_of c.index-lines-from.result)
+    (rw c.script-plain.ensures at c.lines.ensures.runnable) at
 
 pub returns-in-Err-clause-err : goal.returns-in-Err-clause-err
 returns-in-Err-clause-err g c =
@@ -47,12 +63,24 @@ returns-in-Err-clause-err g c =
     let b = c.requires.between in
     let line = line_of c.index-lines-from.result in
     let all = c.lines.ensures.value ∙ ap (λ (s : Scenario). s.lines) c.script-plain.ensures in
-    let at = line_at c.lines.result.now s.lines c.args.from c.index-lines-from.result c.index-lines-from.result all (one_within c.lines.result.now s.lines c.args.from all c.requires.within) c.index-lines-from.is in
-    let begin = begins x order cursors c.args.lane c.args.from c.args.end line b.rest c.requires.cursor c.requires.some at r ((rw c.script-plain.ensures at c.is_cluster.ensures) r refl) in
-    let stops = (rw c.script-plain.ensures at c.in-Err.ensures.err) w (played x order) begin b.played in
+    let at =
+    line_at c.lines.result.now s.lines c.args.from c.index-lines-from.result
+    c.index-lines-from.result all
+    (one_within c.lines.result.now s.lines c.args.from all c.requires.within)
+    c.index-lines-from.is in
+    let begin =
+    begins x order cursors c.args.lane c.args.from c.args.end line b.rest c.requires.cursor
+    c.requires.some at r ((rw c.script-plain.ensures at c.is_cluster.ensures) r refl) in
+    let stops =
+    (rw c.script-plain.ensures at c.in-Err.ensures.err) w (played x order) begin b.played in
     rw c.in_ok-push.ensures.ok
-    (is_over hash x order c.args.lane line c.in-Err.error (lines_then x order cursors c.args.lane c.args.from c.args.end line b.rest c.requires.cursor c.requires.some at) b.played.ends
-    (turns_then x order cursors c.args.lane c.args.from c.args.end line b.rest c.requires.cursor c.requires.some at b.turns) stops)
+    (is_over hash x order c.args.lane line c.in-Err.error
+    (lines_then x order cursors c.args.lane c.args.from c.args.end line b.rest c.requires.cursor
+    c.requires.some at)
+    b.played.ends
+    (turns_then x order cursors c.args.lane c.args.from c.args.end line b.rest c.requires.cursor
+    c.requires.some at b.turns)
+    stops)
 
 pub returns-clause-ok : goal.returns-clause-ok
 returns-clause-ok g c =
@@ -66,17 +94,36 @@ returns-clause-ok g c =
     let b = c.requires.between in
     let line = line_of c.index-lines-from.result in
     let all = c.lines.ensures.value ∙ ap (λ (s : Scenario). s.lines) c.script-plain.ensures in
-    let at = line_at c.lines.result.now s.lines c.args.from c.index-lines-from.result c.index-lines-from.result all (one_within c.lines.result.now s.lines c.args.from all c.requires.within) c.index-lines-from.is in
-    let begin = begins x order cursors c.args.lane c.args.from c.args.end line b.rest c.requires.cursor c.requires.some at r ((rw c.script-plain.ensures at c.is_cluster.ensures) r refl) in
-    let number = c.number_of-number.ensures ∙ ap (λ (l : List ℕ). slice_index l c.args.from) c.numbers.ensures in
-    let plays = played_same r w (played x order) c.number_of-number.result (slice_index x.numbers c.args.from) line (c.args.pool.now ++ c.in-Ok.entry ∷ []) c.put_entry.new.pool c.turn_line.new.places c.args.faulty.now number c.in_ok-put_entry.ensures
+    let at =
+    line_at c.lines.result.now s.lines c.args.from c.index-lines-from.result
+    c.index-lines-from.result all
+    (one_within c.lines.result.now s.lines c.args.from all c.requires.within)
+    c.index-lines-from.is in
+    let begin =
+    begins x order cursors c.args.lane c.args.from c.args.end line b.rest c.requires.cursor
+    c.requires.some at r ((rw c.script-plain.ensures at c.is_cluster.ensures) r refl) in
+    let number =
+    c.number_of-number.ensures
+    ∙ ap (λ (l : List ℕ). slice_index l c.args.from) c.numbers.ensures in
+    let plays =
+    played_same r w (played x order) c.number_of-number.result
+    (slice_index x.numbers c.args.from) line (c.args.pool.now ++ c.in-Ok.entry ∷ [])
+    c.put_entry.new.pool c.turn_line.new.places c.args.faulty.now number
+    c.in_ok-put_entry.ensures
     ((rw c.script-plain.ensures at c.in-Ok.ensures.played) w (played x order) begin b.played) in
     let given = rw c.script-plain.ensures at c.in-Ok.ensures.gives in (
       record {
         row = (slice_index x.numbers c.args.from, line);
-        next = next_row x order cursors c.args.lane c.args.from c.args.end line b.rest c.requires.cursor c.requires.some at;
-        gives = c.in_ok-first.ensures ∙ given w (played x order) b.played ∙ ap (λ (n : ℕ). entry_of r (run r w (lines_of (played x order))) n line) number;
+        next =
+            next_row x order cursors c.args.lane c.args.from c.args.end line b.rest
+            c.requires.cursor c.requires.some at;
+        gives =
+            c.in_ok-first.ensures ∙ given w (played x order) b.played
+            ∙ ap (λ (n : ℕ). entry_of r (run r w (lines_of (played x order))) n line) number;
       },
-      turned_on hash x order cursors _ c.args.pool.now c.put_entry.new.pool c.args.places.now c.turn_line.new.places c.args.faulty.now c.args.lane c.args.from c.args.end line b c.requires.cursor c.requires.some at
-          plays (rw c.script-plain.ensures at c.in-Ok.ensures.sound) (c.turn_line.auto.places ∙ b.count) refl,
+      turned_on hash x order cursors _ c.args.pool.now c.put_entry.new.pool c.args.places.now
+          c.turn_line.new.places c.args.faulty.now c.args.lane c.args.from c.args.end line b
+          c.requires.cursor c.requires.some at
+          plays (rw c.script-plain.ensures at c.in-Ok.ensures.sound)
+          (c.turn_line.auto.places ∙ b.count) refl,
     )

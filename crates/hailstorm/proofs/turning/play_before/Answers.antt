@@ -13,23 +13,42 @@ pub turn_line-requires-clause-known : goal.turn_line-requires-clause-known
 turn_line-requires-clause-known g c κs within =
     let s = c.args.script.now.script in
     let all = c.lines-lines.ensures.value ∙ ap (λ (s : Scenario). s.lines) c.script-plain.ensures in
-    let at = line_at c.lines-lines.result.now s.lines c.loop-index.index c.index-lines-index.result c.index-lines-index.result all (within_lines c.lines-lines.result.now s.lines c.loop-index.index c.args.before all c.loop-index-test.true c.requires.within) c.index-lines-index.is in
-    let known = known_at s c.loop-index.index (line_of c.index-lines-index.result) (rw c.script-plain.ensures at c.lines-lines.ensures.runnable) at in
+    let at =
+    line_at c.lines-lines.result.now s.lines c.loop-index.index c.index-lines-index.result
+    c.index-lines-index.result all
+    (within_lines c.lines-lines.result.now s.lines c.loop-index.index c.args.before all
+    c.loop-index-test.true c.requires.within)
+    c.index-lines-index.is in
+    let known =
+    known_at s c.loop-index.index (line_of c.index-lines-index.result)
+    (rw c.script-plain.ensures at c.lines-lines.ensures.runnable) at in
     omega (arith, known, c.requires.count, c.loop-index.auto.places)
 
 pub turn_line-requires-clause-short : goal.turn_line-requires-clause-short
 turn_line-requires-clause-short g c κs within =
     let s = c.args.script.now.script in
     let all = c.lines-lines.ensures.value ∙ ap (λ (s : Scenario). s.lines) c.script-plain.ensures in
-    let at = line_at c.lines-lines.result.now s.lines c.loop-index.index c.index-lines-index.result c.index-lines-index.result all (within_lines c.lines-lines.result.now s.lines c.loop-index.index c.args.before all c.loop-index-test.true c.requires.within) c.index-lines-index.is in
-    short_at s c.loop-index.index (line_of c.index-lines-index.result) (rw c.script-plain.ensures at c.lines-lines.ensures.runnable) at
+    let at =
+    line_at c.lines-lines.result.now s.lines c.loop-index.index c.index-lines-index.result
+    c.index-lines-index.result all
+    (within_lines c.lines-lines.result.now s.lines c.loop-index.index c.args.before all
+    c.loop-index-test.true c.requires.within)
+    c.index-lines-index.is in
+    short_at s c.loop-index.index (line_of c.index-lines-index.result)
+    (rw c.script-plain.ensures at c.lines-lines.ensures.runnable) at
 
 pub turn_line-requires-clause-later : goal.turn_line-requires-clause-later
 turn_line-requires-clause-later g c κs within =
     let s = c.args.script.now.script in
     let all = c.lines-lines.ensures.value ∙ ap (λ (s : Scenario). s.lines) c.script-plain.ensures in
-    let at = line_at c.lines-lines.result.now s.lines c.loop-index.index c.index-lines-index.result c.index-lines-index.result all (within_lines c.lines-lines.result.now s.lines c.loop-index.index c.args.before all c.loop-index-test.true c.requires.within) c.index-lines-index.is in
-    later_at s c.loop-index.index (line_of c.index-lines-index.result) (rw c.script-plain.ensures at c.lines-lines.ensures.runnable) at
+    let at =
+    line_at c.lines-lines.result.now s.lines c.loop-index.index c.index-lines-index.result
+    c.index-lines-index.result all
+    (within_lines c.lines-lines.result.now s.lines c.loop-index.index c.args.before all
+    c.loop-index-test.true c.requires.within)
+    c.index-lines-index.is in
+    later_at s c.loop-index.index (line_of c.index-lines-index.result)
+    (rw c.script-plain.ensures at c.lines-lines.ensures.runnable) at
 
 pub returns-in-Err-clause-err : goal.returns-in-Err-clause-err
 returns-in-Err-clause-err g c =
@@ -40,9 +59,17 @@ returns-in-Err-clause-err g c =
     let i : ℕ = c.loop-index.index in
     let line = line_of c.index-lines-index.result in
     let all = c.lines-lines.ensures.value ∙ ap (λ (s : Scenario). s.lines) c.script-plain.ensures in
-    let at = line_at c.lines-lines.result.now s.lines i c.index-lines-index.result c.index-lines-index.result all (within_lines c.lines-lines.result.now s.lines c.loop-index.index c.args.before all c.loop-index-test.true c.requires.within) c.index-lines-index.is in
-    let begins = before_begins r x i line at ((rw c.script-plain.ensures at c.is_cluster.ensures) r refl) in
-    let stops = (rw c.script-plain.ensures at c.in-Err.ensures.err) w (take i (rows x)) begins c.loop-index.invariant.played in
+    let at =
+    line_at c.lines-lines.result.now s.lines i c.index-lines-index.result
+    c.index-lines-index.result all
+    (within_lines c.lines-lines.result.now s.lines c.loop-index.index c.args.before all
+    c.loop-index-test.true c.requires.within)
+    c.index-lines-index.is in
+    let begins =
+    before_begins r x i line at ((rw c.script-plain.ensures at c.is_cluster.ensures) r refl) in
+    let stops =
+    (rw c.script-plain.ensures at c.in-Err.ensures.err) w (take i (rows x)) begins
+    c.loop-index.invariant.played in
     before_stops r w x i c.args.before line c.in-Err.error at c.loop-index-test.true stops
 
 pub loop-index-preserved : goal.loop-index-preserved
@@ -54,11 +81,24 @@ loop-index-preserved g c =
     let i : ℕ = c.loop-index.index in
     let line = line_of c.index-lines-index.result in
     let all = c.lines-lines.ensures.value ∙ ap (λ (s : Scenario). s.lines) c.script-plain.ensures in
-    let at = line_at c.lines-lines.result.now s.lines i c.index-lines-index.result c.index-lines-index.result all (within_lines c.lines-lines.result.now s.lines c.loop-index.index c.args.before all c.loop-index-test.true c.requires.within) c.index-lines-index.is in
-    let begins = before_begins r x i line at ((rw c.script-plain.ensures at c.is_cluster.ensures) r refl) in
-    let number = c.number_of-number.ensures ∙ ap (λ (l : List ℕ). slice_index l i) c.numbers.ensures in
-    let plays = (rw c.script-plain.ensures at c.in-Ok.ensures.played) w (take i (rows x)) begins c.loop-index.invariant.played in
+    let at =
+    line_at c.lines-lines.result.now s.lines i c.index-lines-index.result
+    c.index-lines-index.result all
+    (within_lines c.lines-lines.result.now s.lines c.loop-index.index c.args.before all
+    c.loop-index-test.true c.requires.within)
+    c.index-lines-index.is in
+    let begins =
+    before_begins r x i line at ((rw c.script-plain.ensures at c.is_cluster.ensures) r refl) in
+    let number =
+    c.number_of-number.ensures ∙ ap (λ (l : List ℕ). slice_index l i) c.numbers.ensures in
+    let plays =
+    (rw c.script-plain.ensures at c.in-Ok.ensures.played) w (take i (rows x)) begins
+    c.loop-index.invariant.played in
     record {
-      played = rw c.in_ok-pool.ensures (before_next r w x i line c.number_of-number.result (c.loop-index.pool ++ c.in-Ok.entry ∷ []) c.turn_line.new.places c.args.faulty.now at number plays);
+      played =
+          rw c.in_ok-pool.ensures
+          (before_next r w x i line c.number_of-number.result
+          (c.loop-index.pool ++ c.in-Ok.entry ∷ []) c.turn_line.new.places c.args.faulty.now
+          at number plays);
       sound = rw c.script-plain.ensures at c.in-Ok.ensures.sound;
     }

@@ -11,4 +11,5 @@ loop-note-preserved c =
     let before = take c.loop-note.note-index c.args.notes.now in
     let note = c.note-item.result in
     let more = take_more c.args.notes.now c.loop-note.note-index note c.loop-note-test.true in
-    c.acked-last.ensures ∙ rw c.loop-note.invariant (acks_more before note) ∙ sym (ap (λ (l : List Note). last_ack l) (rw (← c.note-item.is) at more))
+    c.acked-last.ensures ∙ rw c.loop-note.invariant (acks_more before note)
+    ∙ sym (ap (λ (l : List Note). last_ack l) (rw (← c.note-item.is) at more))

@@ -9,5 +9,7 @@ abbrev pub invariant-loop-list : goal.invariant-loop-list
 invariant-loop-list g l =
     (length l.marks ≡ length l.history)
     × ((k : ℕ) (x : g.row.T-Event.Denot × g.row.T-Reply.Denot) → slice_get l.history k ≡ Some x
-    → marked_by_all (is_entry {T = g.row.T.Denot} g.T.Event.PartialEq.eq g.T.Reply.PartialEq.eq x) k (get_or l.marks k Empty) (map (λ v. v.items) (drop l.list-index l.lists))
-    ≡ marked_by_all (is_entry {T = g.row.T.Denot} g.T.Event.PartialEq.eq g.T.Reply.PartialEq.eq x) k Empty (map (λ v. v.items) l.lists))
+    → marked_by_all (is_entry {T = g.row.T.Denot} g.T.Event.PartialEq.eq g.T.Reply.PartialEq.eq x) k
+    (get_or l.marks k Empty) (map (λ v. v.items) (drop l.list-index l.lists))
+    ≡ marked_by_all (is_entry {T = g.row.T.Denot} g.T.Event.PartialEq.eq g.T.Reply.PartialEq.eq x) k
+    Empty (map (λ v. v.items) l.lists))

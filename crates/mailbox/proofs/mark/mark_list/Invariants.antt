@@ -9,5 +9,7 @@ abbrev pub invariant-loop-call : goal.invariant-loop-call
 invariant-loop-call g l =
     (length l.marks ≡ length l.history)
     × ((k : ℕ) (x : g.row.T-Event.Denot × g.row.T-Reply.Denot) → slice_get l.history k ≡ Some x
-    → marked_by (is_entry {T = g.row.T.Denot} g.T.Event.PartialEq.eq g.T.Reply.PartialEq.eq x) k (get_or l.marks k Empty) l.top (drop l.call-index l.list)
-    ≡ marked_by (is_entry {T = g.row.T.Denot} g.T.Event.PartialEq.eq g.T.Reply.PartialEq.eq x) k (get_or l.initial.marks k Empty) 0 l.list)
+    → marked_by (is_entry {T = g.row.T.Denot} g.T.Event.PartialEq.eq g.T.Reply.PartialEq.eq x) k
+    (get_or l.marks k Empty) l.top (drop l.call-index l.list)
+    ≡ marked_by (is_entry {T = g.row.T.Denot} g.T.Event.PartialEq.eq g.T.Reply.PartialEq.eq x) k
+    (get_or l.initial.marks k Empty) 0 l.list)

@@ -8,11 +8,15 @@ use Rattle.node.proofs.laws.life_laws.Goals as goal
 
 pub returns-clause-own_votes : goal.returns-clause-own_votes
 returns-clause-own_votes c id frames lives rising once =
-    lives_once (λ r i up s e formed. c.member_laws.ensures.step r (λ notes. anything) i up (along r i) s e formed) id frames lives rising once
+    lives_once
+    (λ r i up s e formed. c.member_laws.ensures.step r (λ notes. anything) i up (along r i) s e
+    formed)
+    id frames lives rising once
 
 pub returns-clause-handed : goal.returns-clause-handed
 returns-clause-handed c r id frames turns = since_up r id frames turns
 
 pub returns-clause-once : goal.returns-clause-once
 returns-clause-once c r id frames turns =
-    increasing (member_notes (since_start r id frames turns)) (resume (join_frames frames)) (since_start r id frames turns).given (since_up r id frames turns)
+    increasing (member_notes (since_start r id frames turns)) (resume (join_frames frames))
+    (since_start r id frames turns).given (since_up r id frames turns)

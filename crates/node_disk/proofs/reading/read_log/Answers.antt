@@ -6,5 +6,7 @@ use Rattle.node_disk.proofs.reading.read_log.Goals as goal
 
 pub returns-in-Ok-items_of-clause-found : goal.returns-in-Ok-items_of-clause-found
 returns-in-Ok-items_of-clause-found c =
-    let rests : IsAtRest (all_items c.in-Ok.frames.items) c.in-Ok.field-0-1 c.args.bytes.now = search rules in
-    finds_at_rest (all_items c.in-Ok.frames.items) c.in-Ok.field-0-1 c.args.bytes.now rests ∙ ap (λ (l : List (List ℕ)). Ok l) (sym c.in-Ok-items_of.ensures)
+    let rests : IsAtRest (all_items c.in-Ok.frames.items) c.in-Ok.field-0-1 c.args.bytes.now =
+    search rules in
+    finds_at_rest (all_items c.in-Ok.frames.items) c.in-Ok.field-0-1 c.args.bytes.now rests
+    ∙ ap (λ (l : List (List ℕ)). Ok l) (sym c.in-Ok-items_of.ensures)

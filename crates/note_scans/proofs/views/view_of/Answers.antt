@@ -7,11 +7,17 @@ use Rattle.note_scans.proofs.views.view_of.Goals as goal
 
 pub overflow_add-result : goal.overflow_add-result
 overflow_add-result c =
-    let found : c.fold_ended.result ≡ rule.greatest (filter_map (rule.ended c.args.epoch) c.args.notes.now) = c.fold_ended.ensures ∙ fold_greatest (filter_map (rule.ended c.args.epoch) c.args.notes.now) in
+    let found : c.fold_ended.result
+    ≡ rule.greatest (filter_map (rule.ended c.args.epoch) c.args.notes.now) =
+    c.fold_ended.ensures
+    ∙ fold_greatest (filter_map (rule.ended c.args.epoch) c.args.notes.now) in
     let below = ended_below c.args.epoch c.args.notes.now c.requires in
     omega arith
 
 pub returns : goal.returns
 returns c =
-    let found : c.fold_ended.result ≡ rule.greatest (filter_map (rule.ended c.args.epoch) c.args.notes.now) = c.fold_ended.ensures ∙ fold_greatest (filter_map (rule.ended c.args.epoch) c.args.notes.now) in
+    let found : c.fold_ended.result
+    ≡ rule.greatest (filter_map (rule.ended c.args.epoch) c.args.notes.now) =
+    c.fold_ended.ensures
+    ∙ fold_greatest (filter_map (rule.ended c.args.epoch) c.args.notes.now) in
     ap (λ n. 1 + n) found

@@ -15,16 +15,21 @@ loop-s-preserved c =
     let x : ℕ → ℕ = λ l. get_or c.args.xs.now l 0 in
     let within : s < k = omega arith in
     let own : get_or c.args.weights.now s 0 ≡ weight k P s = c.requires.weights.each s within in
-    let value : (l : ℕ) → l < 8 → get_or c.coefficients_at.result l 0 ≡ product_below k (λ u. factor P (x l) s u) =
+    let value : (l : ℕ) → l < 8
+    → get_or c.coefficients_at.result l 0 ≡ product_below k (λ u. factor P (x l) s u) =
     λ l h.
     ⊎_elim
-    (λ here. c.coefficients_at.ensures.here l h here ∙ sym (basis_here_is_one k P (x l) s c.requires.points within here))
+    (λ here. c.coefficients_at.ensures.here l h here
+    ∙ sym (basis_here_is_one k P (x l) s c.requires.points within here))
     (λ other. c.coefficients_at.ensures.away l h other
-    ∙ ap₂ (λ (d w : ℕ). times d (times w (inverse (bit_xor (x l) (P s))))) (c.distances_of-distances.ensures l h) own
+    ∙ ap₂ (λ (d w : ℕ). times d (times w (inverse (bit_xor (x l) (P s)))))
+    (c.distances_of-distances.ensures l h) own
     ∙ sym (basis_by_distance k P (x l) s c.requires.points (omega arith) within other))
     (cases_eq (x l) (P s)) in
     record {
       count = search rules;
-      each = entry_pushed 8 c.loop-s.values.items c.push.new.self.items s c.coefficients_at.result (λ t l. product_below k (λ u. factor P (x l) t u))
+      each =
+          entry_pushed 8 c.loop-s.values.items c.push.new.self.items s c.coefficients_at.result
+          (λ t l. product_below k (λ u. factor P (x l) t u))
           c.loop-s.invariant.count c.in_ok-push.ensures.items value c.loop-s.invariant.each;
     }

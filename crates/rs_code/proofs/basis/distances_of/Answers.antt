@@ -13,10 +13,18 @@ pub loop-point-preserved : goal.loop-point-preserved
 loop-point-preserved c = λ i h.
     c.products-product.ensures i h
     ∙ ap₂ times (c.loop-point.invariant i h) (c.differences.ensures i h)
-    ∙ sym (product_more c.loop-point.point-index (λ u. bit_xor (get_or c.args.xs.now i 0) (get_or c.args.points.now u 0)))
+    ∙ sym
+    (product_more c.loop-point.point-index
+    (λ u. bit_xor (get_or c.args.xs.now i 0) (get_or c.args.points.now u 0)))
 
 pub returns : goal.returns
 returns c = λ i h.
     let whole : c.loop-point.point-index ≡ length c.args.points.now = omega arith in
-    c.loop-point.invariant i h ∙ ap (λ (n : ℕ). product_below n (λ u. bit_xor (get_or c.args.xs.now i 0) (get_or c.args.points.now u 0))) whole
-    ∙ sym (distance_is (length c.args.points.now) (λ u. get_or c.args.points.now u 0) (get_or c.args.xs.now i 0))
+    c.loop-point.invariant i h
+    ∙ ap
+    (λ (n : ℕ). product_below n
+    (λ u. bit_xor (get_or c.args.xs.now i 0) (get_or c.args.points.now u 0)))
+    whole
+    ∙ sym
+    (distance_is (length c.args.points.now) (λ u. get_or c.args.points.now u 0)
+    (get_or c.args.xs.now i 0))

@@ -9,8 +9,10 @@ returns-clause-here c (suc (suc (suc zero))) h w = c.one_if_equal-4.ensures.here
 returns-clause-here c (suc (suc (suc (suc zero)))) h w = c.one_if_equal-5.ensures.here w
 returns-clause-here c (suc (suc (suc (suc (suc zero))))) h w = c.one_if_equal-6.ensures.here w
 returns-clause-here c (suc (suc (suc (suc (suc (suc zero)))))) h w = c.one_if_equal-7.ensures.here w
-returns-clause-here c (suc (suc (suc (suc (suc (suc (suc zero))))))) h w = c.one_if_equal-8.ensures.here w
-returns-clause-here c (suc (suc (suc (suc (suc (suc (suc (suc i)))))))) h w = absurd (omega (arith, h))
+returns-clause-here c (suc (suc (suc (suc (suc (suc (suc zero))))))) h w =
+    c.one_if_equal-8.ensures.here w
+returns-clause-here c (suc (suc (suc (suc (suc (suc (suc (suc i)))))))) h w =
+    absurd (omega (arith, h))
 
 pub returns-clause-away : goal.returns-clause-away
 returns-clause-away c zero h w = c.one_if_equal.ensures.away w
@@ -20,5 +22,7 @@ returns-clause-away c (suc (suc (suc zero))) h w = c.one_if_equal-4.ensures.away
 returns-clause-away c (suc (suc (suc (suc zero)))) h w = c.one_if_equal-5.ensures.away w
 returns-clause-away c (suc (suc (suc (suc (suc zero))))) h w = c.one_if_equal-6.ensures.away w
 returns-clause-away c (suc (suc (suc (suc (suc (suc zero)))))) h w = c.one_if_equal-7.ensures.away w
-returns-clause-away c (suc (suc (suc (suc (suc (suc (suc zero))))))) h w = c.one_if_equal-8.ensures.away w
-returns-clause-away c (suc (suc (suc (suc (suc (suc (suc (suc i)))))))) h w = absurd (omega (arith, h))
+returns-clause-away c (suc (suc (suc (suc (suc (suc (suc zero))))))) h w =
+    c.one_if_equal-8.ensures.away w
+returns-clause-away c (suc (suc (suc (suc (suc (suc (suc (suc i)))))))) h w =
+    absurd (omega (arith, h))

@@ -21,7 +21,8 @@ loop-point-preserved c = λ i s hi hs same.
     ⊎_elim
     (λ here. c.one_where_equal-others.ensures.here i hi here
     ∙ sym (difference_here P s u (sym (c.requires.distinct s u hs within (sym same ∙ here)))))
-    (λ other. c.one_where_equal-others.ensures.away i hi other ∙ c.differences.ensures i hi ∙ ap (λ (y : ℕ). bit_xor y (P u)) same
+    (λ other. c.one_where_equal-others.ensures.away i hi other ∙ c.differences.ensures i hi
+    ∙ ap (λ (y : ℕ). bit_xor y (P u)) same
     ∙ sym (difference_there P s u (λ e. other (same ∙ ap P (sym e)))))
     (cases_eq x (P u)) in
     c.products-product.ensures i hi
@@ -32,7 +33,10 @@ pub returns : goal.returns
 returns c = λ i s hi hs same.
     let P : ℕ → ℕ = λ t. get_or c.args.points.now t 0 in
     let whole : c.loop-point.point-index ≡ length c.args.points.now = omega arith in
-    let product = c.loop-point.invariant i s hi hs same ∙ ap (λ (n : ℕ). product_below n (λ t. difference P s t)) whole in
-    c.inverses.ensures i hi (λ z. differences_nonzero (length c.args.points.now) P s c.requires hs (sym product ∙ z))
+    let product =
+    c.loop-point.invariant i s hi hs same
+    ∙ ap (λ (n : ℕ). product_below n (λ t. difference P s t)) whole in
+    c.inverses.ensures i hi
+    (λ z. differences_nonzero (length c.args.points.now) P s c.requires hs (sym product ∙ z))
     ∙ ap inverse product
     ∙ sym (weight_is (length c.args.points.now) P s)

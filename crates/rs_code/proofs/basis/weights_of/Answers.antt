@@ -3,7 +3,8 @@ use Rattle.std.proofs.lemmas.Bool.{cases_lt}
 use Rattle.rs_code.proofs.basis.weights_of.Goals as goal
 
 -- what a call on the whole slice leaves
-written_back : (items news : List ℕ) (len : ℕ) → len ≡ length news → take len (news ++ drop (length news) items) ≡ news
+written_back : (items news : List ℕ) (len : ℕ) → len ≡ length news
+    → take len (news ++ drop (length news) items) ≡ news
 written_back items news len h = take_at news (drop (length news) items) len (sym h)
 
 pub loop-group-preserved : goal.loop-group-preserved
@@ -11,8 +12,10 @@ loop-group-preserved c =
     let news : List ℕ = c.put_eight.new.elements in
     let start : ℕ = 8 * c.loop-group.group in
     let long : length news ≡ length c.args.points.now =
-    c.put_eight.ensures.count ∙ ap length c.deref_mut.ensures.value ∙ c.loop-group.invariant.count in
-    let back : take c.loop-group.weights.len (news ++ drop (length news) c.loop-group.weights.items) ≡ news =
+    c.put_eight.ensures.count ∙ ap length c.deref_mut.ensures.value
+    ∙ c.loop-group.invariant.count in
+    let back : take c.loop-group.weights.len (news ++ drop (length news) c.loop-group.weights.items)
+    ≡ news =
     written_back c.loop-group.weights.items news c.loop-group.weights.len
     (omega (arith, c.loop-group.weights.ok.0, c.loop-group.invariant.count, long)) in
     record {
@@ -20,20 +23,31 @@ loop-group-preserved c =
       each = λ s hi hs.
           ap (λ (xs : List ℕ). get_or xs s 0) back
           ∙ ⊎_elim
-          (λ low. c.put_eight.ensures.before s low ∙ ap (λ (xs : List ℕ). get_or xs s 0) c.deref_mut.ensures.value
+          (λ low. c.put_eight.ensures.before s low
+          ∙ ap (λ (xs : List ℕ). get_or xs s 0) c.deref_mut.ensures.value
           ∙ c.loop-group.invariant.each s low hs)
           (λ high. (let l : ℕ = s - start in
           let whole : s ≡ start + l = omega (arith, high) in
           let small : l < 8 = omega (arith, hi, high) in
           ap (λ (n : ℕ). get_or news n 0) whole
-          ∙ c.put_eight.ensures.own l small (omega (arith, hs, high, ap length c.deref_mut.ensures.value, c.loop-group.invariant.count))
+          ∙ c.put_eight.ensures.own l small
+          (omega (
+            arith,
+            hs,
+            high,
+            ap length c.deref_mut.ensures.value,
+            c.loop-group.invariant.count,
+          ))
           ∙ c.weights_at-own.ensures l s small hs
-          (c.next_eight.ensures l small (omega (arith, hs, high)) ∙ ap (λ (n : ℕ). get_or c.args.points.now n 0) (sym whole))))
+          (c.next_eight.ensures l small (omega (arith, hs, high))
+          ∙ ap (λ (n : ℕ). get_or c.args.points.now n 0) (sym whole))))
           (cases_lt s start);
     }
 
 pub returns : goal.returns
 returns c = record {
   count = c.loop-group.invariant.count;
-  each = λ s h. c.loop-group.invariant.each s (omega (arith, h, c.div_ceil-group-end.ensures, c.loop-group-test.false)) h;
+  each =
+      λ s h. c.loop-group.invariant.each s
+      (omega (arith, h, c.div_ceil-group-end.ensures, c.loop-group-test.false)) h;
 }

@@ -13,10 +13,20 @@ use Rattle.rs_code.proofs.eights.add_row_pairs.Goals as goal
 pub loop-pair-init : goal.loop-pair-init
 loop-pair-init c = record {
   count = refl;
-  low = ap length (c.in_ok-low.ensures.items_if_clones_equal (λ y e. each_same nothing y e.whole)) ∙ length-replicate 256 nothing;
-  high = ap length (c.in_ok-high.ensures.items_if_clones_equal (λ y e. each_same nothing y e.whole)) ∙ length-replicate 256 nothing;
-  next_low = ap length (c.in_ok-next_low.ensures.items_if_clones_equal (λ y e. each_same nothing y e.whole)) ∙ length-replicate 256 nothing;
-  next_high = ap length (c.in_ok-next_high.ensures.items_if_clones_equal (λ y e. each_same nothing y e.whole)) ∙ length-replicate 256 nothing;
+  low =
+      ap length (c.in_ok-low.ensures.items_if_clones_equal (λ y e. each_same nothing y e.whole))
+      ∙ length-replicate 256 nothing;
+  high =
+      ap length (c.in_ok-high.ensures.items_if_clones_equal (λ y e. each_same nothing y e.whole))
+      ∙ length-replicate 256 nothing;
+  next_low =
+      ap length
+      (c.in_ok-next_low.ensures.items_if_clones_equal (λ y e. each_same nothing y e.whole))
+      ∙ length-replicate 256 nothing;
+  next_high =
+      ap length
+      (c.in_ok-next_high.ensures.items_if_clones_equal (λ y e. each_same nothing y e.whole))
+      ∙ length-replicate 256 nothing;
   each = λ none j i hj hi. none j i hj hi ∙ sym (sum_none _);
 }
 
@@ -24,22 +34,38 @@ pub loop-pair-preserved : goal.loop-pair-preserved
 unfolding lane
 loop-pair-preserved c = record {
   count = c.add_two_rows.ensures.count ∙ c.loop-pair.invariant.count;
-  low = table_written 256 c.loop-pair.low.items c.add_two_rows.new.low c.loop-pair.low.len c.loop-pair.low.ok.0 c.loop-pair.invariant.low c.add_two_rows.ensures.low;
-  high = table_written 256 c.loop-pair.high.items c.add_two_rows.new.high c.loop-pair.high.len c.loop-pair.high.ok.0 c.loop-pair.invariant.high c.add_two_rows.ensures.high;
-  next_low = table_written 256 c.loop-pair.next_low.items c.add_two_rows.new.next_low c.loop-pair.next_low.len c.loop-pair.next_low.ok.0 c.loop-pair.invariant.next_low c.add_two_rows.ensures.next_low;
-  next_high = table_written 256 c.loop-pair.next_high.items c.add_two_rows.new.next_high c.loop-pair.next_high.len c.loop-pair.next_high.ok.0 c.loop-pair.invariant.next_high c.add_two_rows.ensures.next_high;
+  low =
+      table_written 256 c.loop-pair.low.items c.add_two_rows.new.low c.loop-pair.low.len
+      c.loop-pair.low.ok.0 c.loop-pair.invariant.low c.add_two_rows.ensures.low;
+  high =
+      table_written 256 c.loop-pair.high.items c.add_two_rows.new.high c.loop-pair.high.len
+      c.loop-pair.high.ok.0 c.loop-pair.invariant.high c.add_two_rows.ensures.high;
+  next_low =
+      table_written 256 c.loop-pair.next_low.items c.add_two_rows.new.next_low
+      c.loop-pair.next_low.len c.loop-pair.next_low.ok.0 c.loop-pair.invariant.next_low
+      c.add_two_rows.ensures.next_low;
+  next_high =
+      table_written 256 c.loop-pair.next_high.items c.add_two_rows.new.next_high
+      c.loop-pair.next_high.len c.loop-pair.next_high.ok.0 c.loop-pair.invariant.next_high
+      c.add_two_rows.ensures.next_high;
   each = λ none j i hj hi.
-      (let f : ℕ → ℕ = λ s. times (symbol c.args.rows.now c.args.width s (c.args.first + j)) (lane c.args.factors.now s i) in
+      (let f : ℕ → ℕ =
+      λ s. times (symbol c.args.rows.now c.args.width s (c.args.first + j))
+      (lane c.args.factors.now s i) in
       let n : ℕ = 2 * c.loop-pair.pair in
       c.add_two_rows.ensures.each j i (omega (arith, hj, c.loop-pair.invariant.count)) hi
-      ∙ ap (λ (x : ℕ). bit_xor x (bit_xor (f n) (f (n + 1)))) (c.loop-pair.invariant.each none j i hj hi)
+      ∙ ap (λ (x : ℕ). bit_xor x (bit_xor (f n) (f (n + 1))))
+      (c.loop-pair.invariant.each none j i hj hi)
       ∙ sym (xor_assoc (sum_below n f) (f n) (f (n + 1)))
       ∙ ap (λ (x : ℕ). bit_xor x (f (n + 1))) (sym (sum_more n f))
       ∙ sym (sum_more (n + 1) f)
-      ∙ ap (λ (m : ℕ). sum_below m f) (let more : n + 1 + 1 ≡ 2 * (c.loop-pair.pair + 1) = omega arith in more));
+      ∙ ap (λ (m : ℕ). sum_below m f)
+      (let more : n + 1 + 1 ≡ 2 * (c.loop-pair.pair + 1) = omega arith in more));
 }
 
 pub add_two_rows-requires-clause-room : goal.add_two_rows-requires-clause-room
 add_two_rows-requires-clause-room c =
-    let whole : (2 * c.loop-pair.pair + 2) * c.args.width ≤ length c.args.factors.now * c.args.width = mul-le-mul_right c.args.width (omega arith) in
+    let whole : (2 * c.loop-pair.pair + 2) * c.args.width
+    ≤ length c.args.factors.now * c.args.width =
+    mul-le-mul_right c.args.width (omega arith) in
     omega (arith, whole, c.requires.rows, c.requires.columns, c.loop-pair.invariant.count)

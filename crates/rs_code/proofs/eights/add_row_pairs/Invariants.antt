@@ -15,5 +15,6 @@ invariant-loop-pair l = record {
   next_high : length l.next_high.items ≡ 256;
   each : ((j i : ℕ) → j < length l.fn.sums → i < 8 → lane l.fn.sums j i ≡ 0) →
       (j i : ℕ) → j < length l.fn.sums → i < 8 → lane l.sums j i
-      ≡ sum_below (2 * l.pair) (λ s. times (symbol l.rows l.width s (l.first + j)) (lane l.factors s i));
+      ≡ sum_below (2 * l.pair)
+      (λ s. times (symbol l.rows l.width s (l.first + j)) (lane l.factors s i));
 }

@@ -12,14 +12,23 @@ loop-column-preserved c =
       done =
           summed 8 c.loop-column.sums c.args.sums.now c.loop-column.column c.sum_of_three.result
           (λ j i. bit_xor
-          (bit_xor (lane c.args.high.now (get_or c.args.rows.now (place j) 0) i) (lane c.args.low.now (get_or c.args.rows.now (place j + 1) 0) i))
-          (bit_xor (lane c.args.next_high.now (get_or c.args.rows.now (next j) 0) i) (lane c.args.next_low.now (get_or c.args.rows.now (next j + 1) 0) i)))
+          (bit_xor (lane c.args.high.now (get_or c.args.rows.now (place j) 0) i)
+          (lane c.args.low.now (get_or c.args.rows.now (place j + 1) 0) i))
+          (bit_xor (lane c.args.next_high.now (get_or c.args.rows.now (next j) 0) i)
+          (lane c.args.next_low.now (get_or c.args.rows.now (next j + 1) 0) i)))
           (omega arith) c.loop-column.invariant.done c.loop-column.invariant.rest
           (λ i h. c.sum_of_three.ensures i h
           ∙ ap (bit_xor (lane c.loop-column.sums c.loop-column.column i)) (ap₂ bit_xor
-          (c.sum_of_two-own.ensures i h ∙ ap₂ (λ (x y : ℕ). bit_xor (lane c.args.high.now x i) (lane c.args.low.now y i)) c.from.ensures c.from-in-loop-column.ensures)
-          (c.sum_of_two-others.ensures i h ∙ ap₂ (λ (x y : ℕ). bit_xor (lane c.args.next_high.now x i) (lane c.args.next_low.now y i)) c.from-in-loop-column-2.ensures c.from-in-loop-column-3.ensures)));
+          (c.sum_of_two-own.ensures i h
+          ∙ ap₂ (λ (x y : ℕ). bit_xor (lane c.args.high.now x i) (lane c.args.low.now y i))
+          c.from.ensures c.from-in-loop-column.ensures)
+          (c.sum_of_two-others.ensures i h
+          ∙ ap₂
+          (λ (x y : ℕ). bit_xor (lane c.args.next_high.now x i)
+          (lane c.args.next_low.now y i))
+          c.from-in-loop-column-2.ensures c.from-in-loop-column-3.ensures)));
       rest = λ j i h.
           let apart : j ≢ c.loop-column.column = omega arith in
-          lane_set_other c.loop-column.sums c.loop-column.column j c.sum_of_three.result i apart ∙ c.loop-column.invariant.rest j i (omega arith);
+          lane_set_other c.loop-column.sums c.loop-column.column j c.sum_of_three.result i apart
+          ∙ c.loop-column.invariant.rest j i (omega arith);
     }

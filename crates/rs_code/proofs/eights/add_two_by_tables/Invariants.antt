@@ -9,7 +9,8 @@ invariant-loop-column l = record {
       (bit_xor
       (bit_xor (lane l.high (get_or l.rows (l.row * l.width + 2 * (l.first + j)) 0) i)
       (lane l.low (get_or l.rows (l.row * l.width + 2 * (l.first + j) + 1) 0) i))
-      (bit_xor (lane l.next_high (get_or l.rows (l.row * l.width + 2 * (l.first + j) + l.width) 0) i)
+      (bit_xor
+      (lane l.next_high (get_or l.rows (l.row * l.width + 2 * (l.first + j) + l.width) 0) i)
       (lane l.next_low (get_or l.rows (l.row * l.width + 2 * (l.first + j) + l.width + 1) 0) i)));
   rest : (j i : ℕ) → l.column ≤ j → lane l.sums j i ≡ lane l.fn.sums j i;
 }

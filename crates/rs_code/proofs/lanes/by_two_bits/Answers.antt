@@ -12,5 +12,6 @@ returns c = λ l h w.
     c.sum_of_two.ensures l h
     ∙ ap₂ bit_xor
     (c.by_bits.ensures l h (omega (arith, low)) ∙ ap (times a) low)
-    (c.by_bits-2.ensures l h (omega (arith, high, w)) ∙ ap₂ times (c.each_by_2-step.ensures l h) high)
+    (c.by_bits-2.ensures l h (omega (arith, high, w))
+    ∙ ap₂ times (c.each_by_2-step.ensures l h) high)
     ∙ Steps.by_two_bits a b (omega arith) w

@@ -12,5 +12,6 @@ returns c = λ l h.
     c.sum_of_two.ensures l h
     ∙ ap₂ bit_xor
     (c.by_eight_bits.ensures l h (omega (arith, low)) ∙ ap (times a) low)
-    (c.by_eight_bits-2.ensures l h (omega (arith, high)) ∙ ap₂ times (c.each_by_256-step.ensures l h) high)
+    (c.by_eight_bits-2.ensures l h (omega (arith, high))
+    ∙ ap₂ times (c.each_by_256-step.ensures l h) high)
     ∙ Steps.by_all_bits a b (omega arith) (omega arith)

@@ -11,13 +11,16 @@ loop-lane-preserved c =
     record {
       count = length-set elements place value ∙ c.loop-lane.invariant.count;
       before = λ i h.
-          (let apart : i ≢ place = omega arith in get_or-set_other elements place i value 0 apart) ∙ c.loop-lane.invariant.before i h;
+          (let apart : i ≢ place = omega arith in get_or-set_other elements place i value 0 apart)
+          ∙ c.loop-lane.invariant.before i h;
       written = λ i h.
           ⊎_elim
           (λ last. ap (λ (n : ℕ). get_or (set elements place value) (c.args.done + n) 0) last
           ∙ get_or-set_same elements place value 0 (omega (arith, c.loop-lane.invariant.count))
           ∙ ap (λ (n : ℕ). get_or c.args.own.now n 0) (sym last))
-          (λ other. (let apart : c.args.done + i ≢ place = λ e. other (omega (arith, e)) in get_or-set_other elements place (c.args.done + i) value 0 apart)
+          (λ other.
+          (let apart : c.args.done + i ≢ place = λ e. other (omega (arith, e)) in
+          get_or-set_other elements place (c.args.done + i) value 0 apart)
           ∙ c.loop-lane.invariant.written i (omega (arith, h, other)))
           (cases_eq i c.loop-lane.lane);
     }

@@ -13,5 +13,6 @@ returns-clause-each c = λ j l hj hl.
     ∙ ap (bit_xor (lane c.args.sums.now j l))
     (ap₂ bit_xor
     (c.spread_short.ensures.each (byte % 16) l (omega arith) hl)
-    (c.spread_short-2.ensures.each (byte / 16) l (omega (arith, fits)) hl ∙ ap (λ (x : ℕ). times x (byte / 16)) (c.each_by_16.ensures l hl))
+    (c.spread_short-2.ensures.each (byte / 16) l (omega (arith, fits)) hl
+    ∙ ap (λ (x : ℕ). times x (byte / 16)) (c.each_by_16.ensures l hl))
     ∙ by_eight_bits f byte (omega arith) fits)

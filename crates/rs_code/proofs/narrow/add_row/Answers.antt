@@ -25,4 +25,5 @@ returns-clause-each c = λ j l hj hl.
     ∙ ap (bit_xor old) (ap₂ times (c.each_by_256.ensures l hl) (ap byte upper)))
     (ap (λ (n : ℕ). times f (byte n)) lower)
     ∙ xor_assoc old high low
-    ∙ ap (bit_xor old) (by_bytes f (byte place) (byte (place + 1)) (omega arith) (fits place) (fits (place + 1)))
+    ∙ ap (bit_xor old)
+    (by_bytes f (byte place) (byte (place + 1)) (omega arith) (fits place) (fits (place + 1)))

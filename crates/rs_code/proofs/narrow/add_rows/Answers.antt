@@ -11,8 +11,12 @@ use Rattle.rs_code.proofs.narrow.add_rows.Goals as goal
 pub loop-row-init : goal.loop-row-init
 loop-row-init c = record {
   count = refl;
-  low = ap length (c.in_ok-low.ensures.items_if_clones_equal (λ y e. each_same nothing y e.whole)) ∙ length-replicate 16 nothing;
-  high = ap length (c.in_ok-high.ensures.items_if_clones_equal (λ y e. each_same nothing y e.whole)) ∙ length-replicate 16 nothing;
+  low =
+      ap length (c.in_ok-low.ensures.items_if_clones_equal (λ y e. each_same nothing y e.whole))
+      ∙ length-replicate 16 nothing;
+  high =
+      ap length (c.in_ok-high.ensures.items_if_clones_equal (λ y e. each_same nothing y e.whole))
+      ∙ length-replicate 16 nothing;
   each = λ none j i hj hi. none j i hj hi ∙ sym (sum_none _);
 }
 
@@ -20,10 +24,16 @@ pub loop-row-preserved : goal.loop-row-preserved
 unfolding lane
 loop-row-preserved c = record {
   count = c.add_row.ensures.count ∙ c.loop-row.invariant.count;
-  low = table_written 16 c.loop-row.low.items c.add_row.new.low c.loop-row.low.len c.loop-row.low.ok.0 c.loop-row.invariant.low c.add_row.ensures.low;
-  high = table_written 16 c.loop-row.high.items c.add_row.new.high c.loop-row.high.len c.loop-row.high.ok.0 c.loop-row.invariant.high c.add_row.ensures.high;
+  low =
+      table_written 16 c.loop-row.low.items c.add_row.new.low c.loop-row.low.len c.loop-row.low.ok.0
+      c.loop-row.invariant.low c.add_row.ensures.low;
+  high =
+      table_written 16 c.loop-row.high.items c.add_row.new.high c.loop-row.high.len
+      c.loop-row.high.ok.0 c.loop-row.invariant.high c.add_row.ensures.high;
   each = λ none j i hj hi.
-      (let f : ℕ → ℕ = λ s. times (symbol c.args.rows.now c.args.width s (c.args.first + j)) (lane c.args.factors.now s i) in
+      (let f : ℕ → ℕ =
+      λ s. times (symbol c.args.rows.now c.args.width s (c.args.first + j))
+      (lane c.args.factors.now s i) in
       c.add_row.ensures.each j i (omega (arith, hj, c.loop-row.invariant.count)) hi
       ∙ ap (λ (x : ℕ). bit_xor x (f c.loop-row.row)) (c.loop-row.invariant.each none j i hj hi)
       ∙ sym (sum_more c.loop-row.row f));
@@ -31,5 +41,6 @@ loop-row-preserved c = record {
 
 pub add_row-requires-clause-room : goal.add_row-requires-clause-room
 add_row-requires-clause-room c =
-    let whole : (c.loop-row.row + 1) * c.args.width ≤ length c.args.factors.now * c.args.width = mul-le-mul_right c.args.width (omega arith) in
+    let whole : (c.loop-row.row + 1) * c.args.width ≤ length c.args.factors.now * c.args.width =
+    mul-le-mul_right c.args.width (omega arith) in
     omega (arith, whole, c.requires.rows, c.requires.columns, c.loop-row.invariant.count)

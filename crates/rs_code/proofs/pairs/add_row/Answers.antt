@@ -18,6 +18,8 @@ returns-clause-each c = λ j l hj hl.
     ∙ ap (bit_xor (lane c.args.sums.now j l))
     (ap₂ bit_xor
     (ap (λ (xs : List ℕ). half (get_or xs high 0) l) c.deref-2.ensures.value
-    ∙ c.in_ok-high.ensures.each high l high_fits hl ∙ ap (λ (x : ℕ). times x high) (c.each_by_256.ensures l (omega (arith, hl))))
-    (ap (λ (xs : List ℕ). half (get_or xs low 0) l) c.deref.ensures.value ∙ c.in_ok-low.ensures.each low l low_fits hl)
+    ∙ c.in_ok-high.ensures.each high l high_fits hl
+    ∙ ap (λ (x : ℕ). times x high) (c.each_by_256.ensures l (omega (arith, hl))))
+    (ap (λ (xs : List ℕ). half (get_or xs low 0) l) c.deref.ensures.value
+    ∙ c.in_ok-low.ensures.each low l low_fits hl)
     ∙ by_bytes f high low (omega arith) high_fits low_fits)

@@ -15,7 +15,9 @@ loop-pair-init c = record {
 
 pub add_two_rows-requires : goal.add_two_rows-requires
 add_two_rows-requires c =
-    let whole : (2 * c.loop-pair.pair + 2) * c.args.width ≤ length c.args.factors.now * c.args.width = mul-le-mul_right c.args.width (omega arith) in
+    let whole : (2 * c.loop-pair.pair + 2) * c.args.width
+    ≤ length c.args.factors.now * c.args.width =
+    mul-le-mul_right c.args.width (omega arith) in
     omega (arith, whole, c.requires.rows, c.requires.columns, c.loop-pair.invariant.count)
 
 pub loop-pair-preserved : goal.loop-pair-preserved
@@ -23,12 +25,16 @@ unfolding lane
 loop-pair-preserved c = record {
   count = c.add_two_rows.ensures.count ∙ c.loop-pair.invariant.count;
   each = λ none j i hj hi.
-      (let f : ℕ → ℕ = λ s. times (symbol c.args.rows.now c.args.width s (c.args.first + j)) (lane c.args.factors.now s i) in
+      (let f : ℕ → ℕ =
+      λ s. times (symbol c.args.rows.now c.args.width s (c.args.first + j))
+      (lane c.args.factors.now s i) in
       let n : ℕ = 2 * c.loop-pair.pair in
       c.in_ok-add_two_rows.ensures.each j i (omega (arith, hj, c.loop-pair.invariant.count)) hi
-      ∙ ap (λ (x : ℕ). bit_xor x (bit_xor (f n) (f (n + 1)))) (c.loop-pair.invariant.each none j i hj hi)
+      ∙ ap (λ (x : ℕ). bit_xor x (bit_xor (f n) (f (n + 1))))
+      (c.loop-pair.invariant.each none j i hj hi)
       ∙ sym (xor_assoc (sum_below n f) (f n) (f (n + 1)))
       ∙ ap (λ (x : ℕ). bit_xor x (f (n + 1))) (sym (sum_more n f))
       ∙ sym (sum_more (n + 1) f)
-      ∙ ap (λ (m : ℕ). sum_below m f) (let more : n + 1 + 1 ≡ 2 * (c.loop-pair.pair + 1) = omega arith in more));
+      ∙ ap (λ (m : ℕ). sum_below m f)
+      (let more : n + 1 + 1 ≡ 2 * (c.loop-pair.pair + 1) = omega arith in more));
 }

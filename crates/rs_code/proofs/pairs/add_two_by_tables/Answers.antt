@@ -21,10 +21,16 @@ loop-column-preserved c =
           (bit_xor (half (next_upper (byte (next j))) i) (half (next_lower (byte (next j + 1))) i)))
           (omega arith) c.loop-column.invariant.done c.loop-column.invariant.rest
           (λ i h. c.sum_with.ensures i h
-          ∙ ap (bit_xor (lane c.loop-column.sums c.loop-column.column i)) (half_xor _ _ i ∙ ap₂ bit_xor
-          (half_xor _ _ i ∙ ap₂ (λ (x y : ℕ). bit_xor (half (upper x) i) (half (lower y) i)) c.from.ensures c.from-in-loop-column.ensures)
-          (half_xor _ _ i ∙ ap₂ (λ (x y : ℕ). bit_xor (half (next_upper x) i) (half (next_lower y) i)) c.from-in-loop-column-2.ensures c.from-in-loop-column-3.ensures)));
+          ∙ ap (bit_xor (lane c.loop-column.sums c.loop-column.column i))
+          (half_xor _ _ i ∙ ap₂ bit_xor
+          (half_xor _ _ i
+          ∙ ap₂ (λ (x y : ℕ). bit_xor (half (upper x) i) (half (lower y) i)) c.from.ensures
+          c.from-in-loop-column.ensures)
+          (half_xor _ _ i
+          ∙ ap₂ (λ (x y : ℕ). bit_xor (half (next_upper x) i) (half (next_lower y) i))
+          c.from-in-loop-column-2.ensures c.from-in-loop-column-3.ensures)));
       rest = λ j i h.
           let apart : j ≢ c.loop-column.column = omega arith in
-          lane_set_other c.loop-column.sums c.loop-column.column j c.sum_with.result i apart ∙ c.loop-column.invariant.rest j i (omega arith);
+          lane_set_other c.loop-column.sums c.loop-column.column j c.sum_with.result i apart
+          ∙ c.loop-column.invariant.rest j i (omega arith);
     }

@@ -9,7 +9,14 @@ invariant-loop-column l = record {
       (bit_xor
       (bit_xor (half (get_or l.high (get_or l.rows (l.row * l.width + 2 * (l.first + j)) 0) 0) i)
       (half (get_or l.low (get_or l.rows (l.row * l.width + 2 * (l.first + j) + 1) 0) 0) i))
-      (bit_xor (half (get_or l.next_high (get_or l.rows (l.row * l.width + 2 * (l.first + j) + l.width) 0) 0) i)
-      (half (get_or l.next_low (get_or l.rows (l.row * l.width + 2 * (l.first + j) + l.width + 1) 0) 0) i)));
+      (bit_xor
+      (half
+      (get_or l.next_high (get_or l.rows (l.row * l.width + 2 * (l.first + j) + l.width) 0)
+      0)
+      i)
+      (half
+      (get_or l.next_low (get_or l.rows (l.row * l.width + 2 * (l.first + j) + l.width + 1) 0)
+      0)
+      i)));
   rest : (j i : ℕ) → l.column ≤ j → lane l.sums j i ≡ lane l.fn.sums j i;
 }

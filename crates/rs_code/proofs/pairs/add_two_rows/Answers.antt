@@ -21,12 +21,16 @@ returns-clause-each c = λ j l hj hl.
     (ap₂ bit_xor
     (ap₂ bit_xor
     (ap (read (byte place)) c.deref-2.ensures.value
-    ∙ c.in_ok-high.ensures.each (byte place) l (fits place) hl ∙ ap (λ (x : ℕ). times x (byte place)) (c.each_by_256.ensures l (omega (arith, hl))))
-    (ap (read (byte (place + 1))) c.deref.ensures.value ∙ c.in_ok-low.ensures.each (byte (place + 1)) l (fits (place + 1)) hl)
+    ∙ c.in_ok-high.ensures.each (byte place) l (fits place) hl
+    ∙ ap (λ (x : ℕ). times x (byte place)) (c.each_by_256.ensures l (omega (arith, hl))))
+    (ap (read (byte (place + 1))) c.deref.ensures.value
+    ∙ c.in_ok-low.ensures.each (byte (place + 1)) l (fits (place + 1)) hl)
     ∙ by_bytes f (byte place) (byte (place + 1)) (omega arith) (fits place) (fits (place + 1)))
     (ap₂ bit_xor
     (ap (read (byte next)) c.deref-4.ensures.value
-    ∙ c.in_ok-next_high.ensures.each (byte next) l (fits next) hl ∙ ap (λ (x : ℕ). times x (byte next)) (c.each_by_256-2.ensures l (omega (arith, hl))))
-    (ap (read (byte (next + 1))) c.deref-3.ensures.value ∙ c.in_ok-next_low.ensures.each (byte (next + 1)) l (fits (next + 1)) hl)
+    ∙ c.in_ok-next_high.ensures.each (byte next) l (fits next) hl
+    ∙ ap (λ (x : ℕ). times x (byte next)) (c.each_by_256-2.ensures l (omega (arith, hl))))
+    (ap (read (byte (next + 1))) c.deref-3.ensures.value
+    ∙ c.in_ok-next_low.ensures.each (byte (next + 1)) l (fits (next + 1)) hl)
     ∙ by_bytes g (byte next) (byte (next + 1)) (omega arith) (fits next) (fits (next + 1))
     ∙ ap (λ (n : ℕ). times (byte n * 256 + byte (n + 1)) g) (sym below)))

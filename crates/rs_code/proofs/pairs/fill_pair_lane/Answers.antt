@@ -17,17 +17,24 @@ loop-column-preserved c =
     let once : List ℕ = set rows (row * width + 2 * at) (v / 256) in
     let news : List ℕ = set once (row * width + 2 * at + 1) (v % 256) in
     let fits : 2 * (at + 1) ≤ width = omega arith in
-    let room : row * width + 2 * at + 1 < length rows = omega (arith, c.requires.row, c.loop-column.invariant.count, fits) in
+    let room : row * width + 2 * at + 1 < length rows =
+    omega (arith, c.requires.row, c.loop-column.invariant.count, fits) in
     record {
-      count = length-set once (row * width + 2 * at + 1) (v % 256) ∙ length-set rows (row * width + 2 * at) (v / 256) ∙ c.loop-column.invariant.count;
+      count =
+          length-set once (row * width + 2 * at + 1) (v % 256)
+          ∙ length-set rows (row * width + 2 * at) (v / 256) ∙ c.loop-column.invariant.count;
       written = λ j h.
           ⊎_elim
-          (λ last. ap (λ (n : ℕ). symbol news width row (c.args.first + n)) last ∙ written rows width row at v room
+          (λ last. ap (λ (n : ℕ). symbol news width row (c.args.first + n)) last
+          ∙ written rows width row at v room
           ∙ ap (λ (n : ℕ). lane c.args.sums.now n c.args.place) (sym last))
-          (λ other. not_written rows width row at v row (c.args.first + j) fits (omega arith) (λ _ e. other (omega (arith, e)))
+          (λ other. not_written rows width row at v row (c.args.first + j) fits (omega arith)
+          (λ _ e. other (omega (arith, e)))
           ∙ c.loop-column.invariant.written j (omega (arith, h, other)))
           (cases_eq j c.loop-column.column);
       others = λ i j h away.
-          not_written rows width row at v i j fits h (λ same e. away same (omega (arith, e)) (omega (arith, e)))
-          ∙ c.loop-column.invariant.others i j h (λ same low high. away same low (omega (arith, high)));
+          not_written rows width row at v i j fits h
+          (λ same e. away same (omega (arith, e)) (omega (arith, e)))
+          ∙ c.loop-column.invariant.others i j h
+          (λ same low high. away same low (omega (arith, high)));
     }

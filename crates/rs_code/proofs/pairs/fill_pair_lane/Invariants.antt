@@ -7,7 +7,9 @@ use Rattle.rs_code.proofs.pairs.fill_pair_lane.Given as goal
 abbrev pub invariant-loop-column : goal.invariant-loop-column
 invariant-loop-column l = record {
   count : length l.rows ≡ length l.fn.rows;
-  written : (j : ℕ) → j < l.column → symbol l.rows l.width l.row (l.first + j) ≡ lane l.sums j l.place;
-  others : (i j : ℕ) → 2 * (j + 1) ≤ l.width → (i ≡ l.row → l.first ≤ j → j < l.first + l.column → ⊥) →
+  written : (j : ℕ) → j < l.column
+      → symbol l.rows l.width l.row (l.first + j) ≡ lane l.sums j l.place;
+  others : (i j : ℕ) → 2 * (j + 1) ≤ l.width
+      → (i ≡ l.row → l.first ≤ j → j < l.first + l.column → ⊥) →
       symbol l.rows l.width i j ≡ symbol l.fn.rows l.width i j;
 }

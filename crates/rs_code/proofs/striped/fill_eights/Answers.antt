@@ -8,7 +8,8 @@ use Rattle.rs_code.proofs.striped.fill_eights.Goals as goal
 
 pub fill_lane-requires-clause-row : goal.fill_lane-requires-clause-row
 fill_lane-requires-clause-row c =
-    let whole : (c.args.done + c.loop-place.place + 1) * c.args.wide ≤ (c.args.done + c.args.lanes) * c.args.wide =
+    let whole : (c.args.done + c.loop-place.place + 1) * c.args.wide
+    ≤ (c.args.done + c.args.lanes) * c.args.wide =
     mul-le-mul_right c.args.wide (omega arith) in
     omega (arith, whole, c.requires.out, c.loop-place.invariant.count)
 
@@ -20,25 +21,36 @@ pub loop-place-preserved : goal.loop-place-preserved
 loop-place-preserved c =
     let wide : ℕ = c.args.wide in
     let news : List ℕ = c.fill_lane.new.rows in
-    let long : length c.deref.result.now ≡ c.args.count = ap length c.deref.ensures.value ∙ c.in_ok-sums.ensures.count in
+    let long : length c.deref.result.now ≡ c.args.count =
+    ap length c.deref.ensures.value ∙ c.in_ok-sums.ensures.count in
     let value : ℕ → ℕ → ℕ = λ p j.
-    sum_below (length c.args.factors.now) (λ s. times (symbol c.args.rows.now c.args.width s (c.args.first + (c.args.start + j))) (lane c.args.factors.now s p)) in
-    let own : (j : ℕ) → j < c.args.count → symbol news wide (c.args.done + c.loop-place.place) (c.args.start + j) ≡ value c.loop-place.place j =
+    sum_below (length c.args.factors.now)
+    (λ s. times (symbol c.args.rows.now c.args.width s (c.args.first + (c.args.start + j)))
+    (lane c.args.factors.now s p)) in
+    let own : (j : ℕ) → j < c.args.count
+    → symbol news wide (c.args.done + c.loop-place.place) (c.args.start + j)
+    ≡ value c.loop-place.place j =
     λ j h.
     c.fill_lane.ensures.written j (omega (arith, h, long))
     ∙ ap (λ (entries : List (List ℕ)). lane entries j c.loop-place.place) c.deref.ensures.value
     ∙ c.in_ok-sums.ensures.each j c.loop-place.place h (omega arith)
-    ∙ ap (λ (n : ℕ). sum_below (length c.args.factors.now) (λ s. times (symbol c.args.rows.now c.args.width s n) (lane c.args.factors.now s c.loop-place.place)))
+    ∙ ap
+    (λ (n : ℕ). sum_below (length c.args.factors.now)
+    (λ s. times (symbol c.args.rows.now c.args.width s n)
+    (lane c.args.factors.now s c.loop-place.place)))
     (add_assoc c.args.first c.args.start j) in
     record {
       count = c.fill_lane.ensures.count ∙ c.loop-place.invariant.count;
       others = λ i j h away.
-          c.fill_lane.ensures.others i j h (λ same low high. away (omega (arith, same)) low (omega (arith, high, long)))
+          c.fill_lane.ensures.others i j h
+          (λ same low high. away (omega (arith, same)) low (omega (arith, high, long)))
           ∙ c.loop-place.invariant.others i j h away;
       written = λ p j hp hj.
           ⊎_elim
-          (λ last. ap (λ (n : ℕ). symbol news wide (c.args.done + n) (c.args.start + j)) last ∙ own j hj ∙ ap (λ (n : ℕ). value n j) (sym last))
-          (λ other. c.fill_lane.ensures.others (c.args.done + p) (c.args.start + j) (omega (arith, hj)) (λ same _ _. other (omega (arith, same)))
+          (λ last. ap (λ (n : ℕ). symbol news wide (c.args.done + n) (c.args.start + j)) last
+          ∙ own j hj ∙ ap (λ (n : ℕ). value n j) (sym last))
+          (λ other. c.fill_lane.ensures.others (c.args.done + p) (c.args.start + j)
+          (omega (arith, hj)) (λ same _ _. other (omega (arith, same)))
           ∙ c.loop-place.invariant.written p j (omega (arith, hp, other)) hj)
           (cases_eq p c.loop-place.place);
     }

@@ -13,16 +13,20 @@ loop-block-preserved c =
     let start : ℕ = 8192 * c.loop-block.block in
     let news : List ℕ = c.fill_block.new.out in
     let value : List (List ℕ) → ℕ → ℕ → ℕ = λ entries p j.
-    sum_below (length entries) (λ s. times (symbol c.args.rows.now c.args.width s (c.args.first + j)) (lane entries s p)) in
+    sum_below (length entries)
+    (λ s. times (symbol c.args.rows.now c.args.width s (c.args.first + j))
+    (lane entries s p)) in
     record {
       count = c.fill_block.ensures.count ∙ c.loop-block.invariant.count;
       bytes = λ i. omega (arith, c.type_inv.out i);
       before = λ i j hi hj.
-          c.fill_block.ensures.others i j (omega (arith, hj)) (λ low _ _. absurd (omega (arith, hi, low)))
+          c.fill_block.ensures.others i j (omega (arith, hj))
+          (λ low _ _. absurd (omega (arith, hi, low)))
           ∙ c.loop-block.invariant.before i j hi hj;
       written = λ p j hp hc hj.
           ⊎_elim
-          (λ low. c.fill_block.ensures.others (c.args.done + p) j (omega (arith, hc)) (λ _ from _. absurd (omega (arith, from, low)))
+          (λ low. c.fill_block.ensures.others (c.args.done + p) j (omega (arith, hc))
+          (λ _ from _. absurd (omega (arith, from, low)))
           ∙ c.loop-block.invariant.written p j hp hc low)
           (λ high. (let d : ℕ = j - start in
           let whole : j ≡ start + d = omega (arith, high) in
@@ -41,7 +45,10 @@ returns-clause-group c = λ i j low high within hj.
     let small : p < 8 = omega (arith, high, low) in
     let there : p < c.min-lanes.result = omega (arith, c.min-lanes.ensures, high, within, low) in
     ap (λ (n : ℕ). symbol c.loop-block.out c.args.wide n j) whole
-    ∙ c.loop-block.invariant.written p j there hj (omega (arith, hj, c.div_ceil-block-end.ensures, c.loop-block-test.false))
-    ∙ through_lanes c.args.basis.now c.next_eight.result c.args.rows.now c.in_ok-factors.factors.items c.args.width
+    ∙ c.loop-block.invariant.written p j there hj
+    (omega (arith, hj, c.div_ceil-block-end.ensures, c.loop-block-test.false))
+    ∙ through_lanes c.args.basis.now c.next_eight.result c.args.rows.now
+    c.in_ok-factors.factors.items c.args.width
     (get_or c.args.targets.now i 0) (c.args.first + j) p c.in_ok-factors.ensures small
-    (c.next_eight.ensures p small (omega (arith, within, low)) ∙ ap (λ (n : ℕ). get_or c.args.targets.now n 0) (sym whole))
+    (c.next_eight.ensures p small (omega (arith, within, low))
+    ∙ ap (λ (n : ℕ). get_or c.args.targets.now n 0) (sym whole))

@@ -10,7 +10,10 @@ abbrev pub invariant-loop-block : goal.invariant-loop-block
 invariant-loop-block l = record {
   count : length l.out ≡ length l.fn.out;
   bytes : (i : ℕ) → get_or l.out i 0 < 256;
-  before : (i j : ℕ) → i < l.done → j < l.wide / 2 → symbol l.out l.wide i j ≡ symbol l.fn.out l.wide i j;
-  written : (p j : ℕ) → p < l.lanes → j < l.columns → j < 8192 * l.block → symbol l.out l.wide (l.done + p) j
-      ≡ sum_below (length l.factors.items) (λ s. times (symbol l.rows l.width s (l.first + j)) (lane l.factors.items s p));
+  before : (i j : ℕ) → i < l.done → j < l.wide / 2
+      → symbol l.out l.wide i j ≡ symbol l.fn.out l.wide i j;
+  written : (p j : ℕ) → p < l.lanes → j < l.columns → j < 8192 * l.block
+      → symbol l.out l.wide (l.done + p) j
+      ≡ sum_below (length l.factors.items)
+      (λ s. times (symbol l.rows l.width s (l.first + j)) (lane l.factors.items s p));
 }

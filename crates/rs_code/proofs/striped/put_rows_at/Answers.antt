@@ -20,15 +20,22 @@ put_rows-requires-clause-some g c κs within =
 
 pub put_rows-requires-clause-wide : goal.put_rows-requires-clause-wide
 put_rows-requires-clause-wide g c κs within =
-    several_are_wide c.args.width c.pieces.result c.stripe_count-count.result c.stripe_count-count.ensures c.pieces.ensures.positive c.if-count-eq1.false
+    several_are_wide c.args.width c.pieces.result c.stripe_count-count.result
+    c.stripe_count-count.ensures c.pieces.ensures.positive c.if-count-eq1.false
 
 pub put_rows-requires-clause-rows : goal.put_rows-requires-clause-rows
 put_rows-requires-clause-rows g c κs within =
     let stripes : List (Vec ℕ Global) = c.in_ok-stripes.stripes.items in
     let some : 0 < length stripes =
-    omega (arith, c.in_ok-stripes.ensures.count, c.stripe_count-count.ensures, stripes_some c.args.width c.pieces.result c.pieces.ensures.positive) in
+    omega (
+      arith,
+      c.in_ok-stripes.ensures.count,
+      c.stripe_count-count.ensures,
+      stripes_some c.args.width c.pieces.result c.pieces.ensures.positive,
+    ) in
     subst (HaveRows c.args.width (length c.args.targets.now)) (sym c.deref-2.ensures.value)
-    (stripes_have c.args.width (length c.args.targets.now) _ stripes some c.requires.even c.in_ok-stripes.ensures.stripes)
+    (stripes_have c.args.width (length c.args.targets.now) _ stripes some c.requires.even
+    c.in_ok-stripes.ensures.stripes)
 
 pub returns-clause-ok : goal.returns-clause-ok
 unfolding row_through symbol_through
@@ -41,13 +48,34 @@ returns-clause-ok g c =
     let stripes : List (Vec ℕ Global) = c.in_ok-stripes.stripes.items in
     let size : ℕ = c.len-size.result in
     let some : 0 < length stripes =
-    omega (arith, c.in_ok-stripes.ensures.count, c.stripe_count-count.ensures, stripes_some width c.pieces.result c.pieces.ensures.positive) in
-    let same : given ≡ old = front old _ c.resize.new.self.items c.deref_mut.result.now given size (size + n * width) (omega (arith, c.len-size.ensures)) (omega arith)
+    omega (
+      arith,
+      c.in_ok-stripes.ensures.count,
+      c.stripe_count-count.ensures,
+      stripes_some width c.pieces.result c.pieces.ensures.positive,
+    ) in
+    let same : given ≡ old =
+    front old _ c.resize.new.self.items c.deref_mut.result.now given size (size + n * width)
+    (omega (arith, c.len-size.ensures)) (omega arith)
     c.split_at_mut-out.ensures.front c.deref_mut.ensures.value c.in_ok-resize.ensures.items in
     take_at (given ++ news) _ c.resize.new.self.len
-    (length-append given news ∙ omega (arith, c.split_at_mut-out.ensures.front_len, c.split_at_mut-out.ensures.back_len, c.put_rows.auto.out, c.deref_mut.ensures.len, c.resize.new.self.ok.0))
+    (length-append given news
+    ∙ omega (
+      arith,
+      c.split_at_mut-out.ensures.front_len,
+      c.split_at_mut-out.ensures.back_len,
+      c.put_rows.auto.out,
+      c.deref_mut.ensures.len,
+      c.resize.new.self.ok.0,
+    ))
     ∙ ap₂ (λ (xs ys : List ℕ). xs ++ ys) same
     (c.put_rows.ensures c.args.rows.now
     ∙ ap (λ xs. joined n (row_of_stripes width xs c.args.rows.now)) c.deref-2.ensures.value
-    ∙ joined_same n _ _ (λ i l. row_of_all width n _ stripes c.args.rows.now i some c.requires.even c.in_ok-stripes.ensures.stripes l)
-    ∙ ap (λ rows. joined n (λ i. row_through (length c.args.basis.now) (λ s. get_or c.args.basis.now s 0) rows width (get_or c.args.targets.now i 0))) c.deref.ensures.value)
+    ∙ joined_same n _ _
+    (λ i l. row_of_all width n _ stripes c.args.rows.now i some c.requires.even
+    c.in_ok-stripes.ensures.stripes l)
+    ∙ ap
+    (λ rows. joined n
+    (λ i. row_through (length c.args.basis.now) (λ s. get_or c.args.basis.now s 0) rows
+    width (get_or c.args.targets.now i 0)))
+    c.deref.ensures.value)

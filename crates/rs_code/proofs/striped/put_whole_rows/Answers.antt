@@ -13,11 +13,29 @@ returns-clause-ok c =
     let given : List ℕ = c.split_at_mut-given.result.0.now in
     let news : List ℕ = c.fill_rows.new.out in
     let size : ℕ = c.len-size.result in
-    let same : given ≡ old = front old _ c.resize.new.self.items c.deref_mut.result.now given size (size + n * c.args.width) (omega (arith, c.len-size.ensures)) (omega arith)
+    let same : given ≡ old =
+    front old _ c.resize.new.self.items c.deref_mut.result.now given size
+    (size + n * c.args.width) (omega (arith, c.len-size.ensures)) (omega arith)
     c.split_at_mut-given.ensures.front c.deref_mut.ensures.value c.in_ok-resize.ensures.items in
     take_at (given ++ news) _ c.resize.new.self.len
-    (length-append given news ∙ omega (arith, c.split_at_mut-given.ensures.front_len, c.split_at_mut-given.ensures.back_len, c.fill_rows.ensures.count, c.deref_mut.ensures.len, c.resize.new.self.ok.0))
+    (length-append given news
+    ∙ omega (
+      arith,
+      c.split_at_mut-given.ensures.front_len,
+      c.split_at_mut-given.ensures.back_len,
+      c.fill_rows.ensures.count,
+      c.deref_mut.ensures.len,
+      c.resize.new.self.ok.0,
+    ))
     ∙ ap (λ rows. given ++ rows) (c.in_ok-fill_rows.ensures.rows
     ∙ joined_same n _ _ (λ i _. symbol_bytes_same (c.args.width / 2) _ _ (λ j _.
-    ap (λ (q : ℕ). symbol_through c.args.basis.now given c.args.width (get_or c.args.targets.now i 0) q) (let first : 0 + j ≡ j = omega arith in first))))
-    ∙ ap (λ rows. rows ++ joined n (λ i. row_through (length c.args.basis.now) (λ s. get_or c.args.basis.now s 0) rows c.args.width (get_or c.args.targets.now i 0))) same
+    ap
+    (λ (q : ℕ). symbol_through c.args.basis.now given c.args.width
+    (get_or c.args.targets.now i 0) q)
+    (let first : 0 + j ≡ j = omega arith in first))))
+    ∙ ap
+    (λ rows. rows
+    ++ joined n
+    (λ i. row_through (length c.args.basis.now) (λ s. get_or c.args.basis.now s 0) rows
+    c.args.width (get_or c.args.targets.now i 0)))
+    same

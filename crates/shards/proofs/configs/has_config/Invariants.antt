@@ -6,4 +6,6 @@ use Rattle.shards.proofs.configs.has_config.Given as goal
 
 -- no epoch so far has that config
 abbrev pub invariant-loop-epoch : goal.invariant-loop-epoch
-invariant-loop-epoch l = (e : ℕ) → e < l.epoch → same_counts l.config (config_for (length (list_of l.committees.lists e))) ≡ false
+invariant-loop-epoch l =
+    (e : ℕ) → e < l.epoch
+    → same_counts l.config (config_for (length (list_of l.committees.lists e))) ≡ false

@@ -10,20 +10,36 @@ use Rattle.shards.proofs.showing.kept_verdict.Goals as goal
 pub shown-requires-after_bounds : goal.shown-requires-after_bounds
 shown-requires-after_bounds g c κs _ =
     let hash = g.H.Hasher.digest_of in
-    let n : count c.args.commitment.now c.args.kept.now ≡ c.args.commitment.now.config.minimum - 1 = eqb-true _ _ (sym c.lack_one.ensures ∙ c.if-not-lack_one.false) in
-    subst (AreEnough hash c.args.commitment.now) (sym (ap (map (λ x. x.now)) c.deref.ensures.value ∙ c.in_ok-chunks.ensures))
-    (enough_kept hash c.args.committees.now c.args.kept.now c.args.commitment.now c.args.chunk.now c.requires.kept c.requires.new c.requires.taken c.requires.some c.requires.few n)
+    let n : count c.args.commitment.now c.args.kept.now ≡ c.args.commitment.now.config.minimum - 1 =
+    eqb-true _ _ (sym c.lack_one.ensures ∙ c.if-not-lack_one.false) in
+    subst (AreEnough hash c.args.commitment.now)
+    (sym (ap (map (λ x. x.now)) c.deref.ensures.value ∙ c.in_ok-chunks.ensures))
+    (enough_kept hash c.args.committees.now c.args.kept.now c.args.commitment.now c.args.chunk.now
+    c.requires.kept c.requires.new c.requires.taken c.requires.some c.requires.few n)
 
 pub returns-in-Some : goal.returns-in-Some
 returns-in-Some g c =
     let r = rules_of g.H.Hasher.digest_of c.args.committees.now in
-    let n : count c.args.commitment.now c.args.kept.now ≡ c.args.commitment.now.config.minimum - 1 = eqb-true _ _ (sym c.lack_one.ensures ∙ c.if-not-lack_one.false) in
-    verdict_shown r c.args.kept.now c.args.commitment.now c.args.chunk.now (Some c.in-Some.block) c.requires.some n
-    (sym c.in-Some.is ∙ (c.in_ok-block.ensures ∙ ap (λ xs. option_and_then (if_committed r c.args.commitment.now) (block_of r c.args.commitment.now.config xs)) (ap (map (λ x. x.now)) c.deref.ensures.value ∙ c.in_ok-chunks.ensures)))
+    let n : count c.args.commitment.now c.args.kept.now ≡ c.args.commitment.now.config.minimum - 1 =
+    eqb-true _ _ (sym c.lack_one.ensures ∙ c.if-not-lack_one.false) in
+    verdict_shown r c.args.kept.now c.args.commitment.now c.args.chunk.now (Some c.in-Some.block)
+    c.requires.some n
+    (sym c.in-Some.is
+    ∙ (c.in_ok-block.ensures
+    ∙ ap
+    (λ xs. option_and_then (if_committed r c.args.commitment.now)
+    (block_of r c.args.commitment.now.config xs))
+    (ap (map (λ x. x.now)) c.deref.ensures.value ∙ c.in_ok-chunks.ensures)))
 
 pub returns : goal.returns
 returns g c =
     let r = rules_of g.H.Hasher.digest_of c.args.committees.now in
-    let n : count c.args.commitment.now c.args.kept.now ≡ c.args.commitment.now.config.minimum - 1 = eqb-true _ _ (sym c.lack_one.ensures ∙ c.if-not-lack_one.false) in
+    let n : count c.args.commitment.now c.args.kept.now ≡ c.args.commitment.now.config.minimum - 1 =
+    eqb-true _ _ (sym c.lack_one.ensures ∙ c.if-not-lack_one.false) in
     verdict_shown r c.args.kept.now c.args.commitment.now c.args.chunk.now None c.requires.some n
-    (sym c.in-None.is ∙ (c.in_ok-block.ensures ∙ ap (λ xs. option_and_then (if_committed r c.args.commitment.now) (block_of r c.args.commitment.now.config xs)) (ap (map (λ x. x.now)) c.deref.ensures.value ∙ c.in_ok-chunks.ensures)))
+    (sym c.in-None.is
+    ∙ (c.in_ok-block.ensures
+    ∙ ap
+    (λ xs. option_and_then (if_committed r c.args.commitment.now)
+    (block_of r c.args.commitment.now.config xs))
+    (ap (map (λ x. x.now)) c.deref.ensures.value ∙ c.in_ok-chunks.ensures)))

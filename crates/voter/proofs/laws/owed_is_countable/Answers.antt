@@ -6,5 +6,6 @@ pub returns : goal.returns
 returns c = record {
   certificates = λ hash t owed notes ballots. cert_countable hash t notes ballots owed;
   votes = λ hash t owed notes ballots. vote_countable hash t notes ballots owed;
-  certified = λ hash t r p notes ballots. certified_countable t notes ballots (block_fits r t.notes) p;
+  certified =
+      λ hash t r p notes ballots. certified_countable t notes ballots (block_fits r t.notes) p;
 }

@@ -9,5 +9,7 @@ returns c = record {
   none = parent_missing;
   held = parent_held;
   next = parent_next;
-  falls = λ hash t epoch below view payload e. parent_falls (vote_rules hash t.epochs) t.notes epoch below view payload e;
+  falls =
+      λ hash t epoch below view payload e. parent_falls (vote_rules hash t.epochs) t.notes epoch
+      below view payload e;
 }

@@ -12,5 +12,8 @@ pub count-requires : goal.count-requires
 count-requires g c =
     let hash = g.H.Hasher.digest_of in
     let d = c.args.commitment.now in
-    all_mapped (λ (x : Chunk). IsTrue (checks hash d x)) (λ (x : Chunk). x.index < total_of d.config) (chunks_of d c.self.inside.kept) (λ x h. check_within hash d x h)
-    (all_of (λ (e : Commitment) (x : Chunk). IsTrue (checks hash e x)) d c.self.inside.kept c.self.invariant.check)
+    all_mapped (λ (x : Chunk). IsTrue (checks hash d x))
+    (λ (x : Chunk). x.index < total_of d.config) (chunks_of d c.self.inside.kept)
+    (λ x h. check_within hash d x h)
+    (all_of (λ (e : Commitment) (x : Chunk). IsTrue (checks hash e x)) d c.self.inside.kept
+    c.self.invariant.check)

@@ -13,7 +13,9 @@ shown-requires-after_bounds g c κs within =
     let hash = g.H.Hasher.digest_of in
     let d = c.args.commitment.now in
     let kept = c.self.inside.kept in
-    let is : map (λ (x : Bor Chunk). x.now) c.deref.result.now ≡ least_chunks d kept = ap (λ (xs : List (Bor Chunk)). map (λ (x : Bor Chunk). x.now) xs) c.deref.ensures.value ∙ c.in_ok-chunks.ensures in
+    let is : map (λ (x : Bor Chunk). x.now) c.deref.result.now ≡ least_chunks d kept =
+    ap (λ (xs : List (Bor Chunk)). map (λ (x : Bor Chunk). x.now) xs) c.deref.ensures.value
+    ∙ c.in_ok-chunks.ensures in
     let same = ap length is in
     let long = length-map c.deref.result.now (λ (x : Bor Chunk). x.now) in
     let taken = length-take d.config.minimum (by_index d kept) in
@@ -21,6 +23,10 @@ shown-requires-after_bounds g c κs within =
     record {
       some = omega arith;
       enough = omega arith;
-      check = subst (λ (xs : List Chunk). AreChecked hash d xs) (sym is) (least_all (λ (x : Chunk). IsTrue (checks hash d x)) d kept (all_of (λ (e : Commitment) (x : Chunk). IsTrue (checks hash e x)) d kept c.self.invariant.check));
+      check =
+          subst (λ (xs : List Chunk). AreChecked hash d xs) (sym is)
+          (least_all (λ (x : Chunk). IsTrue (checks hash d x)) d kept
+          (all_of (λ (e : Commitment) (x : Chunk). IsTrue (checks hash e x)) d kept
+          c.self.invariant.check));
       apart = subst AreApart (sym is) (least_apart d kept);
     }

@@ -15,10 +15,15 @@ loop-index-preserved c =
     let es = c.self.inside.chunks.entries in
     let d = c.args.commitment.now in
     let there : c.contains_key.result ≡ is_some (at_key es (key_of d c.loop-index.index)) =
-    c.contains_key.ensures ∙ ap is_some (at_key_found es c.new.result ∙ ap (at_key es) c.new.ensures) in
+    c.contains_key.ensures
+    ∙ ap is_some (at_key_found es c.new.result ∙ ap (at_key es) c.new.ensures) in
     elim c.if-contains_key.branch [
-      | then-contains_key w ↦ count_more (λ i. at_key es (key_of d i)) c.loop-index.index c.loop-index.count c.if-contains_key.count true c.loop-index.invariant.0 c.loop-index.invariant.1 (sym w.if-contains_key.true ∙ there) w.count-is
-      | else-contains_key w ↦ count_more (λ i. at_key es (key_of d i)) c.loop-index.index c.loop-index.count c.if-contains_key.count false c.loop-index.invariant.0 c.loop-index.invariant.1 (sym w.if-contains_key.false ∙ there) w.count-is
+      | then-contains_key w ↦ count_more (λ i. at_key es (key_of d i)) c.loop-index.index
+          c.loop-index.count c.if-contains_key.count true c.loop-index.invariant.0
+          c.loop-index.invariant.1 (sym w.if-contains_key.true ∙ there) w.count-is
+      | else-contains_key w ↦ count_more (λ i. at_key es (key_of d i)) c.loop-index.index
+          c.loop-index.count c.if-contains_key.count false c.loop-index.invariant.0
+          c.loop-index.invariant.1 (sym w.if-contains_key.false ∙ there) w.count-is
     ]
 
 pub returns : goal.returns
@@ -29,5 +34,8 @@ returns c =
     c.loop-index.invariant.0
     ∙ (ap (λ n. length (answers (λ i. at_key es (key_of d i)) 0 n)) whole
     ∙ (counted es d c.self.inside.order.items (total_of d.config) c.self.invariant
-    (subst (λ (kept : List KeptChunk). AllByRecursion (λ (x : Chunk). x.index < total_of d.config) (chunks_of d kept)) (sym c.self.view_is) c.requires)
+    (subst
+    (λ (kept : List KeptChunk). AllByRecursion (λ (x : Chunk). x.index < total_of d.config)
+    (chunks_of d kept))
+    (sym c.self.view_is) c.requires)
     ∙ ap (λ (kept : List KeptChunk). length (chunks_of d kept)) c.self.view_is))

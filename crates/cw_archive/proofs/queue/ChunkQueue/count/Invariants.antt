@@ -5,4 +5,6 @@ use Rattle.cw_archive.proofs.queue.ChunkQueue.count.Given as goal
 
 -- as many as were found so far
 abbrev pub invariant-loop-index : goal.invariant-loop-index
-invariant-loop-index l = (l.count ≡ length (answers (λ i. at_key l.chunks.entries (key_of l.commitment i)) 0 l.index)) × (l.count ≤ l.index)
+invariant-loop-index l =
+    (l.count ≡ length (answers (λ i. at_key l.chunks.entries (key_of l.commitment i)) 0 l.index))
+    × (l.count ≤ l.index)

@@ -10,5 +10,7 @@ returns c =
     c.get.ensures.value
     ∙ (at_key_found c.self.inside.chunks.entries c.new.result
     ∙ (ap (at_key c.self.inside.chunks.entries) c.new.ensures
-    ∙ (sym (chunk_at_found c.self.inside.chunks.entries c.args.commitment.now c.args.index c.self.inside.order.items c.self.invariant)
+    ∙ (sym
+    (chunk_at_found c.self.inside.chunks.entries c.args.commitment.now c.args.index
+    c.self.inside.order.items c.self.invariant)
     ∙ ap (λ kept. chunk_at c.args.commitment.now kept c.args.index) c.self.view_is)))

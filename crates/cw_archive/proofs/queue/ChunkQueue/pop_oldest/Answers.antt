@@ -21,8 +21,11 @@ returns-clause-value c =
     let new = c.remove.new.self.entries in
     c.remove.ensures.value
     ∙ (at_key_found es c.in_ok-key.key
-    ∙ (oldest es new c.pop_front.new.self.items c.in_ok-key.key (subst (λ (o : List ChunkKey). IsInOrder es o) c.in_ok-key.ensures.items c.self.invariant)
-    ∙ ap (λ (kept : List KeptChunk). option_map (λ (k : KeptChunk). k.chunk) (slice_get kept 0)) (ap (λ (o : List ChunkKey). kept_at es o) (sym c.in_ok-key.ensures.items) ∙ c.self.view_is)))
+    ∙ (oldest es new c.pop_front.new.self.items c.in_ok-key.key
+    (subst (λ (o : List ChunkKey). IsInOrder es o) c.in_ok-key.ensures.items c.self.invariant)
+    ∙ ap (λ (kept : List KeptChunk). option_map (λ (k : KeptChunk). k.chunk) (slice_get kept 0))
+    (ap (λ (o : List ChunkKey). kept_at es o) (sym c.in_ok-key.ensures.items)
+    ∙ c.self.view_is)))
 
 pub returns-clause-rest : goal.returns-clause-rest
 returns-clause-rest c =
@@ -31,4 +34,5 @@ returns-clause-rest c =
     kept_popped es new c.pop_front.new.self.items c.in_ok-key.key
     (subst (λ (o : List ChunkKey). IsInOrder es o) c.in_ok-key.ensures.items c.self.invariant)
     (sets_of es new c.in_ok-key.key None c.remove.ensures.updates.0)
-    ∙ ap (λ (kept : List KeptChunk). drop 1 kept) (ap (λ (o : List ChunkKey). kept_at es o) (sym c.in_ok-key.ensures.items) ∙ c.self.view_is)
+    ∙ ap (λ (kept : List KeptChunk). drop 1 kept)
+    (ap (λ (o : List ChunkKey). kept_at es o) (sym c.in_ok-key.ensures.items) ∙ c.self.view_is)

@@ -16,5 +16,15 @@ returns-clause-bytes c =
     let within : n ≤ length (drop at bytes) = omega (arith, count) in (
       sym (ap (λ (s : SourceState). s.left) c.self.view_is)
           ∙ read_front (drop at bytes) _ _ _ n front (sym (drop-drop n at bytes)) within,
-      λ none room. drop_all (at + n) bytes (omega (arith, c.self.invariant, c.copy_from_slice.ensures.len, count, c.min.ensures, length-drop {A = ℕ}, length-append {A = ℕ}, length-take {A = ℕ})),
+      λ none room. drop_all (at + n) bytes
+          (omega (
+            arith,
+            c.self.invariant,
+            c.copy_from_slice.ensures.len,
+            count,
+            c.min.ensures,
+            length-drop {A = ℕ},
+            length-append {A = ℕ},
+            length-take {A = ℕ},
+          )),
     )

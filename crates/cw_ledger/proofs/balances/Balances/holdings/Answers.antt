@@ -8,7 +8,8 @@ use Rattle.cw_ledger.proofs.balances.Balances.holdings.Goals as goal
 
 pub returns : goal.returns
 returns c =
-    let none : c.loop-account.account-iterator ≡ [] = rest_all deref_pair _ _ _ c.in-None.is c.next.ensures.steps in
+    let none : c.loop-account.account-iterator ≡ [] =
+    rest_all deref_pair _ _ _ c.in-None.is c.next.ensures.steps in
     sym (append-nil c.loop-account.found.items)
     ∙ ap (λ (es : List (ℕ × ℕ)). c.loop-account.found.items ++ held_in es) (sym none)
     ∙ c.loop-account.invariant

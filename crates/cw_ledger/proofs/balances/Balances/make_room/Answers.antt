@@ -13,6 +13,11 @@ loop-transfer-preserved c =
     let none : Transfer = record { from = 0; to = 0; amount = 0 } in
     let lt : i < length ts = omega arith in
     record {
-      room = subst (HasRoom new) (sym (take_more ts i none lt)) (room_more new (take i ts) (get_or ts i none) (room_stays c.loop-transfer.self new (take i ts) c.make_entry.ensures.stays c.loop-transfer.invariant.room) c.in_ok-make_entry.ensures.there);
+      room =
+          subst (HasRoom new) (sym (take_more ts i none lt))
+          (room_more new (take i ts) (get_or ts i none)
+          (room_stays c.loop-transfer.self new (take i ts) c.make_entry.ensures.stays
+          c.loop-transfer.invariant.room)
+          c.in_ok-make_entry.ensures.there);
       same = λ account. c.make_entry.ensures.same account ∙ c.loop-transfer.invariant.same account;
     }

@@ -15,4 +15,7 @@ some_height n m some same = go (n == 0) refl ∙ ap last_height same
 pub returns-in_default : goal.returns-in_default
 returns-in_default g c =
     let some : c.frames.result ≡ 0 → ⊥ = search rules in
-    some_height c.frames.result (length c.args.self.now.payloads) some (c.frames.ensures ∙ sym (as_many (log_frames c.self.inside.log) c.self.inside.balances c.self.invariant) ∙ ap (λ (s : Ledger g.row.D.Denot). length s.payloads) c.self.view_is)
+    some_height c.frames.result (length c.args.self.now.payloads) some
+    (c.frames.ensures
+    ∙ sym (as_many (log_frames c.self.inside.log) c.self.inside.balances c.self.invariant)
+    ∙ ap (λ (s : Ledger g.row.D.Denot). length s.payloads) c.self.view_is)

@@ -10,8 +10,11 @@ invariant-up g l =
     let content = g.H.Digest.Digest.content in
     record {
       within : l.used ≤ length l.siblings;
-      on_way : OnWay hash content l.count l.width l.at l.node (drop l.used l.siblings) (λ above. l.texts.items ++ above)
-          (option_map (λ above. l.fn.texts.items ++ above) (way_from hash content l.fn.count l.fn.count l.fn.count l.fn.index l.fn.leaf l.siblings));
+      on_way : OnWay hash content l.count l.width l.at l.node (drop l.used l.siblings)
+          (λ above. l.texts.items ++ above)
+          (option_map (λ above. l.fn.texts.items ++ above)
+          (way_from hash content l.fn.count l.fn.count l.fn.count l.fn.index l.fn.leaf
+          l.siblings));
     }
 
 abbrev pub decreases-up : goal.decreases-up

@@ -3,8 +3,10 @@ use Rattle.cw_types.proofs.commitment.Commitment.read.Goals as goal
 
 pub returns-in_err-config-clause-place : goal.returns-in_err-config-clause-place
 returns-in_err-config-clause-place c =
-    end_of_end (end_of_end c.read_digest.ensures.place c.read_digest-2.ensures.place) (end_of_end c.read_digest-3.ensures.place c.read.ensures.place)
+    end_of_end (end_of_end c.read_digest.ensures.place c.read_digest-2.ensures.place)
+    (end_of_end c.read_digest-3.ensures.place c.read.ensures.place)
 
 pub returns-clause-place : goal.returns-clause-place
 returns-clause-place c =
-    end_of_end (end_of_end c.read_digest.ensures.place c.read_digest-2.ensures.place) (end_of_end c.read_digest-3.ensures.place c.read.ensures.place)
+    end_of_end (end_of_end c.read_digest.ensures.place c.read_digest-2.ensures.place)
+    (end_of_end c.read_digest-3.ensures.place c.read.ensures.place)

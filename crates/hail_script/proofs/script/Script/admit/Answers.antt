@@ -10,51 +10,139 @@ use Rattle.hail_script.proofs.script.Script.admit.Goals as goal
 
 pub returns-in-Some-clause-err : goal.returns-in-Some-clause-err
 returns-in-Some-clause-err c =
-    let s : Scenario = record { committees = c.args.committees; backlog = c.args.backlog; lines = map line_of c.args.events } in
-    let sound : is_sound s.committees ≡ true = subst (λ (x : Epochs). is_sound x ≡ true) c.committees.view_is c.committees.invariant in
+    let s : Scenario =
+    record {
+      committees = c.args.committees;
+      backlog = c.args.backlog;
+      lines = map line_of c.args.events;
+    } in
+    let sound : is_sound s.committees ≡ true =
+    subst (λ (x : Epochs). is_sound x ≡ true) c.committees.view_is c.committees.invariant in
     let few = rw c.total.ensures at c.total.type_inv in
-    let first = sym (rw (c.total.ensures, c.as_slice-lines.ensures, c.requires.first) at c.first_unknown.ensures) ∙ c.in-Some.is in
+    let first =
+    sym
+    (rw (c.total.ensures, c.as_slice-lines.ensures, c.requires.first) at
+    c.first_unknown.ensures)
+    ∙ c.in-Some.is in
     inr (unknown s c.requires.some few sound c.in-Some.line first)
 
 pub returns-then-not-bears_all-clause-err : goal.returns-then-not-bears_all-clause-err
 returns-then-not-bears_all-clause-err c =
-    let s : Scenario = record { committees = c.args.committees; backlog = c.args.backlog; lines = map line_of c.args.events } in
-    let sound : is_sound s.committees ≡ true = subst (λ (x : Epochs). is_sound x ≡ true) c.committees.view_is c.committees.invariant in
+    let s : Scenario =
+    record {
+      committees = c.args.committees;
+      backlog = c.args.backlog;
+      lines = map line_of c.args.events;
+    } in
+    let sound : is_sound s.committees ≡ true =
+    subst (λ (x : Epochs). is_sound x ≡ true) c.committees.view_is c.committees.invariant in
     let few = rw c.total.ensures at c.total.type_inv in
-    let first = sym (rw (c.total.ensures, c.as_slice-lines.ensures, c.requires.first) at c.first_unknown.ensures) ∙ c.in_default.is in
-    let marks = rw (c.deref.ensures.value, c.in_ok-marks.ensures, c.total-2.ensures, c.as_slice-lines.ensures) at c.bears_all.ensures in
+    let first =
+    sym
+    (rw (c.total.ensures, c.as_slice-lines.ensures, c.requires.first) at
+    c.first_unknown.ensures)
+    ∙ c.in_default.is in
+    let marks =
+    rw (
+      c.deref.ensures.value,
+      c.in_ok-marks.ensures,
+      c.total-2.ensures,
+      c.as_slice-lines.ensures,
+    )
+    at c.bears_all.ensures in
     let bears = sym (sound_marked s sound) ∙ sym marks ∙ c.if-not-bears_all.true in
     inr (too_many s c.requires.some few sound first bears)
 
 pub returns-in-Some-first_oversize-clause-err : goal.returns-in-Some-first_oversize-clause-err
 returns-in-Some-first_oversize-clause-err c =
-    let s : Scenario = record { committees = c.args.committees; backlog = c.args.backlog; lines = map line_of c.args.events } in
-    let sound : is_sound s.committees ≡ true = subst (λ (x : Epochs). is_sound x ≡ true) c.committees.view_is c.committees.invariant in
+    let s : Scenario =
+    record {
+      committees = c.args.committees;
+      backlog = c.args.backlog;
+      lines = map line_of c.args.events;
+    } in
+    let sound : is_sound s.committees ≡ true =
+    subst (λ (x : Epochs). is_sound x ≡ true) c.committees.view_is c.committees.invariant in
     let few = rw c.total.ensures at c.total.type_inv in
-    let first = sym (rw (c.total.ensures, c.as_slice-lines.ensures, c.requires.first) at c.first_unknown.ensures) ∙ c.in_default.is in
-    let marks = rw (c.deref.ensures.value, c.in_ok-marks.ensures, c.total-2.ensures, c.as_slice-lines.ensures) at c.bears_all.ensures in
+    let first =
+    sym
+    (rw (c.total.ensures, c.as_slice-lines.ensures, c.requires.first) at
+    c.first_unknown.ensures)
+    ∙ c.in_default.is in
+    let marks =
+    rw (
+      c.deref.ensures.value,
+      c.in_ok-marks.ensures,
+      c.total-2.ensures,
+      c.as_slice-lines.ensures,
+    )
+    at c.bears_all.ensures in
     let bears = sym (sound_marked s sound) ∙ sym marks ∙ c.if-not-bears_all.false in
-    let long = sym (rw (c.as_slice-lines.ensures, c.requires.first) at c.first_oversize.ensures) ∙ c.in-Some-first_oversize.is in
+    let long =
+    sym (rw (c.as_slice-lines.ensures, c.requires.first) at c.first_oversize.ensures)
+    ∙ c.in-Some-first_oversize.is in
     inr (oversize s c.requires.some few sound c.in-Some-first_oversize.line first bears long)
 
 pub invariant_of-result : goal.invariant_of-result
 invariant_of-result c =
-    let s : Scenario = record { committees = c.args.committees; backlog = c.args.backlog; lines = map line_of c.args.events } in
-    let sound : is_sound s.committees ≡ true = subst (λ (x : Epochs). is_sound x ≡ true) c.committees.view_is c.committees.invariant in
+    let s : Scenario =
+    record {
+      committees = c.args.committees;
+      backlog = c.args.backlog;
+      lines = map line_of c.args.events;
+    } in
+    let sound : is_sound s.committees ≡ true =
+    subst (λ (x : Epochs). is_sound x ≡ true) c.committees.view_is c.committees.invariant in
     let few = rw c.total.ensures at c.total.type_inv in
-    let first = sym (rw (c.total.ensures, c.as_slice-lines.ensures, c.requires.first) at c.first_unknown.ensures) ∙ c.in_default.is in
-    let marks = rw (c.deref.ensures.value, c.in_ok-marks.ensures, c.total-2.ensures, c.as_slice-lines.ensures) at c.bears_all.ensures in
+    let first =
+    sym
+    (rw (c.total.ensures, c.as_slice-lines.ensures, c.requires.first) at
+    c.first_unknown.ensures)
+    ∙ c.in_default.is in
+    let marks =
+    rw (
+      c.deref.ensures.value,
+      c.in_ok-marks.ensures,
+      c.total-2.ensures,
+      c.as_slice-lines.ensures,
+    )
+    at c.bears_all.ensures in
     let bears = sym (sound_marked s sound) ∙ sym marks ∙ c.if-not-bears_all.false in
-    let long = sym (rw (c.as_slice-lines.ensures, c.requires.first) at c.first_oversize.ensures) ∙ c.in_default-first_oversize.is in
-    (c.requires.backlog, c.requires.first, c.requires.few, runnable s c.requires.some few sound first bears long c.requires.later)
+    let long =
+    sym (rw (c.as_slice-lines.ensures, c.requires.first) at c.first_oversize.ensures)
+    ∙ c.in_default-first_oversize.is in (
+      c.requires.backlog,
+      c.requires.first,
+      c.requires.few,
+      runnable s c.requires.some few sound first bears long c.requires.later,
+    )
 
 pub returns-clause-ok : goal.returns-clause-ok
 returns-clause-ok c =
-    let s : Scenario = record { committees = c.args.committees; backlog = c.args.backlog; lines = map line_of c.args.events } in
-    let sound : is_sound s.committees ≡ true = subst (λ (x : Epochs). is_sound x ≡ true) c.committees.view_is c.committees.invariant in
+    let s : Scenario =
+    record {
+      committees = c.args.committees;
+      backlog = c.args.backlog;
+      lines = map line_of c.args.events;
+    } in
+    let sound : is_sound s.committees ≡ true =
+    subst (λ (x : Epochs). is_sound x ≡ true) c.committees.view_is c.committees.invariant in
     let few = rw c.total.ensures at c.total.type_inv in
-    let first = sym (rw (c.total.ensures, c.as_slice-lines.ensures, c.requires.first) at c.first_unknown.ensures) ∙ c.in_default.is in
-    let marks = rw (c.deref.ensures.value, c.in_ok-marks.ensures, c.total-2.ensures, c.as_slice-lines.ensures) at c.bears_all.ensures in
+    let first =
+    sym
+    (rw (c.total.ensures, c.as_slice-lines.ensures, c.requires.first) at
+    c.first_unknown.ensures)
+    ∙ c.in_default.is in
+    let marks =
+    rw (
+      c.deref.ensures.value,
+      c.in_ok-marks.ensures,
+      c.total-2.ensures,
+      c.as_slice-lines.ensures,
+    )
+    at c.bears_all.ensures in
     let bears = sym (sound_marked s sound) ∙ sym marks ∙ c.if-not-bears_all.false in
-    let long = sym (rw (c.as_slice-lines.ensures, c.requires.first) at c.first_oversize.ensures) ∙ c.in_default-first_oversize.is in
+    let long =
+    sym (rw (c.as_slice-lines.ensures, c.requires.first) at c.first_oversize.ensures)
+    ∙ c.in_default-first_oversize.is in
     runs s c.requires.some few sound first bears long

@@ -10,13 +10,31 @@ use Rattle.hail_script.proofs.script.Script.admit_epochs.Goals as goal
 
 pub returns-then-not-are_sized-clause-err : goal.returns-then-not-are_sized-clause-err
 returns-then-not-are_sized-clause-err c =
-    let s : Scenario = record { committees = record { total = c.args.members; span = Some c.args.span; lists = c.args.lists }; backlog = c.args.backlog; lines = map line_of c.args.events } in
+    let s : Scenario =
+    record {
+      committees = record {
+        total = c.args.members;
+        span = Some c.args.span;
+        lists = c.args.lists;
+      };
+      backlog = c.args.backlog;
+      lines = map line_of c.args.events;
+    } in
     let sized = sym (rw c.as_slice.ensures at c.are_sized.ensures) ∙ c.if-not-are_sized.true in
     inr (unsized s sized)
 
 pub returns-in-Some-clause-err : goal.returns-in-Some-clause-err
 returns-in-Some-clause-err c =
-    let s : Scenario = record { committees = record { total = c.args.members; span = Some c.args.span; lists = c.args.lists }; backlog = c.args.backlog; lines = map line_of c.args.events } in
+    let s : Scenario =
+    record {
+      committees = record {
+        total = c.args.members;
+        span = Some c.args.span;
+        lists = c.args.lists;
+      };
+      backlog = c.args.backlog;
+      lines = map line_of c.args.events;
+    } in
     let sized = sym (rw c.as_slice.ensures at c.are_sized.ensures) ∙ c.if-not-are_sized.false in
     let first = sym (rw c.as_slice-2.ensures at c.first_strange.ensures) ∙ c.in-Some.is in
     inr (strange s c.in-Some.line sized first)
@@ -25,6 +43,8 @@ pub committees_of-requires-clause-committees : goal.committees_of-requires-claus
 committees_of-requires-clause-committees c =
     let lists = c.args.lists in
     let sized = sym (rw c.as_slice.ensures at c.are_sized.ensures) ∙ c.if-not-are_sized.false in
-    let long = (and_parts (nat_lt c.args.members (2 ^ 16)) _ (and_parts (nat_le 4 c.args.members) _ sized).1).1 in
+    let long =
+    (and_parts (nat_lt c.args.members (2 ^ 16)) _
+    (and_parts (nat_le 4 c.args.members) _ sized).1).1 in
     let first = sym (rw c.as_slice-2.ensures at c.first_strange.ensures) ∙ c.in_default.is in
     rw c.as_slice-3.ensures (committees c.args.members lists long c.requires.rise first)

@@ -10,5 +10,7 @@ returns c r is =
     let x = c.self.inside.committees in
     let lines = map line_of c.self.inside.events in
     let sound = c.committees_are_sound.ensures in
-    let here = cluster x lines c.self.invariant.3.few sound.enough sound.rising sound.there sound.spans r (is ∙ sym (ap (λ (s : Scenario). s.committees) c.self.view_is)) in
+    let here =
+    cluster x lines c.self.invariant.3.few sound.enough sound.rising sound.there sound.spans r
+    (is ∙ sym (ap (λ (s : Scenario). s.committees) c.self.view_is)) in
     subst (λ (s : Scenario). IsCluster r s.lines) c.self.view_is here

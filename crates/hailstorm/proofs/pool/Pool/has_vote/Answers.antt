@@ -8,4 +8,5 @@ use Rattle.hailstorm.proofs.pool.Pool.has_vote.Goals as goal
 pub returns : goal.returns
 returns c =
     let test = is_sent_vote c.args.member c.args.vote.now in
-    c.has.ensures ∙ c.self.invariant.1 c.args.member c.args.vote.now ∙ ap (λ (l : List Entry). list_any test (sent_in l)) c.self.view_is
+    c.has.ensures ∙ c.self.invariant.1 c.args.member c.args.vote.now
+    ∙ ap (λ (l : List Entry). list_any test (sent_in l)) c.self.view_is

@@ -5,4 +5,7 @@ use Rattle.hailstorm.proofs.storm.Drawn.deliver_from.Given as goal
 
 -- what is left from here makes the whole
 abbrev pub invariant-loop-step : goal.invariant-loop-step
-invariant-loop-step l = deliver_from (l.count - l.step) (l.first + l.step) (drawn (string_bytes l.self.text) l.self.state) ≡ deliver_from l.count l.first (drawn (string_bytes l.initial.self.text) l.initial.self.state)
+invariant-loop-step l =
+    deliver_from (l.count - l.step) (l.first + l.step)
+    (drawn (string_bytes l.self.text) l.self.state)
+    ≡ deliver_from l.count l.first (drawn (string_bytes l.initial.self.text) l.initial.self.state)

@@ -12,16 +12,27 @@ pub returns-in-Ok-clause-ok : goal.returns-in-Ok-clause-ok
 returns-in-Ok-clause-ok g c = λ text spells.
     let i = c.self.inside in
     let hash = g.H.Hasher.digest_of in
-    let nothing = subst (λ (t : Turning). t.stopped ≡ None → flat_map (λ lane. lane) (left (lanes t.laned) t.order) ≡ []) (sym c.self.view_is) c.requires c.in-None.is in
-    let backlog = c.backlog-backlog.ensures.value ∙ ap (λ (s : Scenario). s.backlog) c.script-2.ensures in
-    ends_reported hash i.script i.order i.stopped i.opening i.cursors.items i.pool i.places.items i.faulty.items c.self.invariant text c.in-Ok.report
-    (subst (λ (t : Turning). laned_of text ≡ Ok t.laned) (sym c.self.view_is) spells) c.in-None.is nothing c.in-Ok.ensures
-    ((rw c.script.ensures at c.is_cluster.ensures) (rules_of hash i.script.script) refl) (omega (arith, backlog, c.backlog-backlog.ensures.bound)) c.report_laws.ensures
+    let nothing =
+    subst
+    (λ (t : Turning). t.stopped ≡ None
+    → flat_map (λ lane. lane) (left (lanes t.laned) t.order) ≡ [])
+    (sym c.self.view_is) c.requires c.in-None.is in
+    let backlog =
+    c.backlog-backlog.ensures.value ∙ ap (λ (s : Scenario). s.backlog) c.script-2.ensures in
+    ends_reported hash i.script i.order i.stopped i.opening i.cursors.items i.pool i.places.items
+    i.faulty.items c.self.invariant text c.in-Ok.report
+    (subst (λ (t : Turning). laned_of text ≡ Ok t.laned) (sym c.self.view_is) spells) c.in-None.is
+    nothing c.in-Ok.ensures
+    ((rw c.script.ensures at c.is_cluster.ensures) (rules_of hash i.script.script) refl)
+    (omega (arith, backlog, c.backlog-backlog.ensures.bound)) c.report_laws.ensures
 
 pub returns-clause-err : goal.returns-clause-err
 returns-clause-err g c = λ text spells.
     let i = c.self.inside in
     let hash = g.H.Hasher.digest_of in
     rw c.order_beside.ensures
-    (over_cause hash text i.script i.order c.in-Some.error (subst (λ (t : Turning). laned_of text ≡ Ok t.laned) (sym c.self.view_is) spells)
-    (over_of hash i.script i.order i.stopped i.opening i.cursors.items i.pool i.places.items i.faulty.items c.self.invariant c.in-Some.error c.in-Some.is) c.clash_laws.ensures.blocks)
+    (over_cause hash text i.script i.order c.in-Some.error
+    (subst (λ (t : Turning). laned_of text ≡ Ok t.laned) (sym c.self.view_is) spells)
+    (over_of hash i.script i.order i.stopped i.opening i.cursors.items i.pool i.places.items
+    i.faulty.items c.self.invariant c.in-Some.error c.in-Some.is)
+    c.clash_laws.ensures.blocks)

@@ -11,16 +11,28 @@ pub returns-clause-some : goal.returns-clause-some
 returns-clause-some g c =
     let i = c.self.inside in
     let none = none_unless i.stopped (sym c.is_some.ensures ∙ c.if-is_some.false) in
-    let many = rows_many i.script c.lines-count.result.now (c.lines-count.ensures.value ∙ ap (λ (s : Scenario). s.lines) c.script.ensures) in
-    subst (λ (t : Turning). IfSome c.first_left.result (λ k. (t.stopped ≡ None) × (0 < length (lane_at (left (lanes t.laned) t.order) k)))) c.self.view_is
-    (some_next g.H.Hasher.digest_of i.script i.order i.stopped i.opening i.cursors.items i.pool i.places.items i.faulty.items c.self.invariant c.deref.result.now (length c.lines-count.result.now) c.first_left.result
+    let many =
+    rows_many i.script c.lines-count.result.now
+    (c.lines-count.ensures.value ∙ ap (λ (s : Scenario). s.lines) c.script.ensures) in
+    subst
+    (λ (t : Turning). IfSome c.first_left.result
+    (λ k. (t.stopped ≡ None) × (0 < length (lane_at (left (lanes t.laned) t.order) k))))
+    c.self.view_is
+    (some_next g.H.Hasher.digest_of i.script i.order i.stopped i.opening i.cursors.items i.pool
+    i.places.items i.faulty.items c.self.invariant c.deref.result.now
+    (length c.lines-count.result.now) c.first_left.result
     none c.deref.ensures.value many c.first_left.ensures.some)
 
 pub returns-clause-none : goal.returns-clause-none
 returns-clause-none g c = λ nothing _.
     let i = c.self.inside in
     let none = none_unless i.stopped (sym c.is_some.ensures ∙ c.if-is_some.false) in
-    let many = rows_many i.script c.lines-count.result.now (c.lines-count.ensures.value ∙ ap (λ (s : Scenario). s.lines) c.script.ensures) in
-    subst (λ (t : Turning). flat_map (λ lane. lane) (left (lanes t.laned) t.order) ≡ []) c.self.view_is
-    (none_next g.H.Hasher.digest_of i.script i.order i.stopped i.opening i.cursors.items i.pool i.places.items i.faulty.items c.self.invariant c.deref.result.now (length c.lines-count.result.now)
+    let many =
+    rows_many i.script c.lines-count.result.now
+    (c.lines-count.ensures.value ∙ ap (λ (s : Scenario). s.lines) c.script.ensures) in
+    subst (λ (t : Turning). flat_map (λ lane. lane) (left (lanes t.laned) t.order) ≡ [])
+    c.self.view_is
+    (none_next g.H.Hasher.digest_of i.script i.order i.stopped i.opening i.cursors.items i.pool
+    i.places.items i.faulty.items c.self.invariant c.deref.result.now
+    (length c.lines-count.result.now)
     none c.deref.ensures.value many (c.first_left.ensures.none nothing))

@@ -12,4 +12,5 @@ loop-one-preserved c before told =
     let next = rw (← c.one-item.is) at more in
     let kept = c.in_ok-take.ensures (before ++ front) (c.loop-one.invariant before told) in
     subst (λ (l : List Sent). TellVotes c.take.new.self.rounds (before ++ l)) (sym next)
-    (subst (λ (l : List Sent). TellVotes c.take.new.self.rounds l) (append_assoc before front (one ∷ [])) kept)
+    (subst (λ (l : List Sent). TellVotes c.take.new.self.rounds l)
+    (append_assoc before front (one ∷ [])) kept)

@@ -5,4 +5,6 @@ use Rattle.hailstorm.proofs.votes.Votes.take_all.Given as goal
 
 -- what is kept tells of the messages so far
 abbrev pub invariant-loop-one : goal.invariant-loop-one
-invariant-loop-one l = (before : List Sent) → TellVotes l.fn.self.rounds before → TellVotes l.self.rounds (before ++ take l.one-index l.sent)
+invariant-loop-one l =
+    (before : List Sent) → TellVotes l.fn.self.rounds before
+    → TellVotes l.self.rounds (before ++ take l.one-index l.sent)

@@ -18,7 +18,14 @@ invariant_of-self-2 g c =
     in
     let counted = c.self.invariant.1 in (
       IsReplay-append _ _ old _ _ _ _ _ c.self.invariant.0 c.turned-stored.ensures.lawful added,
-      rw added (omega (arith, length-append old ((c.args.event, c.turned-stored.result.0) ∷ []), counted, c.add.ensures.total, c.audit.ensures.total)),
+      rw added
+          (omega (
+            arith,
+            length-append old ((c.args.event, c.turned-stored.result.0) ∷ []),
+            counted,
+            c.add.ensures.total,
+            c.audit.ensures.total,
+          )),
       rw (added, c.put-2.ensures.items, c.reserve-2.ensures.items, c.self.invariant.2, map-append),
     )
 

@@ -15,9 +15,15 @@ returns-in_err-before-clause-disk g c =
     let r = rules_of g.H.Hasher.digest_of g.A.Application.accepts h in
     let notes = notes_of_event r (g.V.Verifier.signs c.args.verifier.now) c.args.event.now h in
     let log = ap (λ (k : Holding g.row.D.Denot g.row.A.Denot). k.log) c.prepare.ensures.kept in
-    let laws = g.met.D.Disk g.world.𝓛 g.world.𝓜 g.world.𝓡 ((λ s x. x), (λ x. x), (λ x. x), λ x. x) in
-    subst (λ (x : Result StepOut StoreError). HasTried g.D.Disk.state g.D.Disk.continues h.store.frames notes x h.log c.prepare.new.self.log) (sym (err_is c.from_residual.result c.from_residual.ensures.1))
-    (tried_none g.D.Disk.state g.D.Disk.continues laws.continues_itself {X = StepOut} h.store.frames notes h.log c.prepare.new.self.log (c.rests.ensures.still c.requires.stands.running notes) log)
+    let laws =
+    g.met.D.Disk g.world.𝓛 g.world.𝓜 g.world.𝓡 ((λ s x. x), (λ x. x), (λ x. x), λ x. x) in
+    subst
+    (λ (x : Result StepOut StoreError). HasTried g.D.Disk.state g.D.Disk.continues
+    h.store.frames notes x h.log c.prepare.new.self.log)
+    (sym (err_is c.from_residual.result c.from_residual.ensures.1))
+    (tried_none g.D.Disk.state g.D.Disk.continues laws.continues_itself {X = StepOut} h.store.frames
+    notes h.log c.prepare.new.self.log (c.rests.ensures.still c.requires.stands.running notes)
+    log)
 
 pub answer-requires-clause-stands : goal.answer-requires-clause-stands
 answer-requires-clause-stands g c κs within =
@@ -45,7 +51,8 @@ answer-requires-clause-notes g c κs within =
     let acted = c.in_ok-before.ensures.acted in
     let kept = c.in_ok-before.ensures.kept in
     let is = c.in_ok-commit.ensures.ok in
-    no_fewer hash accepts signed ev h b m c.in_ok-before.before.notes acted is c.in_ok-before.ensures.before.notes
+    no_fewer hash accepts signed ev h b m c.in_ok-before.before.notes acted is
+    c.in_ok-before.ensures.before.notes
 
 pub returns-clause-step : goal.returns-clause-step
 returns-clause-step g c =
@@ -60,9 +67,14 @@ returns-clause-step g c =
     let kept = c.in_ok-before.ensures.kept in
     let is = c.in_ok-commit.ensures.ok in
     let rules = ap (λ (k : Holding g.row.D.Denot g.row.A.Denot). rules_of hash accepts k) kept in
-    let later = ap (λ (k : Holding g.row.D.Denot g.row.A.Denot). rules_of hash accepts k) is ∙ rules in
-    let before = subst (λ (r : Rules). IsBefore r ev (state_of h) c.in_ok-before.before) (sym later) c.in_ok-before.ensures.before in
-    whole_step hash accepts signed ev h b m c.answer.new.self c.in_ok-out.out c.requires.quiet acted rules (ap (λ (k : Holding g.row.D.Denot g.row.A.Denot). k.id) kept) is (c.in_ok-out.ensures.answer (state_of h) before)
+    let later =
+    ap (λ (k : Holding g.row.D.Denot g.row.A.Denot). rules_of hash accepts k) is ∙ rules in
+    let before =
+    subst (λ (r : Rules). IsBefore r ev (state_of h) c.in_ok-before.before) (sym later)
+    c.in_ok-before.ensures.before in
+    whole_step hash accepts signed ev h b m c.answer.new.self c.in_ok-out.out c.requires.quiet acted
+    rules (ap (λ (k : Holding g.row.D.Denot g.row.A.Denot). k.id) kept) is
+    (c.in_ok-out.ensures.answer (state_of h) before)
 
 pub returns-clause-ready : goal.returns-clause-ready
 returns-clause-ready g c =
@@ -77,10 +89,15 @@ returns-clause-ready g c =
     let kept = c.in_ok-before.ensures.kept in
     let is = c.in_ok-commit.ensures.ok in
     let rules = ap (λ (k : Holding g.row.D.Denot g.row.A.Denot). rules_of hash accepts k) kept in
-    let later = ap (λ (k : Holding g.row.D.Denot g.row.A.Denot). rules_of hash accepts k) is ∙ rules in
-    let before = subst (λ (r : Rules). IsBefore r ev (state_of h) c.in_ok-before.before) (sym later) c.in_ok-before.ensures.before in
+    let later =
+    ap (λ (k : Holding g.row.D.Denot g.row.A.Denot). rules_of hash accepts k) is ∙ rules in
+    let before =
+    subst (λ (r : Rules). IsBefore r ev (state_of h) c.in_ok-before.before) (sym later)
+    c.in_ok-before.ensures.before in
     let left = (c.in_ok-out.ensures.answer (state_of h) before).left in
     record {
       stands = c.in_ok-out.ensures.stands;
-      quiet = ap (λ (k : Holding g.row.D.Denot g.row.A.Denot). k.store.staged) left ∙ ap (λ (k : Holding g.row.D.Denot g.row.A.Denot). k.store.staged) is;
+      quiet =
+          ap (λ (k : Holding g.row.D.Denot g.row.A.Denot). k.store.staged) left
+          ∙ ap (λ (k : Holding g.row.D.Denot g.row.A.Denot). k.store.staged) is;
     }

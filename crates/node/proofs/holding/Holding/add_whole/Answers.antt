@@ -13,9 +13,22 @@ returns-clause-ok g c =
     let hash = g.H.Hasher.digest_of in
     let r = rules_of hash g.A.Application.accepts h in
     let e = c.self.view_is in
-    let arrival = λ (m : Commitment). let a : Arrival = record { commitment = m; block = Some c.args.block } in a in
-    let t = c.in_ok-push.ensures.ok ∙ (ap (λ (k : Holding g.row.D.Denot g.row.A.Denot). k.arrivals ++ arrival c.args.commitment ∷ []) e ∙ ap (λ (m : Commitment). h.arrivals ++ arrival m ∷ []) c.requires.commitment) in
+    let arrival =
+    λ (m : Commitment). let a : Arrival = record {
+      commitment = m;
+      block = Some c.args.block;
+    } in
+    a in
+    let t =
+    c.in_ok-push.ensures.ok
+    ∙ (ap
+    (λ (k : Holding g.row.D.Denot g.row.A.Denot). k.arrivals
+    ++ arrival c.args.commitment ∷ [])
+    e
+    ∙ ap (λ (m : Commitment). h.arrivals ++ arrival m ∷ []) c.requires.commitment) in
     came_whole hash g.A.Application.accepts h _ c.args.block c.requires.stands c.requires.new
-    (c.standing_is_kept.ensures.whole_block hash h.tally r (state_of h) c.requires.stands.tally c.args.block)
-    (c.shards_stand.ensures.events hash h.shards r (came_of h) c.requires.stands.shards (λ i v. true) (event.Deliver (message.Block c.args.block)))
+    (c.standing_is_kept.ensures.whole_block hash h.tally r (state_of h) c.requires.stands.tally
+    c.args.block)
+    (c.shards_stand.ensures.events hash h.shards r (came_of h) c.requires.stands.shards
+    (λ i v. true) (event.Deliver (message.Block c.args.block)))
     (λ i. record (e i) { arrivals = t i })

@@ -8,7 +8,11 @@ returns-clause-ok g c =
     let h = c.args.self.now in
     let hash = g.H.Hasher.digest_of in
     let e = c.self.view_is in
-    let t = c.in_ok-push.ensures.ok ∙ ap (λ (k : Holding g.row.D.Denot g.row.A.Denot). k.wishes ++ c.args.commitment.now ∷ []) e in
+    let t =
+    c.in_ok-push.ensures.ok
+    ∙ ap (λ (k : Holding g.row.D.Denot g.row.A.Denot). k.wishes ++ c.args.commitment.now ∷ [])
+    e in
     came_wish hash g.A.Application.accepts h _ c.args.commitment.now c.requires
-    (c.standing_is_kept.ensures.wish hash h.tally (rules_of hash g.A.Application.accepts h) (state_of h) c.requires.tally c.args.commitment.now)
+    (c.standing_is_kept.ensures.wish hash h.tally (rules_of hash g.A.Application.accepts h)
+    (state_of h) c.requires.tally c.args.commitment.now)
     (λ i. record (e i) { wishes = t i })

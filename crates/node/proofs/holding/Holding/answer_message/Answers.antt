@@ -10,9 +10,21 @@ use Rattle.node.proofs.holding.Holding.answer_message.Goals as goal
 pub returns-in-Ask : goal.returns-in-Ask
 returns-in-Ask g c =
     let h = c.args.self.now in
-    subst (λ (m : Message). OnOk c.answer_ask.result (c.answer_ask.new.out.items ≡ c.args.out.now.items ++ answer (rules_of g.H.Hasher.digest_of g.A.Application.accepts h) h.id (stored_notes h.store) (event.Deliver m))) (sym c.in-Ask.is) c.answer_ask.ensures
+    subst
+    (λ (m : Message). OnOk c.answer_ask.result
+    (c.answer_ask.new.out.items
+    ≡ c.args.out.now.items
+    ++ answer (rules_of g.H.Hasher.digest_of g.A.Application.accepts h) h.id
+    (stored_notes h.store) (event.Deliver m)))
+    (sym c.in-Ask.is) c.answer_ask.ensures
 
 pub returns-in-AskHeight : goal.returns-in-AskHeight
 returns-in-AskHeight g c =
     let h = c.args.self.now in
-    subst (λ (m : Message). OnOk c.answer_height.result (c.answer_height.new.out.items ≡ c.args.out.now.items ++ answer (rules_of g.H.Hasher.digest_of g.A.Application.accepts h) h.id (stored_notes h.store) (event.Deliver m))) (sym c.in-AskHeight.is) c.answer_height.ensures
+    subst
+    (λ (m : Message). OnOk c.answer_height.result
+    (c.answer_height.new.out.items
+    ≡ c.args.out.now.items
+    ++ answer (rules_of g.H.Hasher.digest_of g.A.Application.accepts h) h.id
+    (stored_notes h.store) (event.Deliver m)))
+    (sym c.in-AskHeight.is) c.answer_height.ensures

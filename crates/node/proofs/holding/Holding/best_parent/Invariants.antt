@@ -10,7 +10,8 @@ invariant-loop-parent g l =
     let r = rules_of g.H.Hasher.digest_of g.A.Application.accepts l.self in
     record {
       low : l.below ≤ l.fn.view;
-      rest : best_parent r (stored_notes l.self.store) l.epoch l.fn.view ≡ best_from r l.self.tally.notes l.epoch l.below;
+      rest : best_parent r (stored_notes l.self.store) l.epoch l.fn.view
+          ≡ best_from r l.self.tally.notes l.epoch l.below;
     }
 
 abbrev pub decreases-loop-parent : goal.decreases-loop-parent

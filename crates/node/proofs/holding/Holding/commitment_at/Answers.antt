@@ -11,5 +11,14 @@ returns g c =
     let h = c.args.self.now in
     let hash = g.H.Hasher.digest_of in
     let s = c.requires in
-    let same = ap (λ (k : Holding g.row.D.Denot g.row.A.Denot). at_height (stored_rules hash k.store) (stored_notes k.store) c.args.height) c.self.view_is in
-    c.commitment_at.ensures ∙ (same ∙ ((λ i. at_height (coded hash (s.epochs i) (s.backlog i) (λ b a. true)) (stored_notes h.store) c.args.height) ∙ any_height hash h.epochs h.backlog (g.A.Application.accepts h.app) (stored_notes h.store) c.args.height))
+    let same =
+    ap
+    (λ (k : Holding g.row.D.Denot g.row.A.Denot). at_height (stored_rules hash k.store)
+    (stored_notes k.store) c.args.height)
+    c.self.view_is in
+    c.commitment_at.ensures
+    ∙ (same
+    ∙ ((λ i. at_height (coded hash (s.epochs i) (s.backlog i) (λ b a. true))
+    (stored_notes h.store) c.args.height)
+    ∙ any_height hash h.epochs h.backlog (g.A.Application.accepts h.app)
+    (stored_notes h.store) c.args.height))

@@ -13,5 +13,17 @@ returns g c =
     let hash = g.H.Hasher.digest_of in
     let s = c.requires in
     let all = stored_notes h.store in
-    let same = ap (λ (k : Holding g.row.D.Denot g.row.A.Denot). first_some (finalization_at (stored_rules hash k.store) (stored_notes k.store) c.args.height) (stored_notes k.store)) c.self.view_is in
-    c.finalization.ensures ∙ (same ∙ ((λ i. first_some (finalization_at (coded hash (s.epochs i) (s.backlog i) (λ b a. true)) all c.args.height) all) ∙ any_finalization hash h.epochs h.backlog (g.A.Application.accepts h.app) all c.args.height))
+    let same =
+    ap
+    (λ (k : Holding g.row.D.Denot g.row.A.Denot). first_some
+    (finalization_at (stored_rules hash k.store) (stored_notes k.store) c.args.height)
+    (stored_notes k.store))
+    c.self.view_is in
+    c.finalization.ensures
+    ∙ (same
+    ∙ ((λ i. first_some
+    (finalization_at (coded hash (s.epochs i) (s.backlog i) (λ b a. true)) all
+    c.args.height)
+    all)
+    ∙ any_finalization hash h.epochs h.backlog (g.A.Application.accepts h.app) all
+    c.args.height))

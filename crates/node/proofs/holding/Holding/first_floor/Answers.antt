@@ -9,12 +9,15 @@ pub returns-in-Some-clause-value : goal.returns-in-Some-clause-value
 returns-in-Some-clause-value g c =
     let h = c.args.self.now in
     let f = floor_owed (rules_of g.H.Hasher.digest_of g.A.Application.accepts h) (state_of h) in
-    first_here f c.args.wishes.now c.loop-wish.wish-index c.wish-item.result (Note.Floor c.in-Some.height) c.loop-wish-test.true c.wish-item.is
+    first_here f c.args.wishes.now c.loop-wish.wish-index c.wish-item.result
+    (Note.Floor c.in-Some.height) c.loop-wish-test.true c.wish-item.is
     (sym c.floor_for.ensures.value ∙ ap (option_map Note.Floor) c.in-Some.is) c.loop-wish.invariant
 
 pub loop-wish-preserved : goal.loop-wish-preserved
 loop-wish-preserved g c =
     let h = c.args.self.now in
     let f = floor_owed (rules_of g.H.Hasher.digest_of g.A.Application.accepts h) (state_of h) in
-    first_next f c.args.wishes.now c.loop-wish.wish-index c.wish-item.result c.loop-wish-test.true c.wish-item.is
-    (sym c.floor_for.ensures.value ∙ ap (option_map Note.Floor) c.in_default.is) c.loop-wish.invariant
+    first_next f c.args.wishes.now c.loop-wish.wish-index c.wish-item.result c.loop-wish-test.true
+    c.wish-item.is
+    (sym c.floor_for.ensures.value ∙ ap (option_map Note.Floor) c.in_default.is)
+    c.loop-wish.invariant

@@ -6,5 +6,7 @@ use Rattle.node.proofs.holding.Holding.first_floor.Given as goal
 
 abbrev pub invariant-loop-wish : goal.invariant-loop-wish
 invariant-loop-wish g l =
-    let f = floor_owed (rules_of g.H.Hasher.digest_of g.A.Application.accepts l.self) (state_of l.self) in
+    let f =
+    floor_owed (rules_of g.H.Hasher.digest_of g.A.Application.accepts l.self)
+    (state_of l.self) in
     first_some f (drop l.wish-index l.wishes) ≡ first_some f l.wishes

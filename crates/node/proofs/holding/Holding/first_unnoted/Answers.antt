@@ -11,7 +11,9 @@ returns-in-Some g c =
     let h = c.args.self.now in
     let f = arrival_owed (rules_of g.H.Hasher.digest_of g.A.Application.accepts h) (state_of h) in
     let note = λ (b : Bor Block). Note.Block c.arrival-item.result.commitment b.now in
-    first_here f c.args.arrivals.now c.loop-arrival.arrival-index c.arrival-item.result (Note.Block c.arrival-item.result.commitment c.in-Some.block.now) c.loop-arrival-test.true c.arrival-item.is
+    first_here f c.args.arrivals.now c.loop-arrival.arrival-index c.arrival-item.result
+    (Note.Block c.arrival-item.result.commitment c.in-Some.block.now) c.loop-arrival-test.true
+    c.arrival-item.is
     (sym c.unnoted.ensures ∙ ap (option_map note) c.in-Some.is) c.loop-arrival.invariant
 
 pub loop-arrival-preserved : goal.loop-arrival-preserved
@@ -19,5 +21,6 @@ loop-arrival-preserved g c =
     let h = c.args.self.now in
     let f = arrival_owed (rules_of g.H.Hasher.digest_of g.A.Application.accepts h) (state_of h) in
     let note = λ (b : Bor Block). Note.Block c.arrival-item.result.commitment b.now in
-    first_next f c.args.arrivals.now c.loop-arrival.arrival-index c.arrival-item.result c.loop-arrival-test.true c.arrival-item.is
+    first_next f c.args.arrivals.now c.loop-arrival.arrival-index c.arrival-item.result
+    c.loop-arrival-test.true c.arrival-item.is
     (sym c.unnoted.ensures ∙ ap (option_map note) c.in_default.is) c.loop-arrival.invariant

@@ -13,8 +13,17 @@ returns-clause-value g c =
     let h = c.args.self.now in
     let hash = g.H.Hasher.digest_of in
     let s = c.requires.stands in
-    let same = ap (λ (k : Holding g.row.D.Denot g.row.A.Denot). deliveries (stored_rules hash k.store) (stored_state k.store)) c.self.view_is in
-    c.in_ok-handed.ensures.value ∙ (same ∙ ((λ i. deliveries (coded hash (s.epochs i) (s.backlog i) (λ b a. true)) (stored_state h.store)) ∙ any_deliveries hash h.epochs h.backlog (g.A.Application.accepts h.app) (stored_notes h.store) nothing_came (came_of h) h.store.given))
+    let same =
+    ap
+    (λ (k : Holding g.row.D.Denot g.row.A.Denot). deliveries (stored_rules hash k.store)
+    (stored_state k.store))
+    c.self.view_is in
+    c.in_ok-handed.ensures.value
+    ∙ (same
+    ∙ ((λ i. deliveries (coded hash (s.epochs i) (s.backlog i) (λ b a. true))
+    (stored_state h.store))
+    ∙ any_deliveries hash h.epochs h.backlog (g.A.Application.accepts h.app)
+    (stored_notes h.store) nothing_came (came_of h) h.store.given))
 
 pub returns-clause-stands : goal.returns-clause-stands
 returns-clause-stands g c =
@@ -22,8 +31,16 @@ returns-clause-stands g c =
     let hash = g.H.Hasher.digest_of in
     let accepts = g.A.Application.accepts in
     let e = c.self.view_is in
-    let t = c.in_ok-handed.ensures.given ∙ (λ i. record (e i).store { given = (e i).store.given ++ map (λ (x : Handed). x.height) c.in_ok-handed.handed.items }) in
-    let l = c.in_ok-handed.ensures.log ∙ ap (λ (k : Holding g.row.D.Denot g.row.A.Denot). k.log) e in
+    let t =
+    c.in_ok-handed.ensures.given
+    ∙ (λ i. record (e i).store {
+      given =
+          (e i).store.given
+          ++ map (λ (x : Handed). x.height) c.in_ok-handed.handed.items;
+    }) in
+    let l =
+    c.in_ok-handed.ensures.log ∙ ap (λ (k : Holding g.row.D.Denot g.row.A.Denot). k.log) e in
     stands_handed hash accepts h _ c.in_ok-handed.handed.items c.requires.stands
-    (c.standing_is_kept.ensures.handed hash h.tally (rules_of hash accepts h) (state_of h) c.requires.stands.tally c.in_ok-handed.handed.items)
+    (c.standing_is_kept.ensures.handed hash h.tally (rules_of hash accepts h) (state_of h)
+    c.requires.stands.tally c.in_ok-handed.handed.items)
     (λ i. record (e i) { store = t i; log = l i })

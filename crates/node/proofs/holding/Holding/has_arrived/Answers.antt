@@ -8,5 +8,10 @@ pub returns : goal.returns
 returns g c =
     let h = c.args.self.now in
     let all = whole_arrived c.args.block.now h.arrivals h.shards.kept c.requires.rows in
-    let same = ap (λ (k : Holding g.row.D.Denot g.row.A.Denot). list_any (is_whole c.args.block.now) k.arrivals) c.self.view_is in
-    c.has_whole.ensures ∙ (ap (list_any (is_whole c.args.block.now)) c.as_slice.ensures ∙ (same ∙ sym all))
+    let same =
+    ap
+    (λ (k : Holding g.row.D.Denot g.row.A.Denot). list_any (is_whole c.args.block.now)
+    k.arrivals)
+    c.self.view_is in
+    c.has_whole.ensures
+    ∙ (ap (list_any (is_whole c.args.block.now)) c.as_slice.ensures ∙ (same ∙ sym all))

@@ -10,5 +10,11 @@ pub returns : goal.returns
 returns g c =
     let h = c.self.inside in
     c.stands_in.ensures
-    ∙ (ap (λ (lists : List (List ℕ)). list_any (λ list. option_map_or (λ at. at == c.args.index) (position (λ j. j == h.id) list) false) lists) c.lists.ensures.value
-    ∙ ap (λ (k : Holding g.row.D.Denot g.row.A.Denot). is_own_place k.epochs k.id c.args.index) c.self.view_is)
+    ∙ (ap
+    (λ (lists : List (List ℕ)). list_any
+    (λ list. option_map_or (λ at. at == c.args.index) (position (λ j. j == h.id) list)
+    false)
+    lists)
+    c.lists.ensures.value
+    ∙ ap (λ (k : Holding g.row.D.Denot g.row.A.Denot). is_own_place k.epochs k.id c.args.index)
+    c.self.view_is)

@@ -10,4 +10,7 @@ abbrev pub invariant-loop-note : goal.invariant-loop-note
 invariant-loop-note g l =
     let r = rules_of g.H.Hasher.digest_of g.A.Application.accepts l.self in
     let f = leads r (stored_notes l.self.store) (next (state_of l.self)) in
-    once (genesis_commitment r ∷ []) (filter_map f (stored_notes l.self.store)) ≡ l.led.items ++ once (l.led.items ++ genesis_commitment r ∷ []) (filter_map f (drop l.note-index (stored_notes l.self.store)))
+    once (genesis_commitment r ∷ []) (filter_map f (stored_notes l.self.store))
+    ≡ l.led.items
+    ++ once (l.led.items ++ genesis_commitment r ∷ [])
+    (filter_map f (drop l.note-index (stored_notes l.self.store)))

@@ -6,4 +6,9 @@ use Rattle.node.specs.Store.{stored_notes}
 use Rattle.node.proofs.holding.Holding.notes_out.Given as goal
 
 abbrev pub invariant-loop-note : goal.invariant-loop-note
-invariant-loop-note g l = l.out.items ≡ flat_map (note_sends (rules_of g.H.Hasher.digest_of g.A.Application.accepts l.self) l.self.id (stored_notes l.self.store)) (take l.note-index l.notes)
+invariant-loop-note g l =
+    l.out.items
+    ≡ flat_map
+    (note_sends (rules_of g.H.Hasher.digest_of g.A.Application.accepts l.self) l.self.id
+    (stored_notes l.self.store))
+    (take l.note-index l.notes)

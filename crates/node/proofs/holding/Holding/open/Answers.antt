@@ -15,16 +15,38 @@ returns-clause-start g c =
     let hash = g.H.Hasher.digest_of in
     let accepts = g.A.Application.accepts in
     let r = rules_of hash accepts h in
-    let frame = c.last_frame.ensures ∙ ap (λ (k : Holding g.row.D.Denot g.row.A.Denot). unwrap_or (last_or None k.store.frames) []) c.self.view_is in
-    let notes = c.in_ok-sent.ensures ∙ ap (flat_map (note_sends r h.id (stored_notes h.store))) frame in
+    let frame =
+    c.last_frame.ensures
+    ∙ ap
+    (λ (k : Holding g.row.D.Denot g.row.A.Denot). unwrap_or (last_or None k.store.frames)
+    [])
+    c.self.view_is in
+    let notes =
+    c.in_ok-sent.ensures ∙ ap (flat_map (note_sends r h.id (stored_notes h.store))) frame in
     let missing = c.deref.ensures.value ∙ c.in_ok-missing.ensures in
-    let sent = c.from_vec.ensures ∙ (c.in_ok-put_asks.ensures ∙ (λ i. notes i ++ asks h.id (missing i) [])) in
-    let left = c.in_ok-handed.ensures.ok ∙ ap (λ (l : List Handed). record h { store = record h.store { given = h.store.given ++ map (λ (x : Handed). x.height) l } }) (sym c.from_vec-2.ensures) in
-    opened hash accepts h c.hand_out.new.self (record { sent = c.from_vec.result; handed = c.from_vec-2.result; tickets = c.new.result })
-    c.requires.ready.quiet c.requires.came c.requires.given c.requires.tickets sent (c.from_vec-2.ensures ∙ c.in_ok-handed.ensures.value) c.new.ensures left
+    let sent =
+    c.from_vec.ensures
+    ∙ (c.in_ok-put_asks.ensures ∙ (λ i. notes i ++ asks h.id (missing i) [])) in
+    let left =
+    c.in_ok-handed.ensures.ok
+    ∙ ap
+    (λ (l : List Handed). record h {
+      store =
+          record h.store { given = h.store.given ++ map (λ (x : Handed). x.height) l };
+    })
+    (sym c.from_vec-2.ensures) in
+    opened hash accepts h c.hand_out.new.self (record {
+      sent = c.from_vec.result;
+      handed = c.from_vec-2.result;
+      tickets = c.new.result;
+    })
+    c.requires.ready.quiet c.requires.came c.requires.given c.requires.tickets sent
+    (c.from_vec-2.ensures ∙ c.in_ok-handed.ensures.value) c.new.ensures left
 
 pub returns-clause-ready : goal.returns-clause-ready
 returns-clause-ready g c = record {
   stands = c.in_ok-handed.ensures.stands;
-  quiet = ap (λ (k : Holding g.row.D.Denot g.row.A.Denot). k.store.staged) c.in_ok-handed.ensures.ok ∙ c.requires.ready.quiet;
+  quiet =
+      ap (λ (k : Holding g.row.D.Denot g.row.A.Denot). k.store.staged) c.in_ok-handed.ensures.ok
+      ∙ c.requires.ready.quiet;
 }

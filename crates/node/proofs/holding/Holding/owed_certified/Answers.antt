@@ -15,12 +15,25 @@ loop-proposal-preserved g c =
     let hash = g.H.Hasher.digest_of in
     let r = rules_of hash g.A.Application.accepts h in
     let fits = block_fits r (stored_notes h.store) in
-    let same = ap (λ (k : Holding g.row.D.Denot g.row.A.Denot). slice_get (uncertified k.tally) c.loop-proposal.index) c.self.view_is in
+    let same =
+    ap
+    (λ (k : Holding g.row.D.Denot g.row.A.Denot). slice_get (uncertified k.tally)
+    c.loop-proposal.index)
+    c.self.view_is in
     let law = c.tally_stands.ensures.certified hash h.tally r (state_of h) c.requires.tally in
-    let noted = ap (λ l. option_map Note.Certified (find (block_fits r l) (uncertified h.tally))) c.requires.tally.notes in
-    let at = sym same ∙ (sym c.uncertified.ensures.value ∙ ap (option_map (λ (p : Bor Proposal). p.now)) c.in-Some.is) in
-    let next : c.in-Some-checked_add.next ≡ suc c.loop-proposal.index = c.in-Some-checked_add.ensures.1 ∙ add-one c.loop-proposal.index in
-    c.loop-proposal.invariant ∙ (find_next fits (uncertified h.tally) c.loop-proposal.index c.in-Some.proposal.now at (sym c.in_ok-block_fits.ensures ∙ c.if-branch.false) ∙ ap (λ n. find fits (drop n (uncertified h.tally))) (sym next))
+    let noted =
+    ap (λ l. option_map Note.Certified (find (block_fits r l) (uncertified h.tally)))
+    c.requires.tally.notes in
+    let at =
+    sym same
+    ∙ (sym c.uncertified.ensures.value
+    ∙ ap (option_map (λ (p : Bor Proposal). p.now)) c.in-Some.is) in
+    let next : c.in-Some-checked_add.next ≡ suc c.loop-proposal.index =
+    c.in-Some-checked_add.ensures.1 ∙ add-one c.loop-proposal.index in
+    c.loop-proposal.invariant
+    ∙ (find_next fits (uncertified h.tally) c.loop-proposal.index c.in-Some.proposal.now at
+    (sym c.in_ok-block_fits.ensures ∙ c.if-branch.false)
+    ∙ ap (λ n. find fits (drop n (uncertified h.tally))) (sym next))
 
 pub loop-proposal-smaller : goal.loop-proposal-smaller
 loop-proposal-smaller g c =
@@ -28,12 +41,23 @@ loop-proposal-smaller g c =
     let hash = g.H.Hasher.digest_of in
     let r = rules_of hash g.A.Application.accepts h in
     let fits = block_fits r (stored_notes h.store) in
-    let same = ap (λ (k : Holding g.row.D.Denot g.row.A.Denot). slice_get (uncertified k.tally) c.loop-proposal.index) c.self.view_is in
+    let same =
+    ap
+    (λ (k : Holding g.row.D.Denot g.row.A.Denot). slice_get (uncertified k.tally)
+    c.loop-proposal.index)
+    c.self.view_is in
     let law = c.tally_stands.ensures.certified hash h.tally r (state_of h) c.requires.tally in
-    let noted = ap (λ l. option_map Note.Certified (find (block_fits r l) (uncertified h.tally))) c.requires.tally.notes in
-    let at = sym same ∙ (sym c.uncertified.ensures.value ∙ ap (option_map (λ (p : Bor Proposal). p.now)) c.in-Some.is) in
-    let below = slice_get_within (uncertified h.tally) c.loop-proposal.index c.in-Some.proposal.now at in
-    let next : c.in-Some-checked_add.next ≡ c.loop-proposal.index + 1 = c.in-Some-checked_add.ensures.1 in
+    let noted =
+    ap (λ l. option_map Note.Certified (find (block_fits r l) (uncertified h.tally)))
+    c.requires.tally.notes in
+    let at =
+    sym same
+    ∙ (sym c.uncertified.ensures.value
+    ∙ ap (option_map (λ (p : Bor Proposal). p.now)) c.in-Some.is) in
+    let below =
+    slice_get_within (uncertified h.tally) c.loop-proposal.index c.in-Some.proposal.now at in
+    let next : c.in-Some-checked_add.next ≡ c.loop-proposal.index + 1 =
+    c.in-Some-checked_add.ensures.1 in
     omega (arith, below)
 
 pub returns-then-branch-clause-value : goal.returns-then-branch-clause-value
@@ -42,11 +66,27 @@ returns-then-branch-clause-value g c =
     let hash = g.H.Hasher.digest_of in
     let r = rules_of hash g.A.Application.accepts h in
     let fits = block_fits r (stored_notes h.store) in
-    let same = ap (λ (k : Holding g.row.D.Denot g.row.A.Denot). slice_get (uncertified k.tally) c.loop-proposal.index) c.self.view_is in
+    let same =
+    ap
+    (λ (k : Holding g.row.D.Denot g.row.A.Denot). slice_get (uncertified k.tally)
+    c.loop-proposal.index)
+    c.self.view_is in
     let law = c.tally_stands.ensures.certified hash h.tally r (state_of h) c.requires.tally in
-    let noted = ap (λ l. option_map Note.Certified (find (block_fits r l) (uncertified h.tally))) c.requires.tally.notes in
-    let at = sym same ∙ (sym c.uncertified.ensures.value ∙ ap (option_map (λ (p : Bor Proposal). p.now)) c.in-Some.is) in
-    sym (law ∙ (sym noted ∙ ap (option_map Note.Certified) (c.loop-proposal.invariant ∙ find_here fits (uncertified h.tally) c.loop-proposal.index c.in-Some.proposal.now at (sym c.in_ok-block_fits.ensures ∙ c.if-branch.true))))
+    let noted =
+    ap (λ l. option_map Note.Certified (find (block_fits r l) (uncertified h.tally)))
+    c.requires.tally.notes in
+    let at =
+    sym same
+    ∙ (sym c.uncertified.ensures.value
+    ∙ ap (option_map (λ (p : Bor Proposal). p.now)) c.in-Some.is) in
+    sym
+    (law
+    ∙ (sym noted
+    ∙ ap (option_map Note.Certified)
+    (c.loop-proposal.invariant
+    ∙ find_here fits (uncertified h.tally) c.loop-proposal.index
+    c.in-Some.proposal.now at
+    (sym c.in_ok-block_fits.ensures ∙ c.if-branch.true))))
 
 pub returns-clause-value : goal.returns-clause-value
 returns-clause-value g c =
@@ -54,8 +94,22 @@ returns-clause-value g c =
     let hash = g.H.Hasher.digest_of in
     let r = rules_of hash g.A.Application.accepts h in
     let fits = block_fits r (stored_notes h.store) in
-    let same = ap (λ (k : Holding g.row.D.Denot g.row.A.Denot). slice_get (uncertified k.tally) c.loop-proposal.index) c.self.view_is in
+    let same =
+    ap
+    (λ (k : Holding g.row.D.Denot g.row.A.Denot). slice_get (uncertified k.tally)
+    c.loop-proposal.index)
+    c.self.view_is in
     let law = c.tally_stands.ensures.certified hash h.tally r (state_of h) c.requires.tally in
-    let noted = ap (λ l. option_map Note.Certified (find (block_fits r l) (uncertified h.tally))) c.requires.tally.notes in
-    let at = sym same ∙ (sym c.uncertified.ensures.value ∙ ap (option_map (λ (p : Bor Proposal). p.now)) c.in_default.is) in
-    sym (law ∙ (sym noted ∙ ap (option_map Note.Certified) (c.loop-proposal.invariant ∙ find_end fits (uncertified h.tally) c.loop-proposal.index at)))
+    let noted =
+    ap (λ l. option_map Note.Certified (find (block_fits r l) (uncertified h.tally)))
+    c.requires.tally.notes in
+    let at =
+    sym same
+    ∙ (sym c.uncertified.ensures.value
+    ∙ ap (option_map (λ (p : Bor Proposal). p.now)) c.in_default.is) in
+    sym
+    (law
+    ∙ (sym noted
+    ∙ ap (option_map Note.Certified)
+    (c.loop-proposal.invariant
+    ∙ find_end fits (uncertified h.tally) c.loop-proposal.index at)))

@@ -7,7 +7,9 @@ use Rattle.node.proofs.holding.Holding.owed_certified.Given as goal
 
 abbrev pub invariant-loop-proposal : goal.invariant-loop-proposal
 invariant-loop-proposal g l =
-    let fits = block_fits (rules_of g.H.Hasher.digest_of g.A.Application.accepts l.self) (stored_notes l.self.store) in
+    let fits =
+    block_fits (rules_of g.H.Hasher.digest_of g.A.Application.accepts l.self)
+    (stored_notes l.self.store) in
     find fits (uncertified l.self.tally) ≡ find fits (drop l.index (uncertified l.self.tally))
 
 abbrev pub decreases-loop-proposal : goal.decreases-loop-proposal

@@ -12,17 +12,35 @@ returns-in-Some-clause-value g c =
     let h = c.args.self.now in
     let hash = g.H.Hasher.digest_of in
     let r = rules_of hash g.A.Application.accepts h in
-    let n = sym (c.tally_stands.ensures.notarized hash h.tally r (state_of h) c.requires.tally) ∙ ap (λ (k : ℕ). first_some (notarize_owed r k (state_of h)) (named_proposals (state_of h))) c.requires.id in
-    let f = sym (c.tally_stands.ensures.finalized hash h.tally r (state_of h) c.requires.tally) ∙ ap (λ (k : ℕ). first_some (finalize_owed r k (state_of h)) (named_proposals (state_of h))) c.requires.id in
-    let same = ap (λ (k : Holding g.row.D.Denot g.row.A.Denot). owing.vote_owed hash k.tally) c.self.view_is in
-    ap (option_map Note.Vote) (sym c.in-Some.is) ∙ (c.owed_vote.ensures.value ∙ (same ∙ (λ i. option_or (n i) (f i))))
+    let n =
+    sym (c.tally_stands.ensures.notarized hash h.tally r (state_of h) c.requires.tally)
+    ∙ ap (λ (k : ℕ). first_some (notarize_owed r k (state_of h)) (named_proposals (state_of h)))
+    c.requires.id in
+    let f =
+    sym (c.tally_stands.ensures.finalized hash h.tally r (state_of h) c.requires.tally)
+    ∙ ap (λ (k : ℕ). first_some (finalize_owed r k (state_of h)) (named_proposals (state_of h)))
+    c.requires.id in
+    let same =
+    ap (λ (k : Holding g.row.D.Denot g.row.A.Denot). owing.vote_owed hash k.tally)
+    c.self.view_is in
+    ap (option_map Note.Vote) (sym c.in-Some.is)
+    ∙ (c.owed_vote.ensures.value ∙ (same ∙ (λ i. option_or (n i) (f i))))
 
 pub returns-in-None-clause-value : goal.returns-in-None-clause-value
 returns-in-None-clause-value g c =
     let h = c.args.self.now in
     let hash = g.H.Hasher.digest_of in
     let r = rules_of hash g.A.Application.accepts h in
-    let n = sym (c.tally_stands.ensures.notarized hash h.tally r (state_of h) c.requires.tally) ∙ ap (λ (k : ℕ). first_some (notarize_owed r k (state_of h)) (named_proposals (state_of h))) c.requires.id in
-    let f = sym (c.tally_stands.ensures.finalized hash h.tally r (state_of h) c.requires.tally) ∙ ap (λ (k : ℕ). first_some (finalize_owed r k (state_of h)) (named_proposals (state_of h))) c.requires.id in
-    let same = ap (λ (k : Holding g.row.D.Denot g.row.A.Denot). owing.vote_owed hash k.tally) c.self.view_is in
-    ap (option_map Note.Vote) (sym c.in-None.is) ∙ (c.owed_vote.ensures.value ∙ (same ∙ (λ i. option_or (n i) (f i))))
+    let n =
+    sym (c.tally_stands.ensures.notarized hash h.tally r (state_of h) c.requires.tally)
+    ∙ ap (λ (k : ℕ). first_some (notarize_owed r k (state_of h)) (named_proposals (state_of h)))
+    c.requires.id in
+    let f =
+    sym (c.tally_stands.ensures.finalized hash h.tally r (state_of h) c.requires.tally)
+    ∙ ap (λ (k : ℕ). first_some (finalize_owed r k (state_of h)) (named_proposals (state_of h)))
+    c.requires.id in
+    let same =
+    ap (λ (k : Holding g.row.D.Denot g.row.A.Denot). owing.vote_owed hash k.tally)
+    c.self.view_is in
+    ap (option_map Note.Vote) (sym c.in-None.is)
+    ∙ (c.owed_vote.ensures.value ∙ (same ∙ (λ i. option_or (n i) (f i))))

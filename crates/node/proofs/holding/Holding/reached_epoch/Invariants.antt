@@ -7,7 +7,10 @@ use Rattle.node.proofs.holding.Holding.reached_epoch.Given as goal
 abbrev pub invariant-loop-epoch : goal.invariant-loop-epoch
 invariant-loop-epoch g l = record {
   low : l.epoch ≤ l.fn.top;
-  rest : reached_epoch (rules_of g.H.Hasher.digest_of g.A.Application.accepts l.self) (stored_notes l.self.store) l.span l.epoch ≡ reached_epoch (rules_of g.H.Hasher.digest_of g.A.Application.accepts l.self) (stored_notes l.self.store) l.span l.fn.top;
+  rest : reached_epoch (rules_of g.H.Hasher.digest_of g.A.Application.accepts l.self)
+      (stored_notes l.self.store) l.span l.epoch
+      ≡ reached_epoch (rules_of g.H.Hasher.digest_of g.A.Application.accepts l.self)
+      (stored_notes l.self.store) l.span l.fn.top;
 }
 
 abbrev pub decreases-loop-epoch : goal.decreases-loop-epoch

@@ -4,13 +4,15 @@ use Rattle.node.specs.Holding.{rules_of, state_of}
 use Rattle.node.proofs.holding.Holding.settle.Goals as goal
 
 pub settling-init : goal.settling-init
-settling-init g c = settling_none g.H.Hasher.digest_of g.A.Application.accepts c.args.self.now c.requires
+settling-init g c =
+    settling_none g.H.Hasher.digest_of g.A.Application.accepts c.args.self.now c.requires
 
 pub settling-preserved : goal.settling-preserved
 settling-preserved g c =
     let old = c.args.self.now in
     let r = rules_of g.H.Hasher.digest_of g.A.Application.accepts old in
-    settling_more g.H.Hasher.digest_of g.A.Application.accepts old c.settling.self c.write.new.self c.settling.invariant c.in-Some.note
+    settling_more g.H.Hasher.digest_of g.A.Application.accepts old c.settling.self c.write.new.self
+    c.settling.invariant c.in-Some.note
     (c.bound_laws.ensures.settles r old.id (state_of old))
     (sym c.in_ok-note.ensures.value ∙ c.in-Some.is) c.in_ok-write.ensures.ok
 
@@ -18,11 +20,13 @@ pub settling-smaller : goal.settling-smaller
 settling-smaller g c =
     let old = c.args.self.now in
     let r = rules_of g.H.Hasher.digest_of g.A.Application.accepts old in
-    settling_falls g.H.Hasher.digest_of g.A.Application.accepts old c.settling.self c.write.new.self c.settling.invariant c.in-Some.note
+    settling_falls g.H.Hasher.digest_of g.A.Application.accepts old c.settling.self c.write.new.self
+    c.settling.invariant c.in-Some.note
     (c.bound_laws.ensures.settles r old.id (state_of old))
     (sym c.in_ok-note.ensures.value ∙ c.in-Some.is) c.in_ok-write.ensures.ok
 
 pub returns-clause-ok : goal.returns-clause-ok
 returns-clause-ok g c =
-    settling_done g.H.Hasher.digest_of g.A.Application.accepts c.args.self.now c.settling.self c.settling.invariant
+    settling_done g.H.Hasher.digest_of g.A.Application.accepts c.args.self.now c.settling.self
+    c.settling.invariant
     (sym c.in_ok-note.ensures.value ∙ c.in_default.is)

@@ -10,7 +10,14 @@ returns-clause-ok g c =
     let h = c.args.self.now in
     let hash = g.H.Hasher.digest_of in
     let e = c.self.view_is in
-    let t = c.in_ok-take_vote.ensures.ok ∙ ap (λ (k : Holding g.row.D.Denot g.row.A.Denot). with_ballot k.tally (Single c.args.signer c.args.vote.now)) e in
-    came_ballot hash g.A.Application.accepts h _ (Single c.args.signer c.args.vote.now) c.requires.stands
-    (c.standing_is_kept.ensures.ballot hash h.tally (rules_of hash g.A.Application.accepts h) (state_of h) c.requires.stands.tally (Single c.args.signer c.args.vote.now))
+    let t =
+    c.in_ok-take_vote.ensures.ok
+    ∙ ap
+    (λ (k : Holding g.row.D.Denot g.row.A.Denot). with_ballot k.tally
+    (Single c.args.signer c.args.vote.now))
+    e in
+    came_ballot hash g.A.Application.accepts h _ (Single c.args.signer c.args.vote.now)
+    c.requires.stands
+    (c.standing_is_kept.ensures.ballot hash h.tally (rules_of hash g.A.Application.accepts h)
+    (state_of h) c.requires.stands.tally (Single c.args.signer c.args.vote.now))
     (λ i. record (e i) { tally = t i })

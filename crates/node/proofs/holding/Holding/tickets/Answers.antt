@@ -15,10 +15,22 @@ returns-clause-ok g c =
     let all = stored_notes now.store in
     let after = ticketed now.store.tickets c.args.event.now in
     let e = c.self.view_is ∙ c.in_ok-put_ticket.ensures.ok in
-    let t = c.in_ok-served.ensures.ok ∙ ((λ i. record (e i).store { tickets = unserved (stored_rules hash (e i).store) (stored_notes (e i).store) (e i).store.tickets })
-    ∙ ((λ i. record now.store { tickets = unserved (coded hash (s.epochs i) (s.backlog i) (λ b a. true)) all after })
-    ∙ (λ i. record now.store { tickets = any_unserved hash now.epochs now.backlog (g.A.Application.accepts now.app) all after i }))) in
-    let l = c.in_ok-served.ensures.log ∙ ap (λ (k : Holding g.row.D.Denot g.row.A.Denot). k.log) e in
+    let t =
+    c.in_ok-served.ensures.ok
+    ∙ ((λ i. record (e i).store {
+      tickets =
+          unserved (stored_rules hash (e i).store) (stored_notes (e i).store)
+          (e i).store.tickets;
+    })
+    ∙ ((λ i. record now.store
+    { tickets = unserved (coded hash (s.epochs i) (s.backlog i) (λ b a. true)) all after })
+    ∙ (λ i. record now.store {
+      tickets =
+          any_unserved hash now.epochs now.backlog (g.A.Application.accepts now.app) all after
+          i;
+    }))) in
+    let l =
+    c.in_ok-served.ensures.log ∙ ap (λ (k : Holding g.row.D.Denot g.row.A.Denot). k.log) e in
     λ i. record (e i) { store = t i; log = l i }
 
 pub returns-clause-out : goal.returns-clause-out
@@ -29,8 +41,18 @@ returns-clause-out g c =
     let all = stored_notes now.store in
     let after = ticketed now.store.tickets c.args.event.now in
     let e = c.self.view_is ∙ c.in_ok-put_ticket.ensures.ok in
-    let a = c.in_ok-put_ticket.ensures.out ∙ ap (λ (l : List TicketOut). l ++ ticket_given now.store.tickets c.args.event.now) c.new-out.ensures.items in
-    let b = c.deref.ensures.value ∙ (c.in_ok-served.ensures.value ∙ ((λ i. filter_map (served (stored_rules hash (e i).store) (stored_notes (e i).store)) (e i).store.tickets.waiting)
-    ∙ ((λ i. filter_map (served (coded hash (s.epochs i) (s.backlog i) (λ b a. true)) all) after.waiting)
-    ∙ (λ i. filter_map (λ x. any_served hash now.epochs now.backlog (g.A.Application.accepts now.app) all x i) after.waiting)))) in
+    let a =
+    c.in_ok-put_ticket.ensures.out
+    ∙ ap (λ (l : List TicketOut). l ++ ticket_given now.store.tickets c.args.event.now)
+    c.new-out.ensures.items in
+    let b =
+    c.deref.ensures.value
+    ∙ (c.in_ok-served.ensures.value
+    ∙ ((λ i. filter_map (served (stored_rules hash (e i).store) (stored_notes (e i).store))
+    (e i).store.tickets.waiting)
+    ∙ ((λ i. filter_map (served (coded hash (s.epochs i) (s.backlog i) (λ b a. true)) all)
+    after.waiting)
+    ∙ (λ i. filter_map
+    (λ x. any_served hash now.epochs now.backlog (g.A.Application.accepts now.app) all x i)
+    after.waiting)))) in
     c.in_ok-put_served.ensures ∙ (λ i. a i ++ b i)

@@ -13,5 +13,10 @@ invariant-loop-note g l =
     let notes = stored_notes l.self.store in
     record {
       low : l.top < 2 ^ 64 - 1;
-      rest : greatest (final_heights r notes) ≡ max l.top (greatest (filter_map (λ (p : Proposal). option_map (λ b. b.height) (held r notes p.payload)) (filter_map finalization_of (drop l.note-index notes))));
+      rest : greatest (final_heights r notes)
+          ≡ max l.top
+          (greatest
+          (filter_map
+          (λ (p : Proposal). option_map (λ b. b.height) (held r notes p.payload))
+          (filter_map finalization_of (drop l.note-index notes))));
     }

@@ -10,4 +10,8 @@ pub loop-commitment-preserved : goal.loop-commitment-preserved
 loop-commitment-preserved g c =
     let p = λ (d : Commitment). not (has_block (stored_notes c.args.self.now.store) d) in
     let x = c.commitment-item.result in
-    c.in_ok-put_unnoted.ensures ∙ (ap (λ (l : List Commitment). l ++ filter p (x ∷ [])) c.loop-commitment.invariant ∙ sym (filter_taken p c.args.commitments.now c.loop-commitment.commitment-index x c.loop-commitment-test.true c.commitment-item.is))
+    c.in_ok-put_unnoted.ensures
+    ∙ (ap (λ (l : List Commitment). l ++ filter p (x ∷ [])) c.loop-commitment.invariant
+    ∙ sym
+    (filter_taken p c.args.commitments.now c.loop-commitment.commitment-index x
+    c.loop-commitment-test.true c.commitment-item.is))

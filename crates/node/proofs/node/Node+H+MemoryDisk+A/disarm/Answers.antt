@@ -8,4 +8,5 @@ invariant_of-self g c = λ works.
     let h = c.self.inside.holding in
     let disk = h.log.disk in
     ready_logged g.H.Hasher.digest_of g.A.Application.accepts (is_stopped disk) h c.disarm.new.self
-    (record h.log { disk = record disk { stop = None } }) c.disarm.ensures.dropped c.disarm.ensures.stopped (c.self.invariant works)
+    (record h.log { disk = record disk { stop = None } }) c.disarm.ensures.dropped
+    c.disarm.ensures.stopped (c.self.invariant works)

@@ -7,4 +7,6 @@ invariant_of-self g c = λ works.
     let h = c.self.inside.holding in
     let disk = h.log.disk in
     ready_logged g.H.Hasher.digest_of g.A.Application.accepts (is_stopped disk) h c.stop_at.new.self
-    (record h.log { disk = record disk { stop = stop_from_now disk c.args.call c.args.cut c.args.fill } }) c.stop_at.ensures.armed c.stop_at.ensures.stopped (c.self.invariant works)
+    (record h.log
+    { disk = record disk { stop = stop_from_now disk c.args.call c.args.cut c.args.fill } })
+    c.stop_at.ensures.armed c.stop_at.ensures.stopped (c.self.invariant works)

@@ -10,6 +10,9 @@ use Rattle.node.proofs.store.Store.next_deliveries.Goals as goal
 pub returns-clause-value : goal.returns-clause-value
 returns-clause-value g c =
     let s = c.args.self.now.marshal in
-    let same : deliveries (rules_of g.H.Hasher.digest_of s) (state_of s) ≡ deliveries (stored_rules g.H.Hasher.digest_of (store_of s)) (stored_state (store_of s)) =
-    any_deliveries g.H.Hasher.digest_of s.epochs s.backlog (λ b a. true) (notes_of s) (state_of s).came nothing_came s.given in
-    subst (λ (l : List Handed). IfOk c.next_deliveries.result (λ handed. handed.items ≡ l)) same c.next_deliveries.ensures.handed
+    let same : deliveries (rules_of g.H.Hasher.digest_of s) (state_of s)
+    ≡ deliveries (stored_rules g.H.Hasher.digest_of (store_of s)) (stored_state (store_of s)) =
+    any_deliveries g.H.Hasher.digest_of s.epochs s.backlog (λ b a. true) (notes_of s)
+    (state_of s).came nothing_came s.given in
+    subst (λ (l : List Handed). IfOk c.next_deliveries.result (λ handed. handed.items ≡ l)) same
+    c.next_deliveries.ensures.handed

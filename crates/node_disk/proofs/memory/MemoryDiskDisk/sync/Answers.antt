@@ -12,85 +12,207 @@ pub invariant_of-self-then-is_done : goal.invariant_of-self-then-is_done
 invariant_of-self-then-is_done c =
     let m = c.self.inside in
     let o = c.outcome_of-outcome.result in
-    let old : MemoryState = record { calls = map entry_of m.calls.items; reopened = m.reopened; stop = m.stop; failing = m.failing.items; faults = m.faults; tries = m.tries } in
-    let new : MemoryState = record { calls = map entry_of c.add_call.new.calls.items; reopened = false; stop = m.stop; failing = m.failing.items; faults = m.faults; tries = c.saturating_add-self-inside.result } in
+    let old : MemoryState =
+    record {
+      calls = map entry_of m.calls.items;
+      reopened = m.reopened;
+      stop = m.stop;
+      failing = m.failing.items;
+      faults = m.faults;
+      tries = m.tries;
+    } in
+    let new : MemoryState =
+    record {
+      calls = map entry_of c.add_call.new.calls.items;
+      reopened = false;
+      stop = m.stop;
+      failing = m.failing.items;
+      faults = m.faults;
+      tries = c.saturating_add-self-inside.result;
+    } in
     let call : Call = record { reopened = m.reopened; action = action.Sync; outcome = o } in
     let request : Request = Sync in
     let pushed : c.add_call.new.calls.items ≡ m.calls.items ++ call ∷ [] = search rules in
     let asked : request_of call.action ≡ request = refl in
     let known : o ≡ outcome_at m.stop m.failing.items (length m.calls.items) = search rules in
-    let called : HasCalled request old new = called_by request m.calls.items c.add_call.new.calls.items call old new pushed asked known refl refl refl refl refl refl in
-    keeps_now request old new called o c.change_by_sync.new.bytes.items _ m.calls.items known refl (c.in_ok-change_by_sync.ensures.seen (held_after old.calls old.reopened) c.self.invariant.seen c.self.invariant.unsynced) (c.in_ok-change_by_sync.ensures.unsynced (held_after old.calls old.reopened) c.self.invariant.unsynced)
+    let called : HasCalled request old new =
+    called_by request m.calls.items c.add_call.new.calls.items call old new pushed asked known
+    refl refl refl refl refl refl in
+    keeps_now request old new called o c.change_by_sync.new.bytes.items _ m.calls.items known refl
+    (c.in_ok-change_by_sync.ensures.seen (held_after old.calls old.reopened)
+    c.self.invariant.seen c.self.invariant.unsynced)
+    (c.in_ok-change_by_sync.ensures.unsynced (held_after old.calls old.reopened)
+    c.self.invariant.unsynced)
 
 pub invariant_of-self-2 : goal.invariant_of-self-2
 invariant_of-self-2 c =
     let m = c.self.inside in
     let o = c.outcome_of-outcome.result in
-    let old : MemoryState = record { calls = map entry_of m.calls.items; reopened = m.reopened; stop = m.stop; failing = m.failing.items; faults = m.faults; tries = m.tries } in
-    let new : MemoryState = record { calls = map entry_of c.add_call.new.calls.items; reopened = false; stop = m.stop; failing = m.failing.items; faults = c.count_fault.new.faults; tries = c.saturating_add-self-inside.result } in
+    let old : MemoryState =
+    record {
+      calls = map entry_of m.calls.items;
+      reopened = m.reopened;
+      stop = m.stop;
+      failing = m.failing.items;
+      faults = m.faults;
+      tries = m.tries;
+    } in
+    let new : MemoryState =
+    record {
+      calls = map entry_of c.add_call.new.calls.items;
+      reopened = false;
+      stop = m.stop;
+      failing = m.failing.items;
+      faults = c.count_fault.new.faults;
+      tries = c.saturating_add-self-inside.result;
+    } in
     let call : Call = record { reopened = m.reopened; action = action.Sync; outcome = o } in
     let request : Request = Sync in
     let pushed : c.add_call.new.calls.items ≡ m.calls.items ++ call ∷ [] = search rules in
     let asked : request_of call.action ≡ request = refl in
     let known : o ≡ outcome_at m.stop m.failing.items (length m.calls.items) = search rules in
-    let called : HasCalled request old new = called_by request m.calls.items c.add_call.new.calls.items call old new pushed asked known refl refl refl refl refl refl in
-    keeps_now request old new called o c.change_by_sync.new.bytes.items _ m.calls.items known refl (c.in_ok-change_by_sync.ensures.seen (held_after old.calls old.reopened) c.self.invariant.seen c.self.invariant.unsynced) (c.in_ok-change_by_sync.ensures.unsynced (held_after old.calls old.reopened) c.self.invariant.unsynced)
+    let called : HasCalled request old new =
+    called_by request m.calls.items c.add_call.new.calls.items call old new pushed asked known
+    refl refl refl refl refl refl in
+    keeps_now request old new called o c.change_by_sync.new.bytes.items _ m.calls.items known refl
+    (c.in_ok-change_by_sync.ensures.seen (held_after old.calls old.reopened)
+    c.self.invariant.seen c.self.invariant.unsynced)
+    (c.in_ok-change_by_sync.ensures.unsynced (held_after old.calls old.reopened)
+    c.self.invariant.unsynced)
 
 pub returns-then-is_done-clause-continues : goal.returns-then-is_done-clause-continues
 returns-then-is_done-clause-continues c =
     let m = c.self.inside in
     let o = c.outcome_of-outcome.result in
-    let old : MemoryState = record { calls = map entry_of m.calls.items; reopened = m.reopened; stop = m.stop; failing = m.failing.items; faults = m.faults; tries = m.tries } in
-    let new : MemoryState = record { calls = map entry_of c.add_call.new.calls.items; reopened = false; stop = m.stop; failing = m.failing.items; faults = m.faults; tries = c.saturating_add-self-inside.result } in
+    let old : MemoryState =
+    record {
+      calls = map entry_of m.calls.items;
+      reopened = m.reopened;
+      stop = m.stop;
+      failing = m.failing.items;
+      faults = m.faults;
+      tries = m.tries;
+    } in
+    let new : MemoryState =
+    record {
+      calls = map entry_of c.add_call.new.calls.items;
+      reopened = false;
+      stop = m.stop;
+      failing = m.failing.items;
+      faults = m.faults;
+      tries = c.saturating_add-self-inside.result;
+    } in
     let call : Call = record { reopened = m.reopened; action = action.Sync; outcome = o } in
     let request : Request = Sync in
     let pushed : c.add_call.new.calls.items ≡ m.calls.items ++ call ∷ [] = search rules in
     let asked : request_of call.action ≡ request = refl in
     let known : o ≡ outcome_at m.stop m.failing.items (length m.calls.items) = search rules in
-    let called : HasCalled request old new = called_by request m.calls.items c.add_call.new.calls.items call old new pushed asked known refl refl refl refl refl refl in
-    subst (λ (s : MemoryState). Continues s new) c.self.view_is (called_continues request old new called)
+    let called : HasCalled request old new =
+    called_by request m.calls.items c.add_call.new.calls.items call old new pushed asked known
+    refl refl refl refl refl refl in
+    subst (λ (s : MemoryState). Continues s new) c.self.view_is
+    (called_continues request old new called)
 
 pub returns-then-is_done-clause-ok : goal.returns-then-is_done-clause-ok
 returns-then-is_done-clause-ok c =
     let m = c.self.inside in
     let o = c.outcome_of-outcome.result in
-    let old : MemoryState = record { calls = map entry_of m.calls.items; reopened = m.reopened; stop = m.stop; failing = m.failing.items; faults = m.faults; tries = m.tries } in
-    let new : MemoryState = record { calls = map entry_of c.add_call.new.calls.items; reopened = false; stop = m.stop; failing = m.failing.items; faults = m.faults; tries = c.saturating_add-self-inside.result } in
+    let old : MemoryState =
+    record {
+      calls = map entry_of m.calls.items;
+      reopened = m.reopened;
+      stop = m.stop;
+      failing = m.failing.items;
+      faults = m.faults;
+      tries = m.tries;
+    } in
+    let new : MemoryState =
+    record {
+      calls = map entry_of c.add_call.new.calls.items;
+      reopened = false;
+      stop = m.stop;
+      failing = m.failing.items;
+      faults = m.faults;
+      tries = c.saturating_add-self-inside.result;
+    } in
     let call : Call = record { reopened = m.reopened; action = action.Sync; outcome = o } in
     let request : Request = Sync in
     let pushed : c.add_call.new.calls.items ≡ m.calls.items ++ call ∷ [] = search rules in
     let asked : request_of call.action ≡ request = refl in
     let known : o ≡ outcome_at m.stop m.failing.items (length m.calls.items) = search rules in
-    let called : HasCalled request old new = called_by request m.calls.items c.add_call.new.calls.items call old new pushed asked known refl refl refl refl refl refl in
+    let called : HasCalled request old new =
+    called_by request m.calls.items c.add_call.new.calls.items call old new pushed asked known
+    refl refl refl refl refl refl in
     let done : is_done o ≡ true = search rules in
-    subst (λ (s : MemoryState). HasSynced (memory_state s) (memory_state new)) c.self.view_is (sync_done old new called (outcome_was request old new called o m.calls.items true known refl done))
+    subst (λ (s : MemoryState). HasSynced (memory_state s) (memory_state new)) c.self.view_is
+    (sync_done old new called
+    (outcome_was request old new called o m.calls.items true known refl done))
 
 pub returns-clause-continues : goal.returns-clause-continues
 returns-clause-continues c =
     let m = c.self.inside in
     let o = c.outcome_of-outcome.result in
-    let old : MemoryState = record { calls = map entry_of m.calls.items; reopened = m.reopened; stop = m.stop; failing = m.failing.items; faults = m.faults; tries = m.tries } in
-    let new : MemoryState = record { calls = map entry_of c.add_call.new.calls.items; reopened = false; stop = m.stop; failing = m.failing.items; faults = c.count_fault.new.faults; tries = c.saturating_add-self-inside.result } in
+    let old : MemoryState =
+    record {
+      calls = map entry_of m.calls.items;
+      reopened = m.reopened;
+      stop = m.stop;
+      failing = m.failing.items;
+      faults = m.faults;
+      tries = m.tries;
+    } in
+    let new : MemoryState =
+    record {
+      calls = map entry_of c.add_call.new.calls.items;
+      reopened = false;
+      stop = m.stop;
+      failing = m.failing.items;
+      faults = c.count_fault.new.faults;
+      tries = c.saturating_add-self-inside.result;
+    } in
     let call : Call = record { reopened = m.reopened; action = action.Sync; outcome = o } in
     let request : Request = Sync in
     let pushed : c.add_call.new.calls.items ≡ m.calls.items ++ call ∷ [] = search rules in
     let asked : request_of call.action ≡ request = refl in
     let known : o ≡ outcome_at m.stop m.failing.items (length m.calls.items) = search rules in
-    let called : HasCalled request old new = called_by request m.calls.items c.add_call.new.calls.items call old new pushed asked known refl refl refl refl refl refl in
-    subst (λ (s : MemoryState). Continues s new) c.self.view_is (called_continues request old new called)
+    let called : HasCalled request old new =
+    called_by request m.calls.items c.add_call.new.calls.items call old new pushed asked known
+    refl refl refl refl refl refl in
+    subst (λ (s : MemoryState). Continues s new) c.self.view_is
+    (called_continues request old new called)
 
 pub returns-clause-failed : goal.returns-clause-failed
 returns-clause-failed c e =
     let m = c.self.inside in
     let o = c.outcome_of-outcome.result in
-    let old : MemoryState = record { calls = map entry_of m.calls.items; reopened = m.reopened; stop = m.stop; failing = m.failing.items; faults = m.faults; tries = m.tries } in
-    let new : MemoryState = record { calls = map entry_of c.add_call.new.calls.items; reopened = false; stop = m.stop; failing = m.failing.items; faults = c.count_fault.new.faults; tries = c.saturating_add-self-inside.result } in
+    let old : MemoryState =
+    record {
+      calls = map entry_of m.calls.items;
+      reopened = m.reopened;
+      stop = m.stop;
+      failing = m.failing.items;
+      faults = m.faults;
+      tries = m.tries;
+    } in
+    let new : MemoryState =
+    record {
+      calls = map entry_of c.add_call.new.calls.items;
+      reopened = false;
+      stop = m.stop;
+      failing = m.failing.items;
+      faults = c.count_fault.new.faults;
+      tries = c.saturating_add-self-inside.result;
+    } in
     let call : Call = record { reopened = m.reopened; action = action.Sync; outcome = o } in
     let request : Request = Sync in
     let pushed : c.add_call.new.calls.items ≡ m.calls.items ++ call ∷ [] = search rules in
     let asked : request_of call.action ≡ request = refl in
     let known : o ≡ outcome_at m.stop m.failing.items (length m.calls.items) = search rules in
-    let called : HasCalled request old new = called_by request m.calls.items c.add_call.new.calls.items call old new pushed asked known refl refl refl refl refl refl in
+    let called : HasCalled request old new =
+    called_by request m.calls.items c.add_call.new.calls.items call old new pushed asked known
+    refl refl refl refl refl refl in
     let not_done : is_done o ≡ false = search rules in
     let rose : Rose old.faults new.faults = c.count_fault.ensures.cause in
-    subst (λ (s : MemoryState). HasFailedToSync (memory_state s) (memory_state new)) c.self.view_is (sync_failed old new called (outcome_was request old new called o m.calls.items false known refl not_done) rose)
+    subst (λ (s : MemoryState). HasFailedToSync (memory_state s) (memory_state new)) c.self.view_is
+    (sync_failed old new called
+    (outcome_was request old new called o m.calls.items false known refl not_done) rose)

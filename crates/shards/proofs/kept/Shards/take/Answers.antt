@@ -11,15 +11,27 @@ invariant_of-self-2 g c =
     let r = rules_of g.H.Hasher.digest_of c.self.inside.committees in
     subst (AreTakenOnce r) (sym c.in_ok-push.ensures.ok)
     (keep_more r c.self.inside.kept c.args.commitment.now c.args.chunk c.self.invariant
-    (ap (λ ks. is_known ks c.args.commitment.now c.args.chunk) (sym c.as_slice.ensures) ∙ (sym c.is_known.ensures ∙ c.if-is_known.false))
+    (ap (λ ks. is_known ks c.args.commitment.now c.args.chunk) (sym c.as_slice.ensures)
+    ∙ (sym c.is_known.ensures ∙ c.if-is_known.false))
     (sym c.is_chunk_of.ensures.value ∙ c.if-not-is_chunk_of.false))
 
 pub returns-clause-verdict : goal.returns-clause-verdict
 returns-clause-verdict g c =
     let hash = g.H.Hasher.digest_of in
     let r = rules_of hash c.self.inside.committees in
-    let new : is_known c.self.inside.kept c.args.commitment.now c.args.chunk ≡ false = ap (λ ks. is_known ks c.args.commitment.now c.args.chunk) (sym c.as_slice.ensures) ∙ (sym c.is_known.ensures ∙ c.if-is_known.false) in
-    let taken : is_chunk_of r c.args.commitment.now c.args.chunk ≡ true = sym c.is_chunk_of.ensures.value ∙ c.if-not-is_chunk_of.false in
-    let kept : c.in_ok-verdict.verdict ≡ kept_verdict r c.self.inside.kept c.args.commitment.now c.args.chunk = c.in_ok-verdict.ensures ∙ ap (λ ks. kept_verdict r ks c.args.commitment.now c.args.chunk) c.as_slice-2.ensures in
-    subst (λ (t : Gathered). c.in_ok-verdict.verdict ≡ verdict (rules_of hash t.epochs) t.kept c.args.commitment.now c.args.chunk) c.self.view_is
-    (verdict_taken r c.self.inside.kept c.args.commitment.now c.args.chunk c.in_ok-verdict.verdict new taken kept)
+    let new : is_known c.self.inside.kept c.args.commitment.now c.args.chunk ≡ false =
+    ap (λ ks. is_known ks c.args.commitment.now c.args.chunk) (sym c.as_slice.ensures)
+    ∙ (sym c.is_known.ensures ∙ c.if-is_known.false) in
+    let taken : is_chunk_of r c.args.commitment.now c.args.chunk ≡ true =
+    sym c.is_chunk_of.ensures.value ∙ c.if-not-is_chunk_of.false in
+    let kept : c.in_ok-verdict.verdict
+    ≡ kept_verdict r c.self.inside.kept c.args.commitment.now c.args.chunk =
+    c.in_ok-verdict.ensures
+    ∙ ap (λ ks. kept_verdict r ks c.args.commitment.now c.args.chunk)
+    c.as_slice-2.ensures in
+    subst
+    (λ (t : Gathered). c.in_ok-verdict.verdict
+    ≡ verdict (rules_of hash t.epochs) t.kept c.args.commitment.now c.args.chunk)
+    c.self.view_is
+    (verdict_taken r c.self.inside.kept c.args.commitment.now c.args.chunk c.in_ok-verdict.verdict
+    new taken kept)

@@ -8,6 +8,11 @@ use Rattle.voter.proofs.tally.Tally.first_owing.Goals as goal
 
 pub returns-clause-formed : goal.returns-clause-formed
 returns-clause-formed g c =
-    let notes : list_all is_countable c.args.self.now.notes ≡ true = subst (λ k. list_all is_countable k.notes ≡ true) c.self.view_is c.self.invariant.countable in
-    let ballots : list_all is_formed c.args.self.now.ballots ≡ true = subst (λ k. list_all is_formed k.ballots ≡ true) c.self.view_is c.self.invariant.formed in
-    found_counts g.H.Hasher.digest_of c.args.self.now notes ballots (owes_cert g.H.Hasher.digest_of c.args.self.now) c.first_certifiable.result c.first_certifiable.ensures
+    let notes : list_all is_countable c.args.self.now.notes ≡ true =
+    subst (λ k. list_all is_countable k.notes ≡ true) c.self.view_is
+    c.self.invariant.countable in
+    let ballots : list_all is_formed c.args.self.now.ballots ≡ true =
+    subst (λ k. list_all is_formed k.ballots ≡ true) c.self.view_is c.self.invariant.formed in
+    found_counts g.H.Hasher.digest_of c.args.self.now notes ballots
+    (owes_cert g.H.Hasher.digest_of c.args.self.now) c.first_certifiable.result
+    c.first_certifiable.ensures

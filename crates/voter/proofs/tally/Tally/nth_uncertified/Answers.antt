@@ -8,8 +8,12 @@ use Rattle.voter.proofs.tally.Tally.nth_uncertified.Goals as goal
 pub returns-in-Some : goal.returns-in-Some
 returns-in-Some g c =
     c.named_at.ensures
-    ∙ picked (is_candidate c.args.self.now) (named_proposals (state_of c.args.self.now)) c.args.index c.in-Some.field-0-0 c.in-Some.at c.in-Some.field-0-1-1 (sym c.ranked_candidate.ensures ∙ c.in-Some.is)
+    ∙ picked (is_candidate c.args.self.now) (named_proposals (state_of c.args.self.now))
+    c.args.index c.in-Some.field-0-0 c.in-Some.at c.in-Some.field-0-1-1
+    (sym c.ranked_candidate.ensures ∙ c.in-Some.is)
 
 pub returns-in-None : goal.returns-in-None
 returns-in-None g c =
-    sym (none_picked (is_candidate c.args.self.now) (named_proposals (state_of c.args.self.now)) c.args.index (sym c.ranked_candidate.ensures ∙ c.in-None.is))
+    sym
+    (none_picked (is_candidate c.args.self.now) (named_proposals (state_of c.args.self.now))
+    c.args.index (sym c.ranked_candidate.ensures ∙ c.in-None.is))

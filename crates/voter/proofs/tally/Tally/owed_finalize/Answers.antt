@@ -7,9 +7,15 @@ use Rattle.voter.proofs.tally.Tally.owed_finalize.Goals as goal
 pub returns-in-Some : goal.returns-in-Some
 unfolding owes_finalize
 returns-in-Some g c =
-    sym (finalize_found (vote_rules g.H.Hasher.digest_of c.args.self.now.epochs) c.args.self.now.id (state_of c.args.self.now) c.first_to_finalize.result c.in-Some.proposal c.first_to_finalize.ensures c.in-Some.is)
+    sym
+    (finalize_found (vote_rules g.H.Hasher.digest_of c.args.self.now.epochs) c.args.self.now.id
+    (state_of c.args.self.now) c.first_to_finalize.result c.in-Some.proposal
+    c.first_to_finalize.ensures c.in-Some.is)
 
 pub returns-in-None : goal.returns-in-None
 unfolding owes_finalize
 returns-in-None g c =
-    sym (finalize_missing (vote_rules g.H.Hasher.digest_of c.args.self.now.epochs) c.args.self.now.id (state_of c.args.self.now) c.first_to_finalize.result c.first_to_finalize.ensures c.in-None.is)
+    sym
+    (finalize_missing (vote_rules g.H.Hasher.digest_of c.args.self.now.epochs)
+    c.args.self.now.id (state_of c.args.self.now) c.first_to_finalize.result
+    c.first_to_finalize.ensures c.in-None.is)

@@ -7,9 +7,15 @@ use Rattle.voter.proofs.tally.Tally.owed_notarize.Goals as goal
 pub returns-in-Some : goal.returns-in-Some
 unfolding owes_notarize
 returns-in-Some g c =
-    sym (notarize_found (vote_rules g.H.Hasher.digest_of c.args.self.now.epochs) c.args.self.now.id (state_of c.args.self.now) c.first_to_notarize.result c.in-Some.proposal c.first_to_notarize.ensures c.in-Some.is)
+    sym
+    (notarize_found (vote_rules g.H.Hasher.digest_of c.args.self.now.epochs) c.args.self.now.id
+    (state_of c.args.self.now) c.first_to_notarize.result c.in-Some.proposal
+    c.first_to_notarize.ensures c.in-Some.is)
 
 pub returns-in-None : goal.returns-in-None
 unfolding owes_notarize
 returns-in-None g c =
-    sym (notarize_missing (vote_rules g.H.Hasher.digest_of c.args.self.now.epochs) c.args.self.now.id (state_of c.args.self.now) c.first_to_notarize.result c.first_to_notarize.ensures c.in-None.is)
+    sym
+    (notarize_missing (vote_rules g.H.Hasher.digest_of c.args.self.now.epochs)
+    c.args.self.now.id (state_of c.args.self.now) c.first_to_notarize.result
+    c.first_to_notarize.ensures c.in-None.is)

@@ -7,6 +7,10 @@ use Rattle.voter.proofs.tally.Tally.owed_vote.Goals as goal
 
 pub returns-clause-countable : goal.returns-clause-countable
 returns-clause-countable g c =
-    let notes : list_all is_countable c.args.self.now.notes ≡ true = subst (λ k. list_all is_countable k.notes ≡ true) c.self.view_is c.self.invariant.countable in
-    let ballots : list_all is_formed c.args.self.now.ballots ≡ true = subst (λ k. list_all is_formed k.ballots ≡ true) c.self.view_is c.self.invariant.formed in
-    given_countable g.H.Hasher.digest_of c.args.self.now notes ballots c.first_owed.result c.first_owed.ensures
+    let notes : list_all is_countable c.args.self.now.notes ≡ true =
+    subst (λ k. list_all is_countable k.notes ≡ true) c.self.view_is
+    c.self.invariant.countable in
+    let ballots : list_all is_formed c.args.self.now.ballots ≡ true =
+    subst (λ k. list_all is_formed k.ballots ≡ true) c.self.view_is c.self.invariant.formed in
+    given_countable g.H.Hasher.digest_of c.args.self.now notes ballots c.first_owed.result
+    c.first_owed.ensures

@@ -6,4 +6,8 @@ use Rattle.voter.proofs.tally.Tally.owes_cert.Goals as goal
 
 pub returns : goal.returns
 unfolding owes_cert
-returns g c = c.is_certifiable.ensures ∙ sym (cert_where (vote_rules g.H.Hasher.digest_of c.args.self.now.epochs) c.args.self.now.id (state_of c.args.self.now) c.args.vote.now)
+returns g c =
+    c.is_certifiable.ensures
+    ∙ sym
+    (cert_where (vote_rules g.H.Hasher.digest_of c.args.self.now.epochs) c.args.self.now.id
+    (state_of c.args.self.now) c.args.vote.now)
