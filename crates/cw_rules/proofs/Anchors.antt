@@ -18,7 +18,7 @@ use Rattle.cw_rules.proofs.StepKeeps.{each_append}
 use Rattle.cw_rules.proofs.Grows.{Grows, Grows_sound, Grows_stands}
 use Rattle.cw_rules.proofs.Worlds.{get-set, get-set_same, get-map, get-map_from, frames_join, members_done, grows_done, at_notes, means_at, grows_at, at_own, Turns, IsWorldKept, world_done, kept_lawful, kept_keep}
 use Rattle.cw_rules.proofs.Blocks.{NoClash}
-use Rattle.cw_rules.proofs.Descents.{IsFrontOf, anchored_new}
+use Rattle.cw_rules.proofs.Bases.{IsFrontOf, anchored_new}
 
 pub get-set_other : {X : Type 0} (xs : List X) (i j : ℕ) (x y : X) → (i ≡ j → ⊥)
     → slice_get xs j ≡ Some y → slice_get (slice_set xs i x) j ≡ Some y

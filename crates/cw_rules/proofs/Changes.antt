@@ -14,7 +14,8 @@ use Rattle.cw_rules.specs.Step.{Member, Stepped, member_notes}
 use Rattle.cw_rules.specs.World.{Cut, Do, Faulty, Line, Restart, World, done_by, happens, line_member, member_at, turned, with_done}
 use Rattle.cw_rules.proofs.Lists.{and_then_some}
 use Rattle.cw_rules.proofs.Runs.{turn}
-use Rattle.cw_rules.proofs.Worlds.{get-set_same, member_there, reached_kept}
+use Rattle.cw_rules.proofs.Worlds.{get-set_same, member_there}
+use Rattle.cw_rules.proofs.Reach.{reached_kept}
 
 -- ---- the members' notes
 

@@ -5,13 +5,16 @@ pub mod Lists
 pub mod OwedKeeps
 pub mod StepKeeps
 pub mod KeptNotes
+pub mod Marks
 pub mod Settles
 pub mod Grows
 pub mod Sends
 pub mod Worlds
+pub mod Reach
 pub mod Fits
 pub mod Certified
 pub mod Blocks
+pub mod Bases
 pub mod Descents
 pub mod Anchors
 pub mod Clashes
@@ -25,5 +28,6 @@ pub mod Reports
 pub mod Heights
 pub mod Stores
 pub mod Changes
+pub mod Noting
 pub mod Written
 pub mod Acks

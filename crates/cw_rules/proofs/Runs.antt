@@ -23,10 +23,12 @@ use Rattle.cw_rules.specs.Stands.{Stands}
 use Rattle.cw_rules.specs.Step.{Member, Stepped, cut_step, deliveries, deliveries_within, handing, member_notes, most_delivered, start, state_of, step, step_notes, stopped, taken, with_given, with_notes}
 use Rattle.cw_rules.specs.World.{Cut, Do, Faulty, Line, Restart, World, done_by, event_of, fault_sends, faults, happens, line_member, member_at, opening, run, signed, turned, with_done, with_sends}
 use Rattle.cw_rules.proofs.Lists.{and_then_some, in_cases}
-use Rattle.cw_rules.proofs.Worlds.{get-map, get-map_from, get-set_same, frames_join, member_there, IsWorldKept, IsOf, front_of, turned_kept, line_kept, opening_kept, kept_lawful, kept_keep}
+use Rattle.cw_rules.proofs.Worlds.{get-map, get-map_from, get-set_same, frames_join, member_there, IsWorldKept, kept_lawful, kept_keep}
+use Rattle.cw_rules.proofs.Reach.{IsOf, front_of, turned_kept, line_kept, opening_kept}
 use Rattle.cw_rules.proofs.Anchors.{anchored_done}
 use Rattle.cw_rules.proofs.Blocks.{NoClash, noter}
-use Rattle.cw_rules.proofs.Descents.{IsFrontOf, Branch, branch_of, one_chain, one_entry, goes_down}
+use Rattle.cw_rules.proofs.Bases.{IsFrontOf}
+use Rattle.cw_rules.proofs.Descents.{Branch, branch_of, one_chain, one_entry, goes_down}
 use Rattle.cw_rules.proofs.Clashes.{clear_done}
 
 -- what is handed out by lines, one after another

@@ -2,9 +2,8 @@ use Rattle.cw_rules.specs.Fits.{block_fits}
 use Rattle.cw_rules.specs.Reached.{members_of}
 use Rattle.cw_rules.proofs.Changes.{reached_named}
 use Rattle.cw_rules.proofs.Certified.{ancestors_in}
-use Rattle.cw_rules.proofs.Worlds.{reached_keep}
 use Rattle.cw_rules.proofs.Chain.{one_notarized, not_both_stand, finalized_descent}
-use Rattle.cw_rules.proofs.Worlds.{reached_kept, reached_lawful}
+use Rattle.cw_rules.proofs.Reach.{reached_keep, reached_kept, reached_lawful}
 use Rattle.cw_rules.proofs.laws.cluster_laws.Goals as goal
 
 pub returns-clause-lawful : goal.returns-clause-lawful
