@@ -1,3 +1,4 @@
 pub mod Toy
 pub mod Scenes
 pub mod Scripts
+pub mod Faults

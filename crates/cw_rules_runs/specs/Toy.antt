@@ -62,6 +62,21 @@ hashed_by hash epochs backlog blocks = record {
 abbrev pub toy_in : Epochs → ℕ → List Block → Rules
 toy_in epochs backlog blocks = hashed_by toy_hash epochs backlog blocks
 
+-- a block: its epoch, view, leader, parent's view, commitment and digest, height and payload
+abbrev pub toy_block : ℕ → ℕ → ℕ → ℕ → Commitment → Digest32 → ℕ → List ℕ → Block
+toy_block epoch view leader parent_view parent digest height payload = record {
+  context = record {
+    epoch = epoch;
+    view = view;
+    leader = leader;
+    parent_view = parent_view;
+    parent = parent;
+  };
+  parent = digest;
+  height = height;
+  payload = payload;
+}
+
 -- the tag of a message
 abbrev pub kind : Message → ℕ
 kind (Message.Shard c x) = 0

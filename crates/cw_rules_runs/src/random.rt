@@ -5,17 +5,17 @@
 ghost use Rattle.std.specs.Prelude.{◌≡◌, ℕ, List, [], ◌∷◌};
 ghost use Rattle.cw_rules.specs.World.{world_of};
 ghost use Rattle.cw_rules_runs.specs.Toy.{counts, told_short};
-ghost use Rattle.cw_rules_runs.specs.Scripts.{outsiders_rules, outsiders_script, full_epoch_rules};
-ghost use Rattle.cw_rules_runs.specs.Scripts.{full_epoch_script, vote_again_rules};
-ghost use Rattle.cw_rules_runs.specs.Scripts.{vote_again_script, two_by_two_rules};
-ghost use Rattle.cw_rules_runs.specs.Scripts.{two_by_two_script, again_twice_rules};
-ghost use Rattle.cw_rules_runs.specs.Scripts.{again_twice_script, finalized_twice_rules};
-ghost use Rattle.cw_rules_runs.specs.Scripts.{finalized_twice_script, two_faulty_rules};
-ghost use Rattle.cw_rules_runs.specs.Scripts.{two_faulty_script, four_to_six_rules};
-ghost use Rattle.cw_rules_runs.specs.Scripts.{four_to_six_script, silent_leader_rules};
-ghost use Rattle.cw_rules_runs.specs.Scripts.{silent_leader_script, acked_rules, acked_script};
-ghost use Rattle.cw_rules_runs.specs.Scripts.{two_blocks_rules, two_blocks_script};
-ghost use Rattle.cw_rules_runs.specs.Scripts.{later_member_rules, later_member_script};
+ghost use Rattle.cw_rules_runs.specs.Faults.{outsiders_rules, outsiders_script, full_epoch_rules};
+ghost use Rattle.cw_rules_runs.specs.Faults.{full_epoch_script, two_by_two_rules};
+ghost use Rattle.cw_rules_runs.specs.Faults.{two_by_two_script, finalized_twice_rules};
+ghost use Rattle.cw_rules_runs.specs.Faults.{finalized_twice_script, two_faulty_rules};
+ghost use Rattle.cw_rules_runs.specs.Faults.{two_faulty_script, silent_leader_rules};
+ghost use Rattle.cw_rules_runs.specs.Faults.{silent_leader_script, later_member_rules};
+ghost use Rattle.cw_rules_runs.specs.Faults.{later_member_script};
+ghost use Rattle.cw_rules_runs.specs.Scripts.{vote_again_rules, vote_again_script};
+ghost use Rattle.cw_rules_runs.specs.Scripts.{again_twice_rules, again_twice_script};
+ghost use Rattle.cw_rules_runs.specs.Scripts.{four_to_six_rules, four_to_six_script, acked_rules};
+ghost use Rattle.cw_rules_runs.specs.Scripts.{acked_script, two_blocks_rules, two_blocks_script};
 
 /// Members outside the first committee note its certificates and its block, and vote in the next
 /// one.
