@@ -1,6 +1,6 @@
 -- The results of calls at the items of a list, piece by piece.
-use Rattle.std.proofs.Common.{◌≡◌, ℕ, ◌+◌, ◌<◌, List, [], ◌∷◌, ◌++◌, length, take, drop, sym, ap, ◌∙◌}
-use Rattle.std.specs.Prelude.{slice_index_or}
+use Rattle.std.proofs.Common.{◌≡◌, true, false, ℕ, ◌+◌, ◌<◌, List, [], ◌∷◌, ◌++◌, length, take, drop, sym, ap, ◌∙◌}
+use Rattle.std.specs.Prelude.{slice_index_or, Result, Ok, Err, IfOk, IsErr, MatchResult}
 use Rattle.std.proofs.lemmas.List.{take_more, take-append-drop}
 use denote.Ref.{Bor}
 use denote.Param.Members.{Shared}
@@ -31,3 +31,19 @@ module _ {F T R : Type 0} (g : Shared F (Bor T × Unit {0}) R) (f : F) where
       let whole : hs ++ ts ≡ xs =
       ap (λ h. h ++ ts) front ∙ (ap (λ t. take n xs ++ t) back ∙ take-append-drop n xs) in
       rw (both, sym whole) (GivesItems-append hs ts first rest gives also)
+
+  -- two such lists, or want of memory in one of them or for both
+  pub GivesItems_behind : {V E : Type 0} (items : V → List R) (n : ℕ) (xs hs ts : List T)
+      (own others all : Result V E) → hs ≡ take n xs → ts ≡ drop n xs
+      → MatchResult own
+      (λ first. MatchResult others (λ rest. IfOk all (λ v. items v ≡ items first ++ items rest))
+      (λ _. IsErr all)) (λ _. IsErr all)
+      → IfOk own (λ v. GivesItems g f hs (items v)) → IfOk others (λ v. GivesItems g f ts (items v))
+      → IfOk all (λ v. GivesItems g f xs (items v))
+  GivesItems_behind items n xs hs ts own others (Err e) front back joined gives also = tt
+  GivesItems_behind items n xs hs ts (Err o) others (Ok all) front back joined gives also =
+      let no : false ≡ true = joined in absurd (cc)
+  GivesItems_behind items n xs hs ts (Ok o) (Err p) (Ok all) front back joined gives also =
+      let no : false ≡ true = joined in absurd (cc)
+  GivesItems_behind items n xs hs ts (Ok o) (Ok p) (Ok all) front back joined gives also =
+      GivesItems_halves n xs hs ts (items all) (items o) (items p) front back joined gives also

@@ -1,6 +1,6 @@
 //! Numbers as bytes, at the end of a text. A call that is refused for memory changes nothing.
 
-ghost use Rattle.std.specs.Prelude.{◌≡◌, ◌≤◌, [], ◌∷◌, ◌++◌, take, OnOk, OnErr};
+ghost use Rattle.std.specs.Prelude.{◌≡◌, ◌/◌, ◌%◌, ◌^◌, ◌<◌, ◌≤◌, [], ◌∷◌, ◌++◌, take, OnOk, OnErr};
 ghost use Rattle.cw_base.specs.Bytes.{be16, be32, be64, varint};
 
 use crate::error::NoMemory;
@@ -88,28 +88,51 @@ fn varint_bytes(value: u32) -> ([u8; 5], usize)
     ensures count { result.1 ≤ 5 }
     ensures bytes { take result.1 result.0 ≡ varint value }
 {
-    let low = |shift: u32| (value >> shift & 0x7f) as u8;
     if value < 1 << 7 {
-        ([low(0), 0, 0, 0, 0], 1)
+        ([low(value, 0), 0, 0, 0, 0], 1)
     } else if value < 1 << 14 {
-        ([low(0) | 0x80, low(7), 0, 0, 0], 2)
+        ([low(value, 0) | 0x80, low(value, 7), 0, 0, 0], 2)
     } else if value < 1 << 21 {
-        ([low(0) | 0x80, low(7) | 0x80, low(14), 0, 0], 3)
+        (
+            [
+                low(value, 0) | 0x80,
+                low(value, 7) | 0x80,
+                low(value, 14),
+                0,
+                0,
+            ],
+            3,
+        )
     } else if value < 1 << 28 {
         (
-            [low(0) | 0x80, low(7) | 0x80, low(14) | 0x80, low(21), 0],
+            [
+                low(value, 0) | 0x80,
+                low(value, 7) | 0x80,
+                low(value, 14) | 0x80,
+                low(value, 21),
+                0,
+            ],
             4,
         )
     } else {
         (
             [
-                low(0) | 0x80,
-                low(7) | 0x80,
-                low(14) | 0x80,
-                low(21) | 0x80,
-                low(28),
+                low(value, 0) | 0x80,
+                low(value, 7) | 0x80,
+                low(value, 14) | 0x80,
+                low(value, 21) | 0x80,
+                low(value, 28),
             ],
             5,
         )
     }
+}
+
+// Seven bits of `value`, from bit `shift` on.
+fn low(value: u32, shift: u32) -> u8
+    requires { shift < 32 }
+    ensures value { result ≡ value / 2 ^ shift % 128 }
+    ensures small { result < 128 }
+{
+    (value >> shift & 0x7f) as u8
 }

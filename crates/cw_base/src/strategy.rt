@@ -1,6 +1,6 @@
 //! How work over many items is cut into pieces.
 
-ghost use Rattle.std.specs.Prelude.{◌≡◌, ◌+◌, ◌-◌, ◌<◌, ◌≤◌, length, IfOk};
+ghost use Rattle.std.specs.Prelude.{◌≡◌, ◌+◌, ◌-◌, ◌<◌, ◌≤◌, ◌++◌, length, IfOk, IsErr, MatchResult};
 ghost use Rattle.std.specs.Fn.{FnReturnsAt};
 ghost use Rattle.std.specs.Thread.{IsSync};
 ghost use Rattle.cw_base.specs.Mapping.{AcceptsItems, GivesItems};
@@ -159,6 +159,19 @@ fn map_pieces<
                 (λ answers. GivesItems F.Fn f.entry.now tail.entry.now answers.items) }
         { map_pieces(rt, strategy, alloc, tail, total, pieces, piece + 1, f) },
     );
+    behind(own, others)
+}
+
+// The answers of one piece, and behind them those of the pieces that follow.
+fn behind<X: Drop>(
+    own: Result<Vec<X>, NoMemory>,
+    others: Result<Vec<X>, NoMemory>,
+) -> Result<Vec<X>, NoMemory>
+    ensures { MatchResult own
+        (λ first. MatchResult others
+        (λ rest. IfOk result (λ all. all.items ≡ first.items ++ rest.items)) (λ _. IsErr result))
+        (λ _. IsErr result) }
+{
     let mut answers = own?;
     let mut more = others?;
     answers.append(&mut more)?;
