@@ -1,10 +1,13 @@
 //! Messages between members.
 
-ghost use Rattle.std.specs.Prelude.{◌≡◌, ◌++◌, IfOk, IfErr, OnOk, OnErr, take, length};
+ghost use Rattle.std.specs.Prelude.{◌≡◌, [], ◌∷◌, ◌++◌, IfOk, IfErr, OnOk, OnErr, Ok, take, length};
+ghost use Rattle.cw_base.specs.Bytes.{be16};
 ghost use Rattle.cw_base.specs.declared.reader.CodecError.TheVariants as codec;
 ghost use Rattle.cw_types.specs.Encoding.{message_bytes};
 ghost use Rattle.cw_types.specs.Reading.{shard_at, shard_message_at, vote_message_at, ask_at};
 ghost use Rattle.cw_types.specs.Reading.{ask_height_at, tagged_message_at, message_at};
+ghost use Rattle.cw_types.specs.Reading.{to_the_end};
+ghost use Rattle.cw_types.specs.declared.message.Message.TheVariants as messages;
 ghost use Rattle.cw_base.specs.Ends.{IsEnd};
 ghost use Rattle.cw_base.specs.Reading.{IsRead, Gives};
 
@@ -78,36 +81,27 @@ impl Message {
             Message::Shard(commitment, chunk) => {
                 put_u8(out, 0)?;
                 commitment.write(out)?;
-                chunk.write(out)?;
-                Ok(())
+                chunk.write(out)
             }
             Message::Vote(signer, vote) => {
-                put_u8(out, 1)?;
-                put_be16(out, *signer)?;
-                vote.write(out)?;
-                Ok(())
+                put_from(out, 1, *signer)?;
+                vote.write(out)
             }
             Message::Cert(cert) => {
                 put_u8(out, 2)?;
-                cert.write(out)?;
-                Ok(())
+                cert.write(out)
             }
             Message::Ask(from, commitment) => {
-                put_u8(out, 3)?;
-                put_be16(out, *from)?;
-                commitment.write(out)?;
-                Ok(())
+                put_from(out, 3, *from)?;
+                commitment.write(out)
             }
             Message::AskHeight(from, height) => {
-                put_u8(out, 4)?;
-                put_be16(out, *from)?;
-                put_be64(out, *height)?;
-                Ok(())
+                put_from(out, 4, *from)?;
+                put_be64(out, *height)
             }
             Message::Block(block) => {
                 put_u8(out, 5)?;
-                block.write(out)?;
-                Ok(())
+                block.write(out)
             }
             Message::Junk(bytes) => put_bytes(out, bytes.as_slice()),
         }
@@ -123,19 +117,51 @@ impl Message {
         ensures err { IfErr result (λ e. e ≡ codec.NoMemory) }
     {
         let bytes = reader.rest();
-        match read_tagged(alloc, reader) {
-            Ok(message) if reader.rest().is_empty() => Ok(message),
-            Err(CodecError::NoMemory) => {
-                *reader = Reader::new(&[]);
-                Err(CodecError::NoMemory)
-            }
-            _ => {
-                *reader = Reader::new(&[]);
-                let junk = Vec::from_slice(alloc, bytes)?;
-                Ok(Message::Junk(Items::from_vec(junk)))
-            }
+        let whole = read_alone(alloc, reader);
+        *reader = Reader::new(&[]);
+        match whole {
+            Ok(Some(message)) => Ok(message),
+            Ok(None) => junk_of(alloc, bytes),
+            Err(NoMemory) => Err(CodecError::NoMemory),
         }
     }
+}
+
+// The message that all bytes left are; none where they don't read as one to their end.
+fn read_alone(alloc: Global, reader: &mut Reader) -> Result<Option<Message>, NoMemory>
+    ensures { IfOk result (λ message. message ≡ to_the_end (tagged_message_at reader.old)) }
+{
+    match read_tagged(alloc, reader) {
+        Ok(message) => Ok(alone(message, reader.rest())),
+        Err(CodecError::NoMemory) => Err(NoMemory),
+        Err(_) => Ok(None),
+    }
+}
+
+// The message, where no bytes are left behind it.
+fn alone(message: Message, rest: &[u8]) -> Option<Message>
+    ensures { result ≡ to_the_end (Ok (message, rest.now)) }
+{
+    if rest.is_empty() { Some(message) } else { None }
+}
+
+// Bytes that are no message.
+fn junk_of(alloc: Global, bytes: &[u8]) -> Result<Message, CodecError>
+    ensures value { Gives (λ message. message) result [] (Ok (messages.Junk bytes.now, [])) }
+    ensures err { IfErr result (λ e. e ≡ codec.NoMemory) }
+{
+    let bytes = Vec::from_slice(alloc, bytes)?;
+    Ok(Message::Junk(Items::from_vec(bytes)))
+}
+
+// A tag, and a member's number.
+fn put_from(out: &mut Vec<u8>, tag: u8, from: u16) -> Result<(), NoMemory>
+    ensures ok { OnOk result (out.new.items ≡ out.old.items ++ tag ∷ be16 from) }
+    ensures err { OnErr result (take (length out.old.items) out.new.items ≡ out.old.items) }
+{
+    put_u8(out, tag)?;
+    put_be16(out, from)?;
+    Ok(())
 }
 
 // A message at the front.

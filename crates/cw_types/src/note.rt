@@ -78,38 +78,31 @@ impl Note {
             Note::Block(commitment, block) => {
                 put_u8(out, 0)?;
                 commitment.write(out)?;
-                block.write(out)?;
-                Ok(())
+                block.write(out)
             }
             Note::Verified(epoch, view, commitment) => {
                 put_epoch_tag(out, 1, 10, *epoch)?;
                 put_be64(out, *view)?;
-                commitment.write(out)?;
-                Ok(())
+                commitment.write(out)
             }
             Note::Certified(proposal) => {
                 put_epoch_tag(out, 2, 9, proposal.epoch)?;
-                proposal.write(out)?;
-                Ok(())
+                proposal.write(out)
             }
             Note::Vote(vote) => {
                 put_u8(out, 3)?;
-                vote.write(out)?;
-                Ok(())
+                vote.write(out)
             }
             Note::Cert(cert) => {
                 put_u8(out, 4)?;
-                cert.write(out)?;
-                Ok(())
+                cert.write(out)
             }
-            Note::Ack(height) => put_height(out, 5, *height),
-            Note::Floor(height) => put_height(out, 6, *height),
-            Note::Prune(height) => put_height(out, 7, *height),
+            Note::Ack(height) => put_number(out, 5, *height),
+            Note::Floor(height) => put_number(out, 6, *height),
+            Note::Prune(height) => put_number(out, 7, *height),
             Note::Epoch(epoch, commitment) => {
-                put_u8(out, 8)?;
-                put_be64(out, *epoch)?;
-                commitment.write(out)?;
-                Ok(())
+                put_number(out, 8, *epoch)?;
+                commitment.write(out)
             }
         }
     }
@@ -147,20 +140,14 @@ fn read_later_note(reader: &mut Reader, tag: u8) -> Result<Note, CodecError>
     ensures value { IsRead (λ note. note) result reader.new (note_behind tag reader.old) }
     ensures place { IsEnd reader.old reader.new }
 {
+    if tag > 10 {
+        return Err(CodecError::Invalid);
+    }
+    let epoch = read_later_epoch(reader)?;
     match tag {
-        8 => {
-            let epoch = read_later_epoch(reader)?;
-            read_entered(reader, epoch)
-        }
-        9 => {
-            let epoch = read_later_epoch(reader)?;
-            read_certified(reader, epoch)
-        }
-        10 => {
-            let epoch = read_later_epoch(reader)?;
-            read_verified(reader, epoch)
-        }
-        _ => Err(CodecError::Invalid),
+        8 => read_entered(reader, epoch),
+        9 => read_certified(reader, epoch),
+        _ => read_verified(reader, epoch),
     }
 }
 
@@ -232,13 +219,13 @@ fn read_cert_note(alloc: Global, reader: &mut Reader) -> Result<Note, CodecError
     Ok(Note::Cert(cert))
 }
 
-// A tag, and a height.
-fn put_height(out: &mut Vec<u8>, tag: u8, height: u64) -> Result<(), NoMemory>
-    ensures ok { OnOk result (out.new.items ≡ out.old.items ++ tag ∷ be64 height) }
+// A tag, and a number of eight bytes.
+fn put_number(out: &mut Vec<u8>, tag: u8, number: u64) -> Result<(), NoMemory>
+    ensures ok { OnOk result (out.new.items ≡ out.old.items ++ tag ∷ be64 number) }
     ensures err { OnErr result (take (length out.old.items) out.new.items ≡ out.old.items) }
 {
     put_u8(out, tag)?;
-    put_be64(out, height)?;
+    put_be64(out, number)?;
     Ok(())
 }
 

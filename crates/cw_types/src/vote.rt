@@ -6,7 +6,7 @@ ghost use Rattle.cw_types.specs.Encoding.{cert_bytes, proposal_bytes, tag_bytes,
 ghost use Rattle.cw_types.specs.Same.{same_cert, same_proposal, same_vote};
 ghost use Rattle.cw_types.specs.Reading.{proposal_at, later_epoch_at, later_at, notarize_at};
 ghost use Rattle.cw_types.specs.Reading.{nullify_at, finalize_at, vote_at, signers_at, signed_at};
-ghost use Rattle.cw_types.specs.Reading.{cert_at};
+ghost use Rattle.cw_types.specs.Reading.{cert_at, vote_behind};
 ghost use Rattle.cw_types.specs.Votes as votes;
 ghost use Rattle.cw_base.specs.Ends.{IsEnd};
 ghost use Rattle.cw_base.specs.Reading.{IsRead, IsRefused, Gives};
@@ -162,18 +162,15 @@ impl Vote {
         match self {
             Vote::Notarize(proposal) => {
                 put_tag(out, 0, proposal.epoch)?;
-                proposal.write(out)?;
-                Ok(())
+                proposal.write(out)
             }
             Vote::Nullify { epoch, view } => {
                 put_tag(out, 1, *epoch)?;
-                put_be64(out, *view)?;
-                Ok(())
+                put_be64(out, *view)
             }
             Vote::Finalize(proposal) => {
                 put_tag(out, 2, proposal.epoch)?;
-                proposal.write(out)?;
-                Ok(())
+                proposal.write(out)
             }
         }
     }
@@ -192,20 +189,26 @@ impl Vote {
             0 => read_notarize(reader, 0),
             1 => read_nullify(reader, 0),
             2 => read_finalize(reader, 0),
-            3 => {
-                let epoch = read_later_epoch(reader)?;
-                read_notarize(reader, epoch)
-            }
-            4 => {
-                let epoch = read_later_epoch(reader)?;
-                read_nullify(reader, epoch)
-            }
-            5 => {
-                let epoch = read_later_epoch(reader)?;
-                read_finalize(reader, epoch)
-            }
-            _ => Err(CodecError::Invalid),
+            tag => read_later_vote(reader, tag),
         }
+    }
+}
+
+// A vote of an epoch above 0, behind its tag.
+#[tactic(auto, using(cw_base::proofs::Ends::end_of_end))]
+fn read_later_vote(reader: &mut Reader, tag: u8) -> Result<Vote, CodecError>
+    requires { 2 < tag }
+    ensures value { IsRead (λ vote. vote) result reader.new (vote_behind tag reader.old) }
+    ensures place { IsEnd reader.old reader.new }
+{
+    if tag > 5 {
+        return Err(CodecError::Invalid);
+    }
+    let epoch = read_later_epoch(reader)?;
+    match tag {
+        3 => read_notarize(reader, epoch),
+        4 => read_nullify(reader, epoch),
+        _ => read_finalize(reader, epoch),
     }
 }
 
