@@ -2,7 +2,7 @@
 //! by side, so that one look-up serves eight targets.
 
 ghost use Rattle.std.specs.Prelude.{◌≡◌, ℕ, ◌<◌, ◌≤◌, ◌+◌, ◌*◌, ◌/◌, ◌^◌, bit_xor, length};
-ghost use Rattle.std.specs.Prelude.{slice_index, IfOk, OnOk};
+ghost use Rattle.std.specs.Prelude.{slice_index, IfOk};
 ghost use Rattle.rs_code.specs.Codeword.{sum_below};
 ghost use Rattle.rs_code.specs.Coefficients.{lane, AreTables};
 ghost use Rattle.rs_code.specs.Field.{times};
@@ -12,6 +12,15 @@ use crate::lanes::{
     Eight, each_by_2, each_by_4, each_by_16, each_by_256, sum_of_three, sum_of_two,
 };
 use std::alloc::{AllocError, Global};
+
+/// As many entries, of 0 in each lane.
+pub fn zeros(alloc: Global, count: usize) -> Result<Vec<Eight>, AllocError>
+    ensures count { IfOk result (λ v. length v.items ≡ count) }
+    ensures each { IfOk result (λ v. (j l : ℕ) → j < count → lane v.items j l ≡ 0) }
+{
+    let entries = vec![in alloc; [0u16; 8]; count]?;
+    Ok(entries)
+}
 
 // Copies the first `count` entries behind themselves, with a step added in each lane.
 fn double(table: &mut [Eight], count: usize, step: &Eight)
@@ -103,10 +112,10 @@ fn add_by_tables(
 }
 
 // Adds to the sums the products of eight factors with the row's symbols, from a first column on.
+// There is room for the tables.
 fn add_row(
     sums: &mut [Eight],
-    low: &mut [Eight],
-    high: &mut [Eight],
+    tables: &mut [Eight],
     factors: &Eight,
     rows: &[u8],
     width: usize,
@@ -114,15 +123,14 @@ fn add_row(
     first: usize,
 )
     requires room { row * width + 2 * (first + length sums.old) ≤ length rows.now }
-    requires low { length low.old ≡ 256 }
-    requires high { length high.old ≡ 256 }
+    requires tables { length tables.old ≡ 1024 }
     ensures count { length sums.new ≡ length sums.old }
-    ensures low { length low.new ≡ 256 }
-    ensures high { length high.new ≡ 256 }
     ensures each { (j l : ℕ) → j < length sums.old → l < 8 → lane sums.new j l
         ≡ bit_xor (lane sums.old j l)
         (times (symbol rows.now width row (first + j)) (slice_index factors.now l)) }
 {
+    let (own, _) = tables.split_at_mut(512);
+    let (low, high) = own.split_at_mut(256);
     spread(low, factors);
     spread(high, &each_by_256(factors));
     add_by_tables(sums, low, high, rows, width, row, first);
@@ -171,13 +179,10 @@ fn add_two_by_tables(
 }
 
 // Adds to the sums the products of eight factors with the row's symbols and of eight others with
-// the next row's, from a first column on.
+// the next row's, from a first column on. There is room for the tables of both.
 fn add_two_rows(
     sums: &mut [Eight],
-    low: &mut [Eight],
-    high: &mut [Eight],
-    next_low: &mut [Eight],
-    next_high: &mut [Eight],
+    tables: &mut [Eight],
     factors: &Eight,
     next_factors: &Eight,
     rows: &[u8],
@@ -186,20 +191,16 @@ fn add_two_rows(
     first: usize,
 )
     requires room { (row + 1) * width + 2 * (first + length sums.old) ≤ length rows.now }
-    requires low { length low.old ≡ 256 }
-    requires high { length high.old ≡ 256 }
-    requires next_low { length next_low.old ≡ 256 }
-    requires next_high { length next_high.old ≡ 256 }
+    requires tables { length tables.old ≡ 1024 }
     ensures count { length sums.new ≡ length sums.old }
-    ensures low { length low.new ≡ 256 }
-    ensures high { length high.new ≡ 256 }
-    ensures next_low { length next_low.new ≡ 256 }
-    ensures next_high { length next_high.new ≡ 256 }
     ensures each { (j l : ℕ) → j < length sums.old → l < 8
         → lane sums.new j l ≡ bit_xor (lane sums.old j l)
         (bit_xor (times (symbol rows.now width row (first + j)) (slice_index factors.now l))
         (times (symbol rows.now width (row + 1) (first + j)) (slice_index next_factors.now l))) }
 {
+    let (own, others) = tables.split_at_mut(512);
+    let (low, high) = own.split_at_mut(256);
+    let (next_low, next_high) = others.split_at_mut(256);
     spread(low, factors);
     spread(high, &each_by_256(factors));
     spread(next_low, next_factors);
@@ -212,32 +213,26 @@ fn add_two_rows(
 // Adds to the sums the products of each row's factors with its symbols, of two rows at a time, for
 // all rows but the last of an odd number of them.
 fn add_row_pairs(
-    alloc: Global,
     sums: &mut [Eight],
+    tables: &mut [Eight],
     factors: &[Eight],
     rows: &[u8],
     width: usize,
     first: usize,
-) -> Result<(), AllocError>
+)
     requires rows { length rows.now ≡ length factors.now * width }
     requires columns { 2 * (first + length sums.old) ≤ width }
+    requires tables { length tables.old ≡ 1024 }
     ensures count { length sums.new ≡ length sums.old }
-    ensures each { OnOk result (((j l : ℕ) → j < length sums.old → l < 8 → lane sums.old j l ≡ 0) →
+    ensures each { ((j l : ℕ) → j < length sums.old → l < 8 → lane sums.old j l ≡ 0) →
         (j l : ℕ) → j < length sums.old → l < 8 → lane sums.new j l
         ≡ sum_below (2 * (length factors.now / 2))
-        (λ s. times (symbol rows.now width s (first + j)) (lane factors.now s l))) }
+        (λ s. times (symbol rows.now width s (first + j)) (lane factors.now s l)) }
 {
-    let mut low = vec![in alloc; [0u16; 8]; 256]?;
-    let mut high = vec![in alloc; [0u16; 8]; 256]?;
-    let mut next_low = vec![in alloc; [0u16; 8]; 256]?;
-    let mut next_high = vec![in alloc; [0u16; 8]; 256]?;
     for pair in 0..factors.len() / 2 {
         add_two_rows(
             sums,
-            &mut low,
-            &mut high,
-            &mut next_low,
-            &mut next_high,
+            tables,
             &factors[2 * pair],
             &factors[2 * pair + 1],
             rows,
@@ -246,45 +241,56 @@ fn add_row_pairs(
             first,
         );
     }
-    Ok(())
 }
 
 // Adds to the sums the products of the last row's factors with its symbols, where the number of
 // rows is odd.
 fn add_odd_row(
-    alloc: Global,
     sums: &mut [Eight],
+    tables: &mut [Eight],
     factors: &[Eight],
     rows: &[u8],
     width: usize,
     first: usize,
-) -> Result<(), AllocError>
+)
     requires rows { length rows.now ≡ length factors.now * width }
     requires columns { 2 * (first + length sums.old) ≤ width }
+    requires tables { length tables.old ≡ 1024 }
     ensures count { length sums.new ≡ length sums.old }
-    ensures each { OnOk result ((j l : ℕ) → j < length sums.old → l < 8 → lane sums.old j l
+    ensures each { (j l : ℕ) → j < length sums.old → l < 8 → lane sums.old j l
         ≡ sum_below (2 * (length factors.now / 2))
         (λ s. times (symbol rows.now width s (first + j)) (lane factors.now s l)) →
         lane sums.new j l
         ≡ sum_below (length factors.now)
-        (λ s. times (symbol rows.now width s (first + j)) (lane factors.now s l))) }
+        (λ s. times (symbol rows.now width s (first + j)) (lane factors.now s l)) }
 {
-    if factors.len() % 2 == 1 {
-        let row = factors.len() - 1;
-        let mut low = vec![in alloc; [0u16; 8]; 256]?;
-        let mut high = vec![in alloc; [0u16; 8]; 256]?;
-        add_row(
-            sums,
-            &mut low,
-            &mut high,
-            &factors[row],
-            rows,
-            width,
-            row,
-            first,
-        );
+    if factors.len() % 2 == 0 {
+        return;
     }
-    Ok(())
+    let row = factors.len() - 1;
+    add_row(sums, tables, &factors[row], rows, width, row, first);
+}
+
+// Adds to the sums the products of each row's factors with its symbols, from a first column on.
+fn add_rows(
+    sums: &mut [Eight],
+    tables: &mut [Eight],
+    factors: &[Eight],
+    rows: &[u8],
+    width: usize,
+    first: usize,
+)
+    requires rows { length rows.now ≡ length factors.now * width }
+    requires columns { 2 * (first + length sums.old) ≤ width }
+    requires tables { length tables.old ≡ 1024 }
+    ensures count { length sums.new ≡ length sums.old }
+    ensures each { ((j l : ℕ) → j < length sums.old → l < 8 → lane sums.old j l ≡ 0) →
+        (j l : ℕ) → j < length sums.old → l < 8 → lane sums.new j l
+        ≡ sum_below (length factors.now)
+        (λ s. times (symbol rows.now width s (first + j)) (lane factors.now s l)) }
+{
+    add_row_pairs(sums, tables, factors, rows, width, first);
+    add_odd_row(sums, tables, factors, rows, width, first);
 }
 
 /// For each of eight targets, one in a lane, the sums over the rows of a row's symbol times its
@@ -304,9 +310,9 @@ pub fn wide_sums(
         ≡ sum_below (length factors.now)
         (λ s. times (symbol rows.now width s (first + j)) (lane factors.now s l))) }
 {
-    let mut sums = vec![in alloc; [0u16; 8]; count]?;
-    add_row_pairs(alloc, &mut sums, factors, rows, width, first)?;
-    add_odd_row(alloc, &mut sums, factors, rows, width, first)?;
+    let mut tables = zeros(alloc, 1024)?;
+    let mut sums = zeros(alloc, count)?;
+    add_rows(&mut sums, &mut tables, factors, rows, width, first);
     Ok(sums)
 }
 

@@ -2,13 +2,13 @@
 //! pay: then a table has the products with each number of four bits.
 
 ghost use Rattle.std.specs.Prelude.{◌≡◌, ℕ, ◌<◌, ◌≤◌, ◌+◌, ◌*◌, ◌/◌, ◌%◌, bit_xor, length};
-ghost use Rattle.std.specs.Prelude.{slice_index, IfOk, OnOk};
+ghost use Rattle.std.specs.Prelude.{slice_index, IfOk};
 ghost use Rattle.rs_code.specs.Codeword.{sum_below};
 ghost use Rattle.rs_code.specs.Coefficients.{lane};
 ghost use Rattle.rs_code.specs.Field.{times};
 ghost use Rattle.rs_code.specs.Rows.{symbol};
 
-use crate::eights::{spread_short, wide_sums};
+use crate::eights::{spread_short, wide_sums, zeros};
 use crate::lanes::{Eight, each_by_16, each_by_256, sum_of_three};
 use std::alloc::{AllocError, Global};
 
@@ -55,50 +55,39 @@ fn narrow_sums(
         ≡ sum_below (length factors.now)
         (λ s. times (symbol rows.now width s (first + j)) (lane factors.now s l))) }
 {
-    let mut sums = vec![in alloc; [0u16; 8]; count]?;
-    add_rows(alloc, &mut sums, factors, rows, width, first)?;
+    let mut tables = zeros(alloc, 32)?;
+    let mut sums = zeros(alloc, count)?;
+    add_rows(&mut sums, &mut tables, factors, rows, width, first);
     Ok(sums)
 }
 
 // Adds to the sums the products of each row's factors with its symbols, from a first column on.
 fn add_rows(
-    alloc: Global,
     sums: &mut [Eight],
+    tables: &mut [Eight],
     factors: &[Eight],
     rows: &[u8],
     width: usize,
     first: usize,
-) -> Result<(), AllocError>
+)
     requires rows { length rows.now ≡ length factors.now * width }
     requires columns { 2 * (first + length sums.old) ≤ width }
+    requires tables { length tables.old ≡ 32 }
     ensures count { length sums.new ≡ length sums.old }
-    ensures each { OnOk result (((j l : ℕ) → j < length sums.old → l < 8 → lane sums.old j l ≡ 0) →
+    ensures each { ((j l : ℕ) → j < length sums.old → l < 8 → lane sums.old j l ≡ 0) →
         (j l : ℕ) → j < length sums.old → l < 8 → lane sums.new j l
         ≡ sum_below (length factors.now)
-        (λ s. times (symbol rows.now width s (first + j)) (lane factors.now s l))) }
+        (λ s. times (symbol rows.now width s (first + j)) (lane factors.now s l)) }
 {
-    let mut low = vec![in alloc; [0u16; 8]; 16]?;
-    let mut high = vec![in alloc; [0u16; 8]; 16]?;
     for row in 0..factors.len() {
-        add_row(
-            sums,
-            &mut low,
-            &mut high,
-            &factors[row],
-            rows,
-            width,
-            row,
-            first,
-        );
+        add_row(sums, tables, &factors[row], rows, width, row, first);
     }
-    Ok(())
 }
 
 // Adds to the sums the products of eight factors with the row's symbols, from a first column on.
 fn add_row(
     sums: &mut [Eight],
-    low: &mut [Eight],
-    high: &mut [Eight],
+    tables: &mut [Eight],
     factors: &Eight,
     rows: &[u8],
     width: usize,
@@ -106,39 +95,27 @@ fn add_row(
     first: usize,
 )
     requires room { row * width + 2 * (first + length sums.old) ≤ length rows.now }
-    requires low { length low.old ≡ 16 }
-    requires high { length high.old ≡ 16 }
+    requires tables { length tables.old ≡ 32 }
     ensures count { length sums.new ≡ length sums.old }
-    ensures low { length low.new ≡ 16 }
-    ensures high { length high.new ≡ 16 }
     ensures each { (j l : ℕ) → j < length sums.old → l < 8 → lane sums.new j l
         ≡ bit_xor (lane sums.old j l)
         (times (symbol rows.now width row (first + j)) (slice_index factors.now l)) }
 {
     let start = row * width + 2 * first;
-    add_bytes(sums, low, high, &each_by_256(factors), rows, start);
-    add_bytes(sums, low, high, factors, rows, start + 1);
+    add_bytes(sums, tables, &each_by_256(factors), rows, start);
+    add_bytes(sums, tables, factors, rows, start + 1);
 }
 
 // Adds to the sums the products of eight factors with every other byte, from a first one on.
-fn add_bytes(
-    sums: &mut [Eight],
-    low: &mut [Eight],
-    high: &mut [Eight],
-    factors: &Eight,
-    rows: &[u8],
-    start: usize,
-)
+fn add_bytes(sums: &mut [Eight], tables: &mut [Eight], factors: &Eight, rows: &[u8], start: usize)
     requires room { start + 2 * length sums.old ≤ length rows.now + 1 }
-    requires low { length low.old ≡ 16 }
-    requires high { length high.old ≡ 16 }
+    requires tables { length tables.old ≡ 32 }
     ensures count { length sums.new ≡ length sums.old }
-    ensures low { length low.new ≡ 16 }
-    ensures high { length high.new ≡ 16 }
     ensures each { (j l : ℕ) → j < length sums.old → l < 8
         → lane sums.new j l ≡ bit_xor (lane sums.old j l)
         (times (slice_index factors.now l) (slice_index rows.now (start + 2 * j))) }
 {
+    let (low, high) = tables.split_at_mut(16);
     spread_short(low, factors);
     spread_short(high, &each_by_16(factors));
     add_by_short_tables(sums, low, high, rows, start);

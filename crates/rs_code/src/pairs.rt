@@ -1,13 +1,13 @@
 //! Sums of rows for two targets at once, where no more are left.
 
 ghost use Rattle.std.specs.Prelude.{◌≡◌, ℕ, ◌<◌, ◌≤◌, ◌+◌, ◌*◌, ◌/◌, ◌%◌, bit_xor, length, slice_index};
-ghost use Rattle.std.specs.Prelude.{IfOk, OnOk};
+ghost use Rattle.std.specs.Prelude.{IfOk};
 ghost use Rattle.rs_code.specs.Codeword.{sum_below};
 ghost use Rattle.rs_code.specs.Coefficients.{lane, half};
 ghost use Rattle.rs_code.specs.Field.{times};
 ghost use Rattle.rs_code.specs.Rows.{symbol};
 
-use crate::eights::spread;
+use crate::eights::{spread, zeros};
 use crate::lanes::{Eight, each_by_256};
 use std::alloc::{AllocError, Global};
 
@@ -32,147 +32,192 @@ pub fn pair_sums(
         ≡ sum_below (length factors.now)
         (λ s. times (symbol rows.now width s (first + j)) (lane factors.now s l))) }
 {
+    let mut entries = zeros(alloc, 256)?;
+    let mut words = vec![in alloc; 0u32; 1024]?;
     let mut sums = vec![in alloc; [0u16; 2]; count]?;
-    add_row_pairs(alloc, &mut sums, factors, rows, width, first)?;
-    add_odd_row(alloc, &mut sums, factors, rows, width, first)?;
+    add_rows(
+        &mut sums,
+        &mut words,
+        &mut entries,
+        factors,
+        rows,
+        width,
+        first,
+    );
     Ok(sums)
 }
 
-// Adds to the sums the products of each row's factors with its symbols, of two rows at a time, for
-// all rows but the last of an odd number of them.
-fn add_row_pairs(
-    alloc: Global,
+// Adds to the sums the products of each row's factors with its symbols, from a first column on.
+// There is room for the tables of two rows, and for one whose entries have all eight lanes.
+fn add_rows(
     sums: &mut [Pair],
+    words: &mut [u32],
+    entries: &mut [Eight],
     factors: &[Eight],
     rows: &[u8],
     width: usize,
     first: usize,
-) -> Result<(), AllocError>
+)
     requires rows { length rows.now ≡ length factors.now * width }
     requires columns { 2 * (first + length sums.old) ≤ width }
+    requires words { length words.old ≡ 1024 }
+    requires entries { length entries.old ≡ 256 }
     ensures count { length sums.new ≡ length sums.old }
-    ensures each { OnOk result (((j l : ℕ) → j < length sums.old → l < 2 → lane sums.old j l ≡ 0) →
+    ensures each { ((j l : ℕ) → j < length sums.old → l < 2 → lane sums.old j l ≡ 0) →
+        (j l : ℕ) → j < length sums.old → l < 2 → lane sums.new j l
+        ≡ sum_below (length factors.now)
+        (λ s. times (symbol rows.now width s (first + j)) (lane factors.now s l)) }
+{
+    add_row_pairs(sums, words, entries, factors, rows, width, first);
+    add_odd_row(sums, words, entries, factors, rows, width, first);
+}
+
+// The same of two rows at a time, for all rows but the last of an odd number of them.
+fn add_row_pairs(
+    sums: &mut [Pair],
+    words: &mut [u32],
+    entries: &mut [Eight],
+    factors: &[Eight],
+    rows: &[u8],
+    width: usize,
+    first: usize,
+)
+    requires rows { length rows.now ≡ length factors.now * width }
+    requires columns { 2 * (first + length sums.old) ≤ width }
+    requires words { length words.old ≡ 1024 }
+    requires entries { length entries.old ≡ 256 }
+    ensures count { length sums.new ≡ length sums.old }
+    ensures each { ((j l : ℕ) → j < length sums.old → l < 2 → lane sums.old j l ≡ 0) →
         (j l : ℕ) → j < length sums.old → l < 2 → lane sums.new j l
         ≡ sum_below (2 * (length factors.now / 2))
-        (λ s. times (symbol rows.now width s (first + j)) (lane factors.now s l))) }
+        (λ s. times (symbol rows.now width s (first + j)) (lane factors.now s l)) }
 {
     for pair in 0..factors.len() / 2 {
         let row = 2 * pair;
         add_two_rows(
-            alloc,
             sums,
+            words,
+            entries,
             &factors[row],
             &factors[row + 1],
             rows,
             width,
             row,
             first,
-        )?;
+        );
     }
-    Ok(())
 }
 
 // Adds to the sums the products of the last row's factors with its symbols, where the number of
 // rows is odd.
 fn add_odd_row(
-    alloc: Global,
     sums: &mut [Pair],
+    words: &mut [u32],
+    entries: &mut [Eight],
     factors: &[Eight],
     rows: &[u8],
     width: usize,
     first: usize,
-) -> Result<(), AllocError>
+)
     requires rows { length rows.now ≡ length factors.now * width }
     requires columns { 2 * (first + length sums.old) ≤ width }
+    requires words { length words.old ≡ 1024 }
+    requires entries { length entries.old ≡ 256 }
     ensures count { length sums.new ≡ length sums.old }
-    ensures each { OnOk result ((j l : ℕ) → j < length sums.old → l < 2 → lane sums.old j l
+    ensures each { (j l : ℕ) → j < length sums.old → l < 2 → lane sums.old j l
         ≡ sum_below (2 * (length factors.now / 2))
         (λ s. times (symbol rows.now width s (first + j)) (lane factors.now s l)) →
         lane sums.new j l
         ≡ sum_below (length factors.now)
-        (λ s. times (symbol rows.now width s (first + j)) (lane factors.now s l))) }
+        (λ s. times (symbol rows.now width s (first + j)) (lane factors.now s l)) }
 {
-    if factors.len() % 2 == 1 {
-        let row = factors.len() - 1;
-        add_row(alloc, sums, &factors[row], rows, width, row, first)?;
+    if factors.len() % 2 == 0 {
+        return;
     }
-    Ok(())
+    let row = factors.len() - 1;
+    add_row(sums, words, entries, &factors[row], rows, width, row, first);
 }
 
 // Adds to the sums the products of two factors with the row's symbols and of two others with the
 // next row's, from a first column on.
 fn add_two_rows(
-    alloc: Global,
     sums: &mut [Pair],
+    words: &mut [u32],
+    entries: &mut [Eight],
     factors: &Eight,
     next_factors: &Eight,
     rows: &[u8],
     width: usize,
     row: usize,
     first: usize,
-) -> Result<(), AllocError>
+)
     requires room { (row + 1) * width + 2 * (first + length sums.old) ≤ length rows.now }
+    requires words { length words.old ≡ 1024 }
+    requires entries { length entries.old ≡ 256 }
     ensures count { length sums.new ≡ length sums.old }
-    ensures each { OnOk result ((j l : ℕ) → j < length sums.old → l < 2
+    ensures each { (j l : ℕ) → j < length sums.old → l < 2
         → lane sums.new j l ≡ bit_xor (lane sums.old j l)
         (bit_xor (times (symbol rows.now width row (first + j)) (slice_index factors.now l))
-        (times (symbol rows.now width (row + 1) (first + j)) (slice_index next_factors.now l)))) }
+        (times (symbol rows.now width (row + 1) (first + j)) (slice_index next_factors.now l))) }
 {
-    let low = pair_table(alloc, factors)?;
-    let high = pair_table(alloc, &each_by_256(factors))?;
-    let next_low = pair_table(alloc, next_factors)?;
-    let next_high = pair_table(alloc, &each_by_256(next_factors))?;
+    let (own, others) = words.split_at_mut(512);
+    let (low, high) = own.split_at_mut(256);
+    let (next_low, next_high) = others.split_at_mut(256);
+    fill_table(low, entries, factors);
+    fill_table(high, entries, &each_by_256(factors));
+    fill_table(next_low, entries, next_factors);
+    fill_table(next_high, entries, &each_by_256(next_factors));
     add_two_by_tables(
-        sums, &low, &high, &next_low, &next_high, rows, width, row, first,
+        sums, low, high, next_low, next_high, rows, width, row, first,
     );
-    Ok(())
 }
 
 // Adds to the sums the products of two factors with the row's symbols, from a first column on.
 fn add_row(
-    alloc: Global,
     sums: &mut [Pair],
+    words: &mut [u32],
+    entries: &mut [Eight],
     factors: &Eight,
     rows: &[u8],
     width: usize,
     row: usize,
     first: usize,
-) -> Result<(), AllocError>
+)
     requires room { row * width + 2 * (first + length sums.old) ≤ length rows.now }
+    requires words { length words.old ≡ 1024 }
+    requires entries { length entries.old ≡ 256 }
     ensures count { length sums.new ≡ length sums.old }
-    ensures each { OnOk result ((j l : ℕ) → j < length sums.old → l < 2 → lane sums.new j l
+    ensures each { (j l : ℕ) → j < length sums.old → l < 2 → lane sums.new j l
         ≡ bit_xor (lane sums.old j l)
-        (times (symbol rows.now width row (first + j)) (slice_index factors.now l))) }
+        (times (symbol rows.now width row (first + j)) (slice_index factors.now l)) }
 {
-    let low = pair_table(alloc, factors)?;
-    let high = pair_table(alloc, &each_by_256(factors))?;
-    add_by_tables(sums, &low, &high, rows, width, row, first);
-    Ok(())
+    let (own, _) = words.split_at_mut(512);
+    let (low, high) = own.split_at_mut(256);
+    fill_table(low, entries, factors);
+    fill_table(high, entries, &each_by_256(factors));
+    add_by_tables(sums, low, high, rows, width, row, first);
 }
 
 // The products of the first two of eight factors with each byte, both in a word.
-fn pair_table(alloc: Global, factors: &Eight) -> Result<Vec<u32>, AllocError>
-    ensures count { IfOk result (λ v. length v.items ≡ 256) }
-    ensures each { IfOk result (λ v. (b l : ℕ) → b < 256 → l < 2
-        → half (slice_index v.items b) l ≡ times (slice_index factors.now l) b) }
+fn fill_table(words: &mut [u32], entries: &mut [Eight], factors: &Eight)
+    requires words { length words.old ≡ 256 }
+    requires entries { length entries.old ≡ 256 }
+    ensures { (b l : ℕ) → b < 256 → l < 2
+        → half (slice_index words.new b) l ≡ times (slice_index factors.now l) b }
 {
-    let mut table = vec![in alloc; [0u16; 8]; 256]?;
-    spread(&mut table, factors);
-    let words = first_lanes(alloc, &table)?;
-    Ok(words)
+    spread(entries, factors);
+    put_first_lanes(words, entries);
 }
 
-// The first two lanes of each entry.
-fn first_lanes(alloc: Global, table: &[Eight]) -> Result<Vec<u32>, AllocError>
-    ensures count { IfOk result (λ v. length v.items ≡ length table.now) }
-    ensures each { IfOk result (λ v. (b l : ℕ) → b < length table.now → l < 2
-        → half (slice_index v.items b) l ≡ lane table.now b l) }
+// Writes the first two lanes of each entry.
+fn put_first_lanes(words: &mut [u32], table: &[Eight])
+    requires { length words.old ≡ length table.now }
+    ensures { (b l : ℕ) → b < length table.now → l < 2
+        → half (slice_index words.new b) l ≡ lane table.now b l }
 {
-    let mut words = Vec::with_capacity(alloc, table.len())?;
     for place in 0..table.len() {
-        words.push(word_of(table[place][0], table[place][1]))?;
+        words[place] = word_of(table[place][0], table[place][1]);
     }
-    Ok(words)
 }
 
 // Two lanes in a word, which is loaded and stored at once.

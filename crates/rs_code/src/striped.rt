@@ -145,10 +145,7 @@ fn run_stripes<R: Threads + Sync, S: Strategy>(
     ensures stripes { IfOk result (λ v. AreStripes width (length targets.now)
         (λ i j. symbol_through basis.now rows.now width (slice_index targets.now i) j) v.items) }
 {
-    let mut indices = Vec::new(alloc);
-    for index in 0..count {
-        indices.push(index)?;
-    }
+    let indices = stripe_indices(alloc, count)?;
     let work = |index: &usize| -> Result<Vec<u8>, AllocError>
         requires rows { length rows.now ≡ length basis.now * width }
         requires even { width % 2 ≡ 0 }
@@ -162,6 +159,18 @@ fn run_stripes<R: Threads + Sync, S: Strategy>(
     let pieces = strategy.map(rt, alloc, &indices, &work)?;
     let done = all_done(alloc, pieces)?;
     Ok(done)
+}
+
+// The indices of the stripes.
+fn stripe_indices(alloc: Global, count: usize) -> Result<Vec<usize>, AllocError>
+    ensures count { IfOk result (λ v. length v.items ≡ count) }
+    ensures each { IfOk result (λ v. (i : ℕ) → i < count → slice_index v.items i ≡ i) }
+{
+    let mut indices = Vec::new(alloc);
+    for index in 0..count {
+        indices.push(index)?;
+    }
+    Ok(indices)
 }
 
 // One stripe of the rows at the targets.

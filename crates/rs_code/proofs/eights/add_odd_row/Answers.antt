@@ -6,9 +6,9 @@ use Rattle.rs_code.specs.Rows.{symbol}
 use Rattle.rs_code.proofs.Codewords.{sum_more}
 use Rattle.rs_code.proofs.eights.add_odd_row.Goals as goal
 
-pub returns-in_ok-high-clause-each : goal.returns-in_ok-high-clause-each
+pub returns-clause-each : goal.returns-clause-each
 unfolding lane
-returns-in_ok-high-clause-each c = λ j l hj hl before.
+returns-clause-each c = λ j l hj hl before.
     let f : ℕ → ℕ =
     λ s. times (symbol c.args.rows.now c.args.width s (c.args.first + j))
     (lane c.args.factors.now s l) in

@@ -1,32 +1,15 @@
 use Rattle.std.proofs.Common.{◌≡◌, ℕ, ◌+◌, ◌*◌, ◌≤◌, mul-le-mul_right, length, bit_xor, refl, sym, ap, ◌∙◌, arith}
-use Rattle.std.proofs.lemmas.List.{length-replicate}
 use Rattle.std.specs.Int.Bits.{xor_assoc}
-use Rattle.std.specs.List.{each_same}
 use Rattle.rs_code.specs.Codeword.{sum_below}
 use Rattle.rs_code.specs.Field.{times}
 use Rattle.rs_code.specs.Coefficients.{lane}
 use Rattle.rs_code.specs.Rows.{symbol}
 use Rattle.rs_code.proofs.Codewords.{sum_none, sum_more}
-use Rattle.rs_code.proofs.LaneLaws.{nothing, table_written}
 use Rattle.rs_code.proofs.eights.add_row_pairs.Goals as goal
 
 pub loop-pair-init : goal.loop-pair-init
 loop-pair-init c = record {
   count = refl;
-  low =
-      ap length (c.in_ok-low.ensures.items_if_clones_equal (λ y e. each_same nothing y e.whole))
-      ∙ length-replicate 256 nothing;
-  high =
-      ap length (c.in_ok-high.ensures.items_if_clones_equal (λ y e. each_same nothing y e.whole))
-      ∙ length-replicate 256 nothing;
-  next_low =
-      ap length
-      (c.in_ok-next_low.ensures.items_if_clones_equal (λ y e. each_same nothing y e.whole))
-      ∙ length-replicate 256 nothing;
-  next_high =
-      ap length
-      (c.in_ok-next_high.ensures.items_if_clones_equal (λ y e. each_same nothing y e.whole))
-      ∙ length-replicate 256 nothing;
   each = λ none j i hj hi. none j i hj hi ∙ sym (sum_none _);
 }
 
@@ -34,20 +17,6 @@ pub loop-pair-preserved : goal.loop-pair-preserved
 unfolding lane
 loop-pair-preserved c = record {
   count = c.add_two_rows.ensures.count ∙ c.loop-pair.invariant.count;
-  low =
-      table_written 256 c.loop-pair.low.items c.add_two_rows.new.low c.loop-pair.low.len
-      c.loop-pair.low.ok.0 c.loop-pair.invariant.low c.add_two_rows.ensures.low;
-  high =
-      table_written 256 c.loop-pair.high.items c.add_two_rows.new.high c.loop-pair.high.len
-      c.loop-pair.high.ok.0 c.loop-pair.invariant.high c.add_two_rows.ensures.high;
-  next_low =
-      table_written 256 c.loop-pair.next_low.items c.add_two_rows.new.next_low
-      c.loop-pair.next_low.len c.loop-pair.next_low.ok.0 c.loop-pair.invariant.next_low
-      c.add_two_rows.ensures.next_low;
-  next_high =
-      table_written 256 c.loop-pair.next_high.items c.add_two_rows.new.next_high
-      c.loop-pair.next_high.len c.loop-pair.next_high.ok.0 c.loop-pair.invariant.next_high
-      c.add_two_rows.ensures.next_high;
   each = λ none j i hj hi.
       (let f : ℕ → ℕ =
       λ s. times (symbol c.args.rows.now c.args.width s (c.args.first + j))

@@ -9,10 +9,6 @@ use Rattle.rs_code.proofs.eights.add_row_pairs.Given as goal
 abbrev pub invariant-loop-pair : goal.invariant-loop-pair
 invariant-loop-pair l = record {
   count : length l.sums ≡ length l.fn.sums;
-  low : length l.low.items ≡ 256;
-  high : length l.high.items ≡ 256;
-  next_low : length l.next_low.items ≡ 256;
-  next_high : length l.next_high.items ≡ 256;
   each : ((j i : ℕ) → j < length l.fn.sums → i < 8 → lane l.fn.sums j i ≡ 0) →
       (j i : ℕ) → j < length l.fn.sums → i < 8 → lane l.sums j i
       ≡ sum_below (2 * l.pair)

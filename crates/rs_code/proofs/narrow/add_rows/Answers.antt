@@ -1,22 +1,13 @@
 use Rattle.std.proofs.Common.{ℕ, ◌+◌, ◌*◌, ◌≤◌, mul-le-mul_right, length, bit_xor, refl, sym, ap, ◌∙◌, arith}
-use Rattle.std.proofs.lemmas.List.{length-replicate}
-use Rattle.std.specs.List.{each_same}
 use Rattle.rs_code.specs.Field.{times}
 use Rattle.rs_code.specs.Coefficients.{lane}
 use Rattle.rs_code.specs.Rows.{symbol}
 use Rattle.rs_code.proofs.Codewords.{sum_none, sum_more}
-use Rattle.rs_code.proofs.LaneLaws.{nothing, table_written}
 use Rattle.rs_code.proofs.narrow.add_rows.Goals as goal
 
 pub loop-row-init : goal.loop-row-init
 loop-row-init c = record {
   count = refl;
-  low =
-      ap length (c.in_ok-low.ensures.items_if_clones_equal (λ y e. each_same nothing y e.whole))
-      ∙ length-replicate 16 nothing;
-  high =
-      ap length (c.in_ok-high.ensures.items_if_clones_equal (λ y e. each_same nothing y e.whole))
-      ∙ length-replicate 16 nothing;
   each = λ none j i hj hi. none j i hj hi ∙ sym (sum_none _);
 }
 
@@ -24,12 +15,6 @@ pub loop-row-preserved : goal.loop-row-preserved
 unfolding lane
 loop-row-preserved c = record {
   count = c.add_row.ensures.count ∙ c.loop-row.invariant.count;
-  low =
-      table_written 16 c.loop-row.low.items c.add_row.new.low c.loop-row.low.len c.loop-row.low.ok.0
-      c.loop-row.invariant.low c.add_row.ensures.low;
-  high =
-      table_written 16 c.loop-row.high.items c.add_row.new.high c.loop-row.high.len
-      c.loop-row.high.ok.0 c.loop-row.invariant.high c.add_row.ensures.high;
   each = λ none j i hj hi.
       (let f : ℕ → ℕ =
       λ s. times (symbol c.args.rows.now c.args.width s (c.args.first + j))

@@ -9,8 +9,6 @@ use Rattle.rs_code.proofs.narrow.add_rows.Given as goal
 abbrev pub invariant-loop-row : goal.invariant-loop-row
 invariant-loop-row l = record {
   count : length l.sums ≡ length l.fn.sums;
-  low : length l.low.items ≡ 16;
-  high : length l.high.items ≡ 16;
   each : ((j i : ℕ) → j < length l.fn.sums → i < 8 → lane l.fn.sums j i ≡ 0) →
       (j i : ℕ) → j < length l.fn.sums → i < 8 → lane l.sums j i
       ≡ sum_below l.row (λ s. times (symbol l.rows l.width s (l.first + j)) (lane l.factors s i));

@@ -6,16 +6,16 @@ use Rattle.rs_code.specs.Rows.{symbol}
 use Rattle.rs_code.proofs.Codewords.{sum_more}
 use Rattle.rs_code.proofs.pairs.add_odd_row.Goals as goal
 
-pub returns-in_ok-add_row-clause-each : goal.returns-in_ok-add_row-clause-each
+pub returns-clause-each : goal.returns-clause-each
 unfolding lane
-returns-in_ok-add_row-clause-each c = λ j l hj hl before.
+returns-clause-each c = λ j l hj hl before.
     let f : ℕ → ℕ =
     λ s. times (symbol c.args.rows.now c.args.width s (c.args.first + j))
     (lane c.args.factors.now s l) in
     let row : ℕ = length c.args.factors.now - 1 in
     let even : 2 * (length c.args.factors.now / 2) ≡ row = omega arith in
     let last : row + 1 ≡ length c.args.factors.now = omega arith in
-    c.in_ok-add_row.ensures.each j l hj hl
+    c.add_row.ensures.each j l hj hl
     ∙ ap (λ (x : ℕ). bit_xor x (f row)) (before ∙ ap (λ (n : ℕ). sum_below n f) even)
     ∙ sym (sum_more row f)
     ∙ ap (λ (n : ℕ). sum_below n f) last

@@ -1,6 +1,6 @@
-use Rattle.std.proofs.Common.{ℕ, ◌+◌, ◌*◌, ◌<◌, List, get_or, bit_xor, ap, ap₂, ◌∙◌, arith}
+use Rattle.std.proofs.Common.{ℕ, ◌+◌, ◌*◌, ◌<◌, get_or, bit_xor, ap, ap₂, ◌∙◌, arith}
 use Rattle.rs_code.specs.Field.{times}
-use Rattle.rs_code.specs.Coefficients.{lane, half}
+use Rattle.rs_code.specs.Coefficients.{lane}
 use Rattle.rs_code.specs.Rows.{symbol}
 use Rattle.rs_code.proofs.LaneLaws.{by_bytes}
 use Rattle.rs_code.proofs.pairs.add_row.Goals as goal
@@ -17,9 +17,7 @@ returns-clause-each c = λ j l hj hl.
     c.add_by_tables.ensures.each j l hj hl
     ∙ ap (bit_xor (lane c.args.sums.now j l))
     (ap₂ bit_xor
-    (ap (λ (xs : List ℕ). half (get_or xs high 0) l) c.deref-2.ensures.value
-    ∙ c.in_ok-high.ensures.each high l high_fits hl
+    (c.fill_table-2.ensures high l high_fits hl
     ∙ ap (λ (x : ℕ). times x high) (c.each_by_256.ensures l (omega (arith, hl))))
-    (ap (λ (xs : List ℕ). half (get_or xs low 0) l) c.deref.ensures.value
-    ∙ c.in_ok-low.ensures.each low l low_fits hl)
-    ∙ by_bytes f high low (omega arith) high_fits low_fits)
+    (c.fill_table.ensures low l low_fits hl)
+    ∙ by_bytes f high low (omega (arith, c.type_inv.factors l)) high_fits low_fits)

@@ -13,8 +13,8 @@ loop-pair-init c = record {
   each = λ none j i hj hi. none j i hj hi ∙ sym (sum_none _);
 }
 
-pub add_two_rows-requires : goal.add_two_rows-requires
-add_two_rows-requires c =
+pub add_two_rows-requires-clause-room : goal.add_two_rows-requires-clause-room
+add_two_rows-requires-clause-room c =
     let whole : (2 * c.loop-pair.pair + 2) * c.args.width
     ≤ length c.args.factors.now * c.args.width =
     mul-le-mul_right c.args.width (omega arith) in
@@ -29,7 +29,7 @@ loop-pair-preserved c = record {
       λ s. times (symbol c.args.rows.now c.args.width s (c.args.first + j))
       (lane c.args.factors.now s i) in
       let n : ℕ = 2 * c.loop-pair.pair in
-      c.in_ok-add_two_rows.ensures.each j i (omega (arith, hj, c.loop-pair.invariant.count)) hi
+      c.add_two_rows.ensures.each j i (omega (arith, hj, c.loop-pair.invariant.count)) hi
       ∙ ap (λ (x : ℕ). bit_xor x (bit_xor (f n) (f (n + 1))))
       (c.loop-pair.invariant.each none j i hj hi)
       ∙ sym (xor_assoc (sum_below n f) (f n) (f (n + 1)))

@@ -1,6 +1,6 @@
-use Rattle.std.proofs.Common.{◌≡◌, ℕ, ◌+◌, ◌*◌, ◌<◌, List, get_or, bit_xor, sym, ap, ap₂, ◌∙◌, arith}
+use Rattle.std.proofs.Common.{◌≡◌, ℕ, ◌+◌, ◌*◌, ◌<◌, get_or, bit_xor, sym, ap, ap₂, ◌∙◌, arith}
 use Rattle.rs_code.specs.Field.{times}
-use Rattle.rs_code.specs.Coefficients.{lane, half}
+use Rattle.rs_code.specs.Coefficients.{lane}
 use Rattle.rs_code.specs.Rows.{symbol}
 use Rattle.rs_code.proofs.LaneLaws.{by_bytes}
 use Rattle.rs_code.proofs.pairs.add_two_rows.Goals as goal
@@ -15,22 +15,17 @@ returns-clause-each c = λ j l hj hl.
     let fits : (n : ℕ) → byte n < 256 = λ n. omega (arith, c.type_inv.rows n) in
     let f : ℕ = get_or c.args.factors.now l 0 in
     let g : ℕ = get_or c.args.next_factors.now l 0 in
-    let read : (b : ℕ) → List ℕ → ℕ = λ b xs. half (get_or xs b 0) l in
     c.add_two_by_tables.ensures.each j l hj hl
     ∙ ap (bit_xor (lane c.args.sums.now j l))
     (ap₂ bit_xor
     (ap₂ bit_xor
-    (ap (read (byte place)) c.deref-2.ensures.value
-    ∙ c.in_ok-high.ensures.each (byte place) l (fits place) hl
+    (c.fill_table-2.ensures (byte place) l (fits place) hl
     ∙ ap (λ (x : ℕ). times x (byte place)) (c.each_by_256.ensures l (omega (arith, hl))))
-    (ap (read (byte (place + 1))) c.deref.ensures.value
-    ∙ c.in_ok-low.ensures.each (byte (place + 1)) l (fits (place + 1)) hl)
-    ∙ by_bytes f (byte place) (byte (place + 1)) (omega arith) (fits place) (fits (place + 1)))
+    (c.fill_table.ensures (byte (place + 1)) l (fits (place + 1)) hl)
+    ∙ by_bytes f (byte place) (byte (place + 1)) (omega (arith, c.type_inv.factors l)) (fits place) (fits (place + 1)))
     (ap₂ bit_xor
-    (ap (read (byte next)) c.deref-4.ensures.value
-    ∙ c.in_ok-next_high.ensures.each (byte next) l (fits next) hl
+    (c.fill_table-4.ensures (byte next) l (fits next) hl
     ∙ ap (λ (x : ℕ). times x (byte next)) (c.each_by_256-2.ensures l (omega (arith, hl))))
-    (ap (read (byte (next + 1))) c.deref-3.ensures.value
-    ∙ c.in_ok-next_low.ensures.each (byte (next + 1)) l (fits (next + 1)) hl)
-    ∙ by_bytes g (byte next) (byte (next + 1)) (omega arith) (fits next) (fits (next + 1))
+    (c.fill_table-3.ensures (byte (next + 1)) l (fits (next + 1)) hl)
+    ∙ by_bytes g (byte next) (byte (next + 1)) (omega (arith, c.type_inv.next_factors l)) (fits next) (fits (next + 1))
     ∙ ap (λ (n : ℕ). times (byte n * 256 + byte (n + 1)) g) (sym below)))

@@ -1,4 +1,4 @@
-use Rattle.std.proofs.Common.{◌≡◌, ℕ, ◌+◌, ◌-◌, ◌*◌, ◌<◌, List, length, get_or, sym, ap, ◌∙◌, arith, ⊎_elim}
+use Rattle.std.proofs.Common.{◌≡◌, ℕ, ◌+◌, ◌-◌, ◌*◌, ◌<◌, ◌≤◌, List, mul-le-mul_right, length, get_or, sym, ap, ◌∙◌, arith, ⊎_elim}
 use Rattle.std.proofs.lemmas.Bool.{cases_lt}
 use Rattle.rs_code.specs.Codeword.{sum_below}
 use Rattle.rs_code.specs.Coefficients.{lane}
@@ -6,6 +6,19 @@ use Rattle.rs_code.specs.Field.{times}
 use Rattle.rs_code.specs.Rows.{symbol}
 use Rattle.rs_code.proofs.LaneLaws.{through_lanes}
 use Rattle.rs_code.proofs.striped.fill_group.Goals as goal
+
+pub fill_block-requires-clause-rows : goal.fill_block-requires-clause-rows
+fill_block-requires-clause-rows c =
+    c.requires.rows
+    ∙ ap (λ (n : ℕ). n * c.args.width)
+    (sym (ap length c.deref.ensures.value ∙ c.in_ok-factors.ensures.count))
+
+pub fill_block-requires-clause-out : goal.fill_block-requires-clause-out
+fill_block-requires-clause-out c =
+    let whole : (c.args.done + c.min-lanes.result) * c.args.wide
+    ≤ length c.args.targets.now * c.args.wide =
+    mul-le-mul_right c.args.wide (omega (arith, c.min-lanes.ensures)) in
+    omega (arith, whole, c.requires.out, c.loop-block.invariant.count)
 
 pub loop-block-preserved : goal.loop-block-preserved
 loop-block-preserved c =

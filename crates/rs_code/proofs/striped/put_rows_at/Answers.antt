@@ -4,7 +4,7 @@ use Rattle.rs_code.specs.Coefficients.{symbol_through}
 use Rattle.rs_code.specs.Rows.{joined, row_through}
 use Rattle.rs_code.specs.Stripes.{HaveRows, row_of_stripes}
 use Rattle.rs_code.proofs.RowBytes.{joined_same}
-use Rattle.rs_code.proofs.RowFronts.{front}
+use Rattle.rs_code.proofs.RowFronts.{front, unchanged}
 use Rattle.rs_code.proofs.StripeCuts.{stripes_some, several_are_wide, stripes_have, row_of_all}
 use Rattle.rs_code.proofs.striped.put_rows_at.Goals as goal
 
@@ -36,6 +36,9 @@ put_rows-requires-clause-rows g c κs within =
     subst (HaveRows c.args.width (length c.args.targets.now)) (sym c.deref-2.ensures.value)
     (stripes_have c.args.width (length c.args.targets.now) _ stripes some c.requires.even
     c.in_ok-stripes.ensures.stripes)
+
+pub returns-in_err-stripes-clause-err : goal.returns-in_err-stripes-clause-err
+returns-in_err-stripes-clause-err g c = unchanged c.from_residual.result c.args.rows.now.items
 
 pub returns-clause-ok : goal.returns-clause-ok
 unfolding row_through symbol_through
