@@ -10,7 +10,7 @@ use cw_types::Commitment;
 use std::alloc::Global;
 
 /// A chunk that was kept, and what it is of. Contracts see what `Shards` holds as a list of these.
-#[derive(Debug, Drop, PartialEq, Eq)]
+#[derive(Drop)]
 pub struct KeptChunk {
     pub commitment: Commitment,
     pub chunk: Chunk<Digest32>,

@@ -49,6 +49,7 @@ fn decoded<H: Hasher<Digest = Digest32>, R: Threads + Sync, S: Strategy>(
         checked.iter(),
         strategy,
     );
+    drop(checked);
     match decoded {
         Ok(text) => Ok(Some(text)),
         Err(error) => no_text(error),
@@ -115,6 +116,7 @@ fn block_of<H: Hasher<Digest = Digest32>>(
             if is_committed::<H>(committees, commitment, &block, text) {
                 Ok(Some(block))
             } else {
+                drop(block);
                 Ok(None)
             }
         }

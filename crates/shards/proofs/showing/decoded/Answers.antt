@@ -29,8 +29,8 @@ none_if (Ok None) Q P q f = f q
 none_if (Ok (Some t)) Q P q f = tt
 none_if (Err e) Q P q f = tt
 
-pub returns-clause-none : goal.returns-clause-none
-returns-clause-none g c =
+pub returns-in-Err-clause-none : goal.returns-in-Err-clause-none
+returns-in-Err-clause-none g c =
     let hash = g.H.Hasher.digest_of in
     let chunks = map (λ x. x.now) c.args.chunks.now in
     none_if c.no_text.result (c.in-Err.error ≢ NoMemory)

@@ -1,0 +1,14 @@
+use Rattle.std.proofs.Common.{rules, tests}
+use Rattle.std.proofs.lemmas.Iterator.{YieldsList-from_slice}
+use Rattle.std.proofs.lemmas.Iterator.Consumers.{YieldsList-from_filter, count_from_yields_List}
+use Rattle.cw_types.specs.Same.{same_commitment}
+use Rattle.shards.specs.declared.pieces.KeptChunk.{KeptChunk}
+use Rattle.shards.proofs.pieces.count.Goals as goal
+
+pub returns : goal.returns
+returns c =
+    count_from_yields_List c.filter.result _ c.count.ensures.ran
+    (YieldsList-from_filter _
+    (λ (k : KeptChunk). same_commitment c.args.commitment.now k.commitment)
+    (YieldsList-from_slice c.args.kept.now (cc)) c.filter.ensures.closure
+    (λ x r q k. search (rules, tests)))
