@@ -1,7 +1,9 @@
--- The greatest and the last of some, as a fold finds them.
-use Rattle.std.proofs.Common.{◌≡◌, ℕ, if◌then◌else◌, max, List, [], ◌∷◌, Option, Some, None, refl, ◌∙◌, arith}
-use Rattle.std.specs.List.{filter_map, fold, last_or, list_any}
-use Rattle.std.specs.Option.{is_some}
+-- The greatest of some numbers, as a chain of iterators finds it.
+use Rattle.std.proofs.Common.{◌≡◌, ℕ, ◌<◌, ◌≤◌, ◌&&◌, ◌⊎◌, inl, inr, Bool, true, false, max, nat_lt, List, [], ◌∷◌, Option, Some, None, refl, sym, ap, ◌∙◌, arith, unwrap_or}
+use Rattle.std.proofs.lemmas.Bool.{cases_lt, le-ltb, lt-ltb}
+use Rattle.std.specs.List.{fold, list_all, reduce}
+use Rattle.std.specs.Option.{option_map, option_map_or}
+use Rattle.std.proofs.lemmas.Iterator.Adapters.{option_map_id}
 use Rattle.cw_rules.specs.Notes.{greatest}
 use Rattle.note_scans.specs.Heights.{greatest_of}
 
@@ -9,29 +11,54 @@ fold_from : (a : ℕ) (xs : List ℕ) → fold max a xs ≡ max a (greatest xs)
 fold_from a [] = omega arith
 fold_from a (x ∷ xs) = fold_from (max a x) xs ∙ omega arith
 
-pub fold_greatest : (xs : List ℕ) → fold max 0 xs ≡ greatest xs
-fold_greatest xs = fold_from 0 xs ∙ omega arith
+reduce_greatest : (xs : List ℕ) → reduce max xs ≡ greatest_of xs
+reduce_greatest [] = refl
+reduce_greatest (x ∷ xs) = ap Some (fold_from x xs)
 
-fold_last_from : {X : Type 0} (o : Option X) (xs : List X)
-    → fold (λ last x. Some x) o xs ≡ last_or o xs
-fold_last_from o [] = refl
-fold_last_from o (x ∷ xs) = fold_last_from (Some x) xs
+-- the greatest, as `max` finds it
+pub greatest_found : (r : Option ℕ) (xs : List ℕ) → option_map (λ x. x) r ≡ reduce max xs
+    → r ≡ greatest_of xs
+greatest_found r xs e = sym (option_map_id r) ∙ (e ∙ reduce_greatest xs)
 
-pub fold_last : {X : Type 0} (xs : List X) → fold (λ last x. Some x) None xs ≡ last_or None xs
-fold_last xs = fold_last_from None xs
+pub greatest_or : (xs : List ℕ) → unwrap_or (greatest_of xs) 0 ≡ greatest xs
+greatest_or [] = refl
+greatest_or (x ∷ xs) = refl
 
--- there is a greatest where there is one
-pub greatest_there : {X : Type 0} (f : X → Option ℕ) (xs : List X)
-    → greatest_of (filter_map f xs)
-    ≡ (if list_any (λ x. is_some (f x)) xs then Some (greatest (filter_map f xs)) else None)
-greatest_there f [] = refl
-greatest_there {X} f (x ∷ xs) = go (f x) refl (greatest_there f xs)
+-- the same, else 0
+pub greatest_else : (r : Option ℕ) (xs : List ℕ) → option_map (λ x. x) r ≡ reduce max xs
+    → unwrap_or r 0 ≡ greatest xs
+greatest_else r xs e = ap (λ o. unwrap_or o 0) (greatest_found r xs e) ∙ greatest_or xs
+
+and_true : (b : Bool) → (b && true) ≡ b
+and_true true = refl
+and_true false = refl
+
+both_below : (a b limit : ℕ) → (nat_lt a limit && nat_lt b limit) ≡ nat_lt (max a b) limit
+both_below a b limit = go (cases_lt a limit) (cases_lt b limit)
   where
-    go : (o : Option ℕ) → f x ≡ o
-        → greatest_of (filter_map f xs)
-        ≡ (if list_any (λ y. is_some (f y)) xs then Some (greatest (filter_map f xs)) else None)
-        → greatest_of (filter_map f (x ∷ xs))
-        ≡ (if list_any (λ y. is_some (f y)) (x ∷ xs)
-        then Some (greatest (filter_map f (x ∷ xs))) else None)
-    go None e more = rw e more
-    go (Some y) e more = rw e refl
+    go : (a < limit) ⊎ (limit ≤ a) → (b < limit) ⊎ (limit ≤ b)
+        → (nat_lt a limit && nat_lt b limit) ≡ nat_lt (max a b) limit
+    go (inl p) (inl q) =
+        ap (λ (t : Bool). t && nat_lt b limit) (lt-ltb a limit p)
+        ∙ (lt-ltb b limit q ∙ sym (lt-ltb (max a b) limit (omega arith)))
+    go (inl p) (inr q) =
+        ap (λ (t : Bool). t && nat_lt b limit) (lt-ltb a limit p)
+        ∙ (le-ltb b limit q ∙ sym (le-ltb (max a b) limit (omega arith)))
+    go (inr p) q =
+        ap (λ (t : Bool). t && nat_lt b limit) (le-ltb a limit p)
+        ∙ sym (le-ltb (max a b) limit (omega arith))
+
+-- all are below a limit exactly where the greatest is
+pub all_below : (limit : ℕ) (xs : List ℕ)
+    → list_all (λ h. nat_lt h limit) xs
+    ≡ option_map_or (λ g. nat_lt g limit) (greatest_of xs) true
+all_below limit [] = refl
+all_below limit (x ∷ xs) = some x xs
+  where
+    some : (y : ℕ) (ys : List ℕ)
+        → list_all (λ h. nat_lt h limit) (y ∷ ys) ≡ nat_lt (greatest (y ∷ ys)) limit
+    some y [] =
+        let is : y ≡ max y 0 = omega arith in
+        and_true (nat_lt y limit) ∙ ap (λ (n : ℕ). nat_lt n limit) is
+    some y (z ∷ zs) =
+        ap (λ b. nat_lt y limit && b) (some z zs) ∙ both_below y (greatest (z ∷ zs)) limit

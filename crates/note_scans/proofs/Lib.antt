@@ -1,3 +1,4 @@
 pub mod Countable
 pub mod Folds
 pub mod Least
+pub mod There

@@ -2,7 +2,7 @@
 
 ghost use Rattle.std.specs.Prelude.{◌≡◌, ◌<◌, ◌&&◌, None, Some, filter_map, if◌then◌else◌, nat_lt};
 ghost use Rattle.std.specs.Prelude.{option_and_then, option_map};
-ghost use Rattle.std.specs.List.{fold, last_or};
+ghost use Rattle.std.specs.List.{last_or};
 ghost use Rattle.cw_rules.specs.Accepted.{first_some};
 ghost use Rattle.cw_rules.specs.Held as held;
 ghost use Rattle.cw_rules.specs.Notes as rule;
@@ -15,7 +15,7 @@ use cw_types::{ChainBlock, Commitment, Note, Proposal, Round, Vote};
 pub fn has_block(notes: &[Note], commitment: &Commitment) -> bool
     ensures { result ≡ rule.has_block notes.now commitment.now }
 {
-    notes.iter().any(|note| is_block(note, commitment))
+    first_block(notes, commitment).is_some()
 }
 
 /// The first noted block under a commitment, be it pruned or not.
@@ -82,20 +82,13 @@ pub fn finalization_of(note: &Note) -> Option<Proposal>
 }
 
 /// The commitment that the last note of a verification in the round names.
-#[tactic(auto, using(crate::proofs::Folds::fold_last))]
 pub fn last_verified(notes: &[Note], round: Round) -> Option<Commitment>
     ensures { result ≡ last_or None (filter_map (verified_in round) notes.now) }
-{
-    fold_verified(notes, round)
-}
-
-fn fold_verified(notes: &[Note], round: Round) -> Option<Commitment>
-    ensures { result ≡ fold (λ last c. Some c) None (filter_map (verified_in round) notes.now) }
 {
     notes
         .iter()
         .filter_map(|note| verified_in(note, round))
-        .fold(None, |_last, commitment| Some(commitment))
+        .last()
 }
 
 fn verified_in(note: &Note, round: Round) -> Option<Commitment>
@@ -110,14 +103,5 @@ fn verified_in(note: &Note, round: Round) -> Option<Commitment>
             }
         }
         _ => None,
-    }
-}
-
-fn is_block(note: &Note, commitment: &Commitment) -> bool
-    ensures { result ≡ rule.is_block commitment.now note.now }
-{
-    match note {
-        Note::Block(other, _) => commitment.is_same(other),
-        _ => false,
     }
 }

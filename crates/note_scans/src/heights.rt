@@ -1,9 +1,8 @@
 //! Heights: those that are given up, pruned and acknowledged, those that are pending, and the next.
 
 ghost use Rattle.std.specs.Prelude.{◌≡◌, ◌+◌, ◌<◌, ◌-◌, ◌^◌, ◌&&◌, IfSome, None, Some, filter};
-ghost use Rattle.std.specs.Prelude.{filter_map, length, max, nat_le, nat_lt};
-ghost use Rattle.std.specs.List.{AllByRecursion, fold, last_or, list_all, list_any};
-ghost use Rattle.std.specs.Option.{is_some};
+ghost use Rattle.std.specs.Prelude.{filter_map, length, nat_lt};
+ghost use Rattle.std.specs.List.{AllByRecursion, last_or, list_all};
 ghost use Rattle.cw_rules.specs.Direct.{least};
 ghost use Rattle.cw_rules.specs.Held as rule;
 ghost use Rattle.cw_types.specs.Values.{IsNote};
@@ -12,60 +11,49 @@ ghost use Rattle.note_scans.specs.Heights.{greatest_of, is_pending, least_with, 
 use cw_types::Note;
 
 /// The height below which blocks are let go: the greatest of a Prune note, else 0.
-#[tactic(auto, using(crate::proofs::Folds::fold_greatest))]
 pub fn greatest_prune(notes: &[Note]) -> u64
     ensures { result ≡ rule.greatest_prune notes.now }
 {
-    fold_pruned(notes)
+    prune_of(notes).unwrap_or(0)
 }
 
 /// The greatest height of a Prune note, if there is one.
 pub fn prune_of(notes: &[Note]) -> Option<u64>
     ensures { result ≡ greatest_of (filter_map rule.pruned_height notes.now) }
 {
-    if has_prune(notes) {
-        Some(greatest_prune(notes))
-    } else {
-        None
-    }
+    notes.iter().filter_map(|note| pruned_height(note)).max()
 }
 
 /// The height below which heights are given up: the greatest of a Floor note, else 0.
-#[tactic(auto, using(crate::proofs::Folds::fold_greatest))]
 pub fn greatest_floor(notes: &[Note]) -> u64
     ensures { result ≡ rule.greatest_floor notes.now }
 {
-    fold_floor(notes)
+    floor_of(notes).unwrap_or(0)
 }
 
 /// The greatest height of a Floor note, if there is one.
 pub fn floor_of(notes: &[Note]) -> Option<u64>
     ensures { result ≡ greatest_of (filter_map rule.floor_height notes.now) }
 {
-    if has_floor(notes) {
-        Some(greatest_floor(notes))
-    } else {
-        None
-    }
+    notes.iter().filter_map(|note| floor_height(note)).max()
 }
 
 /// Whether each Floor note is below a height.
 pub fn floors_below(notes: &[Note], height: u64) -> bool
     ensures { result ≡ list_all (λ h. nat_lt h height) (filter_map rule.floor_height notes.now) }
 {
-    notes
-        .iter()
-        .filter_map(|note| floor_height(note))
-        .all(|floor| floor < height)
+    match floor_of(notes) {
+        Some(floor) => floor < height,
+        None => true,
+    }
 }
 
 /// The height that was acknowledged last. It is a block's, where the notes have a form.
-#[tactic(auto, using(crate::proofs::Folds::fold_last))]
 pub fn last_ack(notes: &[Note]) -> Option<u64>
     ensures value { result ≡ rule.last_ack notes.now }
     ensures bound { AllByRecursion IsNote notes.now → IfSome result (λ h. h < 2 ^ 64 - 1) }
 {
-    fold_acked(notes)
+    notes.iter().filter_map(|note| acked_height(note)).last()
 }
 
 /// The height to be handed out next, by the notes and by the heights that were handed out: above
@@ -76,20 +64,23 @@ pub fn next_height(notes: &[Note], given: &[u64]) -> u64
     ensures { result ≡ next_of notes.now given.now }
 {
     match last_given(given) {
-        Some(height) => greater(height + 1, greatest_floor(notes)),
-        None => greater(resume(notes), greatest_floor(notes)),
+        Some(height) => (height + 1).max(greatest_floor(notes)),
+        None => resume(notes).max(greatest_floor(notes)),
     }
 }
 
 /// The least pending height: of those that were handed out, above what was acknowledged last and
 /// not given up.
-#[tactic(auto, using(crate::proofs::Least::fold_least))]
 pub fn least_pending(given: &[u64], acked: Option<u64>, floor: u64) -> Option<u64>
     ensures value { result ≡ least (filter (is_pending acked floor) given.now) }
     ensures bound { AllByRecursion (λ h. h < 2 ^ 64 - 1) given.now
         → IfSome result (λ h. h < 2 ^ 64 - 1) }
 {
-    fold_pending(given, acked, floor)
+    given
+        .iter()
+        .copied()
+        .filter(|height| is_pending(*height, acked, floor))
+        .fold(None, |least, height| lesser(least, height))
 }
 
 /// How many heights are pending.
@@ -103,34 +94,6 @@ pub fn count_pending(given: &[u64], acked: Option<u64>, floor: u64) -> usize
         .count()
 }
 
-// The greater of two numbers.
-pub(crate) fn greater(a: u64, b: u64) -> u64
-    ensures { result ≡ max a b }
-{
-    if a < b { b } else { a }
-}
-
-fn fold_pruned(notes: &[Note]) -> u64
-    ensures { result ≡ fold max 0 (filter_map rule.pruned_height notes.now) }
-{
-    notes
-        .iter()
-        .filter_map(|note| pruned_height(note))
-        .fold(0, |greatest, height| greater(greatest, height))
-}
-
-fn has_prune(notes: &[Note]) -> bool
-    ensures { result ≡ list_any (λ note. is_some (rule.pruned_height note)) notes.now }
-{
-    notes.iter().any(|note| is_prune(note))
-}
-
-fn is_prune(note: &Note) -> bool
-    ensures { result ≡ is_some (rule.pruned_height note.now) }
-{
-    pruned_height(note).is_some()
-}
-
 fn pruned_height(note: &Note) -> Option<u64>
     ensures { result ≡ rule.pruned_height note.now }
 {
@@ -140,27 +103,6 @@ fn pruned_height(note: &Note) -> Option<u64>
     }
 }
 
-fn fold_floor(notes: &[Note]) -> u64
-    ensures { result ≡ fold max 0 (filter_map rule.floor_height notes.now) }
-{
-    notes
-        .iter()
-        .filter_map(|note| floor_height(note))
-        .fold(0, |greatest, height| greater(greatest, height))
-}
-
-fn has_floor(notes: &[Note]) -> bool
-    ensures { result ≡ list_any (λ note. is_some (rule.floor_height note)) notes.now }
-{
-    notes.iter().any(|note| is_floor(note))
-}
-
-fn is_floor(note: &Note) -> bool
-    ensures { result ≡ is_some (rule.floor_height note.now) }
-{
-    floor_height(note).is_some()
-}
-
 fn floor_height(note: &Note) -> Option<u64>
     ensures { result ≡ rule.floor_height note.now }
 {
@@ -168,16 +110,6 @@ fn floor_height(note: &Note) -> Option<u64>
         Note::Floor(height) => Some(*height),
         _ => None,
     }
-}
-
-fn fold_acked(notes: &[Note]) -> Option<u64>
-    ensures { result
-        ≡ fold (λ last height. Some height) None (filter_map rule.acked_height notes.now) }
-{
-    notes
-        .iter()
-        .filter_map(|note| acked_height(note))
-        .fold(None, |_last, height| Some(height))
 }
 
 fn acked_height(note: &Note) -> Option<u64>
@@ -195,38 +127,18 @@ fn resume(notes: &[Note]) -> u64
     ensures { result ≡ rule.resume notes.now }
 {
     match last_ack(notes) {
-        Some(height) => greater(height + 1, greatest_floor(notes)),
+        Some(height) => (height + 1).max(greatest_floor(notes)),
         None => greatest_floor(notes),
     }
 }
 
 // The height that was handed out last.
-#[tactic(auto, using(crate::proofs::Folds::fold_last))]
 fn last_given(given: &[u64]) -> Option<u64>
     requires { AllByRecursion (λ h. h < 2 ^ 64 - 1) given.now }
     ensures value { result ≡ last_or None given.now }
     ensures bound { IfSome result (λ h. h < 2 ^ 64 - 1) }
 {
-    fold_given(given)
-}
-
-fn fold_given(given: &[u64]) -> Option<u64>
-    ensures { result ≡ fold (λ last height. Some height) None given.now }
-{
-    given
-        .iter()
-        .copied()
-        .fold(None, |_last, height| Some(height))
-}
-
-fn fold_pending(given: &[u64], acked: Option<u64>, floor: u64) -> Option<u64>
-    ensures { result ≡ fold least_with None (filter (is_pending acked floor) given.now) }
-{
-    given
-        .iter()
-        .copied()
-        .filter(|height| is_pending(*height, acked, floor))
-        .fold(None, |least, height| lesser(least, height))
+    given.iter().copied().last()
 }
 
 // Whether a height that was handed out is neither acknowledged nor given up.

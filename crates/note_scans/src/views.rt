@@ -1,19 +1,21 @@
 //! The epoch and the views that a member is in, and what is settled for a view.
 
-ghost use Rattle.std.specs.Prelude.{◌≡◌, ◌==◌, ◌+◌, IsTrue, filter_map, find, max};
-ghost use Rattle.std.specs.List.{fold, list_all};
+ghost use Rattle.std.specs.Prelude.{◌≡◌, ◌==◌, ◌+◌, IsTrue, filter_map, find};
+ghost use Rattle.std.specs.List.{list_all};
 ghost use Rattle.cw_rules.specs.Notes as rule;
 ghost use Rattle.note_scans.specs.Countable.{is_countable};
 
-use crate::heights::greater;
 use cw_types::{Commitment, Note, Proposal, Vote};
 
 /// The epoch that the member is in: the greatest that a note enters, else 0.
-#[tactic(auto, using(crate::proofs::Folds::fold_greatest))]
 pub fn epoch_of(notes: &[Note]) -> u64
     ensures { result ≡ rule.epoch_of notes.now }
 {
-    fold_entered(notes)
+    notes
+        .iter()
+        .filter_map(|note| entered(note))
+        .max()
+        .unwrap_or(0)
 }
 
 /// The view of the epoch that the member is in: one above the greatest that is over, which a noted
@@ -22,7 +24,7 @@ pub fn view_of(notes: &[Note], epoch: u64) -> u64
     requires { IsTrue (list_all is_countable notes.now) }
     ensures { result ≡ rule.view_of notes.now epoch }
 {
-    1 + fold_ended(notes, epoch)
+    1 + greatest_ended(notes, epoch)
 }
 
 /// The payload that is settled for a view of an epoch: that of the first noted certified proposal
@@ -90,15 +92,6 @@ fn settling(note: &Note) -> Option<Proposal>
     }
 }
 
-fn fold_entered(notes: &[Note]) -> u64
-    ensures { result ≡ fold max 0 (filter_map rule.entered notes.now) }
-{
-    notes
-        .iter()
-        .filter_map(|note| entered(note))
-        .fold(0, |greatest, epoch| greater(greatest, epoch))
-}
-
 fn entered(note: &Note) -> Option<u64>
     ensures { result ≡ rule.entered note.now }
 {
@@ -108,13 +101,14 @@ fn entered(note: &Note) -> Option<u64>
     }
 }
 
-fn fold_ended(notes: &[Note], epoch: u64) -> u64
-    ensures { result ≡ fold max 0 (filter_map (rule.ended epoch) notes.now) }
+fn greatest_ended(notes: &[Note], epoch: u64) -> u64
+    ensures { result ≡ rule.greatest (filter_map (rule.ended epoch) notes.now) }
 {
     notes
         .iter()
         .filter_map(|note| ended(epoch, note))
-        .fold(0, |greatest, view| greater(greatest, view))
+        .max()
+        .unwrap_or(0)
 }
 
 fn ended(epoch: u64, note: &Note) -> Option<u64>

@@ -1,0 +1,14 @@
+use Rattle.std.proofs.Common.{rules, tests}
+use Rattle.std.specs.List.{filter_map}
+use Rattle.std.proofs.lemmas.Iterator.{YieldsList-from_slice}
+use Rattle.std.proofs.lemmas.Iterator.Consumers.{YieldsList-from_filter_map, max_from_yields_List}
+use Rattle.cw_rules.specs.Held.{floor_height}
+use Rattle.note_scans.proofs.Folds.{greatest_found}
+use Rattle.note_scans.proofs.heights.floor_of.Goals as goal
+
+pub returns : goal.returns
+returns c =
+    greatest_found c.max.result (filter_map floor_height c.args.notes.now)
+    (max_from_yields_List _ _ c.max.ensures.ran
+    (YieldsList-from_filter_map _ floor_height (YieldsList-from_slice c.args.notes.now (cc))
+    c.filter_map.ensures.closure (λ x r q k. search (rules, tests))))
