@@ -112,10 +112,11 @@ fn add_by_tables(
 }
 
 // Adds to the sums the products of eight factors with the row's symbols, from a first column on.
-// There is room for the tables.
+// `low` and `high` are room for the tables.
 fn add_row(
     sums: &mut [Eight],
-    tables: &mut [Eight],
+    low: &mut [Eight],
+    high: &mut [Eight],
     factors: &Eight,
     rows: &[u8],
     width: usize,
@@ -123,14 +124,13 @@ fn add_row(
     first: usize,
 )
     requires room { row * width + 2 * (first + length sums.old) ≤ length rows.now }
-    requires tables { length tables.old ≡ 1024 }
+    requires low { length low.old ≡ 256 }
+    requires high { length high.old ≡ 256 }
     ensures count { length sums.new ≡ length sums.old }
     ensures each { (j l : ℕ) → j < length sums.old → l < 8 → lane sums.new j l
         ≡ bit_xor (lane sums.old j l)
         (times (symbol rows.now width row (first + j)) (slice_index factors.now l)) }
 {
-    let (own, _) = tables.split_at_mut(512);
-    let (low, high) = own.split_at_mut(256);
     spread(low, factors);
     spread(high, &each_by_256(factors));
     add_by_tables(sums, low, high, rows, width, row, first);
@@ -179,10 +179,13 @@ fn add_two_by_tables(
 }
 
 // Adds to the sums the products of eight factors with the row's symbols and of eight others with
-// the next row's, from a first column on. There is room for the tables of both.
+// the next row's, from a first column on. The four lists are room for the tables.
 fn add_two_rows(
     sums: &mut [Eight],
-    tables: &mut [Eight],
+    low: &mut [Eight],
+    high: &mut [Eight],
+    next_low: &mut [Eight],
+    next_high: &mut [Eight],
     factors: &Eight,
     next_factors: &Eight,
     rows: &[u8],
@@ -191,16 +194,16 @@ fn add_two_rows(
     first: usize,
 )
     requires room { (row + 1) * width + 2 * (first + length sums.old) ≤ length rows.now }
-    requires tables { length tables.old ≡ 1024 }
+    requires low { length low.old ≡ 256 }
+    requires high { length high.old ≡ 256 }
+    requires next_low { length next_low.old ≡ 256 }
+    requires next_high { length next_high.old ≡ 256 }
     ensures count { length sums.new ≡ length sums.old }
     ensures each { (j l : ℕ) → j < length sums.old → l < 8
         → lane sums.new j l ≡ bit_xor (lane sums.old j l)
         (bit_xor (times (symbol rows.now width row (first + j)) (slice_index factors.now l))
         (times (symbol rows.now width (row + 1) (first + j)) (slice_index next_factors.now l))) }
 {
-    let (own, others) = tables.split_at_mut(512);
-    let (low, high) = own.split_at_mut(256);
-    let (next_low, next_high) = others.split_at_mut(256);
     spread(low, factors);
     spread(high, &each_by_256(factors));
     spread(next_low, next_factors);
@@ -214,7 +217,10 @@ fn add_two_rows(
 // all rows but the last of an odd number of them.
 fn add_row_pairs(
     sums: &mut [Eight],
-    tables: &mut [Eight],
+    low: &mut [Eight],
+    high: &mut [Eight],
+    next_low: &mut [Eight],
+    next_high: &mut [Eight],
     factors: &[Eight],
     rows: &[u8],
     width: usize,
@@ -222,7 +228,10 @@ fn add_row_pairs(
 )
     requires rows { length rows.now ≡ length factors.now * width }
     requires columns { 2 * (first + length sums.old) ≤ width }
-    requires tables { length tables.old ≡ 1024 }
+    requires low { length low.old ≡ 256 }
+    requires high { length high.old ≡ 256 }
+    requires next_low { length next_low.old ≡ 256 }
+    requires next_high { length next_high.old ≡ 256 }
     ensures count { length sums.new ≡ length sums.old }
     ensures each { ((j l : ℕ) → j < length sums.old → l < 8 → lane sums.old j l ≡ 0) →
         (j l : ℕ) → j < length sums.old → l < 8 → lane sums.new j l
@@ -232,7 +241,10 @@ fn add_row_pairs(
     for pair in 0..factors.len() / 2 {
         add_two_rows(
             sums,
-            tables,
+            low,
+            high,
+            next_low,
+            next_high,
             &factors[2 * pair],
             &factors[2 * pair + 1],
             rows,
@@ -247,7 +259,8 @@ fn add_row_pairs(
 // rows is odd.
 fn add_odd_row(
     sums: &mut [Eight],
-    tables: &mut [Eight],
+    low: &mut [Eight],
+    high: &mut [Eight],
     factors: &[Eight],
     rows: &[u8],
     width: usize,
@@ -255,7 +268,8 @@ fn add_odd_row(
 )
     requires rows { length rows.now ≡ length factors.now * width }
     requires columns { 2 * (first + length sums.old) ≤ width }
-    requires tables { length tables.old ≡ 1024 }
+    requires low { length low.old ≡ 256 }
+    requires high { length high.old ≡ 256 }
     ensures count { length sums.new ≡ length sums.old }
     ensures each { (j l : ℕ) → j < length sums.old → l < 8 → lane sums.old j l
         ≡ sum_below (2 * (length factors.now / 2))
@@ -268,10 +282,11 @@ fn add_odd_row(
         return;
     }
     let row = factors.len() - 1;
-    add_row(sums, tables, &factors[row], rows, width, row, first);
+    add_row(sums, low, high, &factors[row], rows, width, row, first);
 }
 
 // Adds to the sums the products of each row's factors with its symbols, from a first column on.
+// There is room for the tables of two rows.
 fn add_rows(
     sums: &mut [Eight],
     tables: &mut [Eight],
@@ -289,8 +304,13 @@ fn add_rows(
         ≡ sum_below (length factors.now)
         (λ s. times (symbol rows.now width s (first + j)) (lane factors.now s l)) }
 {
-    add_row_pairs(sums, tables, factors, rows, width, first);
-    add_odd_row(sums, tables, factors, rows, width, first);
+    let (own, others) = tables.split_at_mut(512);
+    let (low, high) = own.split_at_mut(256);
+    let (next_low, next_high) = others.split_at_mut(256);
+    add_row_pairs(
+        sums, low, high, next_low, next_high, factors, rows, width, first,
+    );
+    add_odd_row(sums, low, high, factors, rows, width, first);
 }
 
 /// For each of eight targets, one in a lane, the sums over the rows of a row's symbol times its

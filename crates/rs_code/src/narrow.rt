@@ -79,15 +79,17 @@ fn add_rows(
         ≡ sum_below (length factors.now)
         (λ s. times (symbol rows.now width s (first + j)) (lane factors.now s l)) }
 {
+    let (low, high) = tables.split_at_mut(16);
     for row in 0..factors.len() {
-        add_row(sums, tables, &factors[row], rows, width, row, first);
+        add_row(sums, low, high, &factors[row], rows, width, row, first);
     }
 }
 
 // Adds to the sums the products of eight factors with the row's symbols, from a first column on.
 fn add_row(
     sums: &mut [Eight],
-    tables: &mut [Eight],
+    low: &mut [Eight],
+    high: &mut [Eight],
     factors: &Eight,
     rows: &[u8],
     width: usize,
@@ -95,27 +97,35 @@ fn add_row(
     first: usize,
 )
     requires room { row * width + 2 * (first + length sums.old) ≤ length rows.now }
-    requires tables { length tables.old ≡ 32 }
+    requires low { length low.old ≡ 16 }
+    requires high { length high.old ≡ 16 }
     ensures count { length sums.new ≡ length sums.old }
     ensures each { (j l : ℕ) → j < length sums.old → l < 8 → lane sums.new j l
         ≡ bit_xor (lane sums.old j l)
         (times (symbol rows.now width row (first + j)) (slice_index factors.now l)) }
 {
     let start = row * width + 2 * first;
-    add_bytes(sums, tables, &each_by_256(factors), rows, start);
-    add_bytes(sums, tables, factors, rows, start + 1);
+    add_bytes(sums, low, high, &each_by_256(factors), rows, start);
+    add_bytes(sums, low, high, factors, rows, start + 1);
 }
 
 // Adds to the sums the products of eight factors with every other byte, from a first one on.
-fn add_bytes(sums: &mut [Eight], tables: &mut [Eight], factors: &Eight, rows: &[u8], start: usize)
+fn add_bytes(
+    sums: &mut [Eight],
+    low: &mut [Eight],
+    high: &mut [Eight],
+    factors: &Eight,
+    rows: &[u8],
+    start: usize,
+)
     requires room { start + 2 * length sums.old ≤ length rows.now + 1 }
-    requires tables { length tables.old ≡ 32 }
+    requires low { length low.old ≡ 16 }
+    requires high { length high.old ≡ 16 }
     ensures count { length sums.new ≡ length sums.old }
     ensures each { (j l : ℕ) → j < length sums.old → l < 8
         → lane sums.new j l ≡ bit_xor (lane sums.old j l)
         (times (slice_index factors.now l) (slice_index rows.now (start + 2 * j))) }
 {
-    let (low, high) = tables.split_at_mut(16);
     spread_short(low, factors);
     spread_short(high, &each_by_16(factors));
     add_by_short_tables(sums, low, high, rows, start);

@@ -68,14 +68,22 @@ fn add_rows(
         ≡ sum_below (length factors.now)
         (λ s. times (symbol rows.now width s (first + j)) (lane factors.now s l)) }
 {
-    add_row_pairs(sums, words, entries, factors, rows, width, first);
-    add_odd_row(sums, words, entries, factors, rows, width, first);
+    let (own, others) = words.split_at_mut(512);
+    let (low, high) = own.split_at_mut(256);
+    let (next_low, next_high) = others.split_at_mut(256);
+    add_row_pairs(
+        sums, low, high, next_low, next_high, entries, factors, rows, width, first,
+    );
+    add_odd_row(sums, low, high, entries, factors, rows, width, first);
 }
 
 // The same of two rows at a time, for all rows but the last of an odd number of them.
 fn add_row_pairs(
     sums: &mut [Pair],
-    words: &mut [u32],
+    low: &mut [u32],
+    high: &mut [u32],
+    next_low: &mut [u32],
+    next_high: &mut [u32],
     entries: &mut [Eight],
     factors: &[Eight],
     rows: &[u8],
@@ -84,7 +92,10 @@ fn add_row_pairs(
 )
     requires rows { length rows.now ≡ length factors.now * width }
     requires columns { 2 * (first + length sums.old) ≤ width }
-    requires words { length words.old ≡ 1024 }
+    requires low { length low.old ≡ 256 }
+    requires high { length high.old ≡ 256 }
+    requires next_low { length next_low.old ≡ 256 }
+    requires next_high { length next_high.old ≡ 256 }
     requires entries { length entries.old ≡ 256 }
     ensures count { length sums.new ≡ length sums.old }
     ensures each { ((j l : ℕ) → j < length sums.old → l < 2 → lane sums.old j l ≡ 0) →
@@ -96,7 +107,10 @@ fn add_row_pairs(
         let row = 2 * pair;
         add_two_rows(
             sums,
-            words,
+            low,
+            high,
+            next_low,
+            next_high,
             entries,
             &factors[row],
             &factors[row + 1],
@@ -112,7 +126,8 @@ fn add_row_pairs(
 // rows is odd.
 fn add_odd_row(
     sums: &mut [Pair],
-    words: &mut [u32],
+    low: &mut [u32],
+    high: &mut [u32],
     entries: &mut [Eight],
     factors: &[Eight],
     rows: &[u8],
@@ -121,7 +136,8 @@ fn add_odd_row(
 )
     requires rows { length rows.now ≡ length factors.now * width }
     requires columns { 2 * (first + length sums.old) ≤ width }
-    requires words { length words.old ≡ 1024 }
+    requires low { length low.old ≡ 256 }
+    requires high { length high.old ≡ 256 }
     requires entries { length entries.old ≡ 256 }
     ensures count { length sums.new ≡ length sums.old }
     ensures each { (j l : ℕ) → j < length sums.old → l < 2 → lane sums.old j l
@@ -135,14 +151,27 @@ fn add_odd_row(
         return;
     }
     let row = factors.len() - 1;
-    add_row(sums, words, entries, &factors[row], rows, width, row, first);
+    add_row(
+        sums,
+        low,
+        high,
+        entries,
+        &factors[row],
+        rows,
+        width,
+        row,
+        first,
+    );
 }
 
 // Adds to the sums the products of two factors with the row's symbols and of two others with the
 // next row's, from a first column on.
 fn add_two_rows(
     sums: &mut [Pair],
-    words: &mut [u32],
+    low: &mut [u32],
+    high: &mut [u32],
+    next_low: &mut [u32],
+    next_high: &mut [u32],
     entries: &mut [Eight],
     factors: &Eight,
     next_factors: &Eight,
@@ -152,7 +181,10 @@ fn add_two_rows(
     first: usize,
 )
     requires room { (row + 1) * width + 2 * (first + length sums.old) ≤ length rows.now }
-    requires words { length words.old ≡ 1024 }
+    requires low { length low.old ≡ 256 }
+    requires high { length high.old ≡ 256 }
+    requires next_low { length next_low.old ≡ 256 }
+    requires next_high { length next_high.old ≡ 256 }
     requires entries { length entries.old ≡ 256 }
     ensures count { length sums.new ≡ length sums.old }
     ensures each { (j l : ℕ) → j < length sums.old → l < 2
@@ -160,9 +192,6 @@ fn add_two_rows(
         (bit_xor (times (symbol rows.now width row (first + j)) (slice_index factors.now l))
         (times (symbol rows.now width (row + 1) (first + j)) (slice_index next_factors.now l))) }
 {
-    let (own, others) = words.split_at_mut(512);
-    let (low, high) = own.split_at_mut(256);
-    let (next_low, next_high) = others.split_at_mut(256);
     fill_table(low, entries, factors);
     fill_table(high, entries, &each_by_256(factors));
     fill_table(next_low, entries, next_factors);
@@ -175,7 +204,8 @@ fn add_two_rows(
 // Adds to the sums the products of two factors with the row's symbols, from a first column on.
 fn add_row(
     sums: &mut [Pair],
-    words: &mut [u32],
+    low: &mut [u32],
+    high: &mut [u32],
     entries: &mut [Eight],
     factors: &Eight,
     rows: &[u8],
@@ -184,15 +214,14 @@ fn add_row(
     first: usize,
 )
     requires room { row * width + 2 * (first + length sums.old) ≤ length rows.now }
-    requires words { length words.old ≡ 1024 }
+    requires low { length low.old ≡ 256 }
+    requires high { length high.old ≡ 256 }
     requires entries { length entries.old ≡ 256 }
     ensures count { length sums.new ≡ length sums.old }
     ensures each { (j l : ℕ) → j < length sums.old → l < 2 → lane sums.new j l
         ≡ bit_xor (lane sums.old j l)
         (times (symbol rows.now width row (first + j)) (slice_index factors.now l)) }
 {
-    let (own, _) = words.split_at_mut(512);
-    let (low, high) = own.split_at_mut(256);
     fill_table(low, entries, factors);
     fill_table(high, entries, &each_by_256(factors));
     add_by_tables(sums, low, high, rows, width, row, first);

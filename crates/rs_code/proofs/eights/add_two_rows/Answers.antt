@@ -22,10 +22,10 @@ returns-clause-each c = λ j l hj hl.
     (c.spread-2.ensures.each (byte place) l (fits place) hl
     ∙ ap (λ (x : ℕ). times x (byte place)) (c.each_by_256.ensures l hl))
     (c.spread.ensures.each (byte (place + 1)) l (fits (place + 1)) hl)
-    ∙ by_bytes f (byte place) (byte (place + 1)) (omega (arith, c.type_inv.factors l)) (fits place) (fits (place + 1)))
+    ∙ by_bytes f (byte place) (byte (place + 1)) (omega arith) (fits place) (fits (place + 1)))
     (ap₂ bit_xor
     (c.spread-4.ensures.each (byte next) l (fits next) hl
     ∙ ap (λ (x : ℕ). times x (byte next)) (c.each_by_256-2.ensures l hl))
     (c.spread-3.ensures.each (byte (next + 1)) l (fits (next + 1)) hl)
-    ∙ by_bytes g (byte next) (byte (next + 1)) (omega (arith, c.type_inv.next_factors l)) (fits next) (fits (next + 1))
+    ∙ by_bytes g (byte next) (byte (next + 1)) (omega arith) (fits next) (fits (next + 1))
     ∙ ap (λ (n : ℕ). times (byte n * 256 + byte (n + 1)) g) (sym below)))

@@ -20,4 +20,4 @@ returns-clause-each c = λ j l hj hl.
     (c.fill_table-2.ensures high l high_fits hl
     ∙ ap (λ (x : ℕ). times x high) (c.each_by_256.ensures l (omega (arith, hl))))
     (c.fill_table.ensures low l low_fits hl)
-    ∙ by_bytes f high low (omega (arith, c.type_inv.factors l)) high_fits low_fits)
+    ∙ by_bytes f high low (omega arith) high_fits low_fits)
