@@ -26,3 +26,10 @@ loop-i-preserved c =
     (signers_at c.args.count c.args.reader.now) c.loop-i-test.true c.in-Ok.ensures.value
     c.loop-i.invariant.0 in
     (rw c.in-Ok-push.ensures.ok goes, end_of_end c.loop-i.invariant.1 c.be16.ensures.place)
+
+pub returns-in-Err-clause-place : goal.returns-in-Err-clause-place
+returns-in-Err-clause-place c = end_of_end c.loop-i.invariant.1 c.be16.ensures.place
+
+pub returns-in-Err-push-clause-place : goal.returns-in-Err-push-clause-place
+returns-in-Err-push-clause-place c =
+    end_of_end (end_of_end c.loop-i.invariant.1 c.be16.ensures.place) c.skip_signers.ensures.place
