@@ -1,6 +1,6 @@
 //! Whether chunks stand under a commitment.
 
-ghost use Rattle.std.specs.Prelude.{◌≡◌, ◌≤◌, IfOk, IsTrue, map};
+ghost use Rattle.std.specs.Prelude.{◌≡◌, ◌≤◌, ◌++◌, ◌∷◌, [], IfOk, IsTrue, OnOk, map};
 ghost use Rattle.cw_rules.specs.Accepted.{is_chunk_of};
 ghost use Rattle.cw_rules.specs.Coding.{AreBytes, AreByteChunks};
 ghost use Rattle.cw_coding.specs.Totals.{total_of};
@@ -80,6 +80,24 @@ fn checked<H: Hasher<Digest = Digest32>, S: Strategy>(
     }
 }
 
+// The chunk goes to the end of those that were checked.
+fn add_checked<H: Hasher<Digest = Digest32>, S: Strategy>(
+    all: &mut Vec<CheckedChunk<H>>,
+    alloc: Global,
+    commitment: &Commitment,
+    chunk: &Chunk<Digest32>,
+    strategy: &S,
+) -> Result<(), NoMemory>
+    requires few { total_of commitment.now.config ≤ 65535 }
+    requires under { IsTrue (is_under_root H.digest_of commitment.now chunk.now) }
+    ensures { OnOk result (all.new.items
+        ≡ all.old.items ++ checked_of H.digest_of commitment.now chunk.now ∷ []) }
+{
+    let checked = checked::<H, S>(alloc, commitment, chunk, strategy)?;
+    all.push(checked)?;
+    Ok(())
+}
+
 // What a slice holds is bytes.
 fn are_bytes(shard: &[u8])
     ensures { AreBytes shard.now }
@@ -104,7 +122,13 @@ pub(crate) fn checked_all<H: Hasher<Digest = Digest32>, S: Strategy>(
     let mut all = Vec::new(alloc);
     for chunk in chunks {
         are_bytes(chunk.shard());
-        all.push(checked::<H, S>(alloc, commitment, chunk, strategy)?)?;
+        match add_checked::<H, S>(&mut all, alloc, commitment, chunk, strategy) {
+            Ok(()) => {}
+            Err(error) => {
+                drop(all);
+                return Err(error);
+            }
+        }
     }
     Ok(all)
 }

@@ -89,9 +89,11 @@ impl<H: Hasher<Digest = Digest32>> Shards<H> {
             chunk)) }
     {
         if pieces::is_known(self.kept.as_slice(), commitment, &chunk) {
+            drop(chunk);
             return Ok(Verdict::Known);
         }
         if !is_chunk_of::<H>(&self.committees, commitment, &chunk) {
+            drop(chunk);
             return Ok(Verdict::Foreign);
         }
         let verdict = kept_verdict::<H, R, S>(
@@ -103,10 +105,6 @@ impl<H: Hasher<Digest = Digest32>> Shards<H> {
             &chunk,
             strategy,
         )?;
-        self.kept.push(KeptChunk {
-            commitment: *commitment,
-            chunk,
-        })?;
-        Ok(verdict)
+        Ok(pieces::push(&mut self.kept, commitment, chunk, verdict)?)
     }
 }

@@ -1,10 +1,12 @@
 //! A list of chunks, each with what it is of.
 
-ghost use Rattle.std.specs.Prelude.{◌≡◌, ◌==◌, ◌-◌, [], ◌∷◌, ◌++◌, IfOk, filter, length, map};
+ghost use Rattle.std.specs.Prelude.{◌≡◌, ◌==◌, ◌-◌, [], ◌∷◌, ◌++◌, IfOk, OnErr, OnOk, filter};
+ghost use Rattle.std.specs.Prelude.{length, map};
 ghost use Rattle.cw_types.specs.Same.{same_commitment};
-ghost use Rattle.shards.specs.Kept.{chunks_of, is_known};
+ghost use Rattle.shards.specs.Kept.{chunks_of, is_known, with_chunk};
 
-use cw_base::{Digest32, NoMemory};
+use crate::verdict::Verdict;
+use cw_base::{Digest32, Items, NoMemory};
 use cw_coding::Chunk;
 use cw_types::Commitment;
 use std::alloc::Global;
@@ -21,6 +23,30 @@ pub(crate) fn is_known(kept: &[KeptChunk], commitment: &Commitment, chunk: &Chun
     ensures { result ≡ is_known kept.now commitment.now chunk.now }
 {
     kept.iter().any(|one| commitment.is_same(&one.commitment) && chunk.index() == one.chunk.index())
+}
+
+/// Keeps a chunk; what is answered to it is then as it was given.
+pub(crate) fn push(
+    kept: &mut Items<KeptChunk>,
+    commitment: &Commitment,
+    chunk: Chunk<Digest32>,
+    verdict: Verdict,
+) -> Result<Verdict, NoMemory>
+    ensures ok { OnOk result (kept.new ≡ with_chunk kept.old commitment.now chunk) }
+    ensures same { IfOk result (λ v. v ≡ verdict) }
+    ensures err { OnErr result (kept.new ≡ kept.old) }
+{
+    let pushed = kept.push(KeptChunk {
+        commitment: *commitment,
+        chunk,
+    });
+    match pushed {
+        Ok(()) => Ok(verdict),
+        Err(error) => {
+            drop(verdict);
+            Err(error)
+        }
+    }
 }
 
 /// Whether all but one of the chunks that show a block were kept of a commitment.
@@ -53,9 +79,20 @@ pub(crate) fn chunks_with<'a>(
     let mut chunks = Vec::new(alloc);
     for one in kept {
         if commitment.is_same(&one.commitment) {
-            chunks.push(&one.chunk)?;
+            match chunks.push(&one.chunk) {
+                Ok(()) => {}
+                Err(_) => {
+                    drop(chunks);
+                    return Err(NoMemory);
+                }
+            }
         }
     }
-    chunks.push(last)?;
-    Ok(chunks)
+    match chunks.push(last) {
+        Ok(()) => Ok(chunks),
+        Err(_) => {
+            drop(chunks);
+            Err(NoMemory)
+        }
+    }
 }

@@ -29,7 +29,8 @@ returns-clause-verdict g c =
     c.in_ok-verdict.ensures
     ∙ ap (λ ks. kept_verdict r ks c.args.commitment.now c.args.chunk)
     c.as_slice-2.ensures in
-    subst
+    c.in_ok-push.ensures.same
+    ∙ subst
     (λ (t : Gathered). c.in_ok-verdict.verdict
     ≡ verdict (rules_of hash t.epochs) t.kept c.args.commitment.now c.args.chunk)
     c.self.view_is
