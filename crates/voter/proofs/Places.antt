@@ -1,9 +1,7 @@
 -- What stands at a place of a list that is filtered, mapped, joined or counted off.
-use Rattle.std.proofs.Common.{◌≡◌, ◌+◌, ◌-◌, ◌≤◌, ℕ, zero, suc, Bool, true, false, List, [], ◌∷◌, ◌++◌, length, map, filter, Option, Some, None, option_and_then, option_map, slice_get, refl, ◌∙◌, ap, sym, arith, ◌==◌, ◌⊎◌, inl, inr, eqb-true}
-use Rattle.std.specs.List.{enumerate_from, filter_map, find}
-use Rattle.std.proofs.lemmas.Bool.{cases_Bool}
+use Rattle.std.proofs.Common.{◌≡◌, ◌+◌, ◌-◌, ◌≤◌, ℕ, zero, suc, Bool, true, false, List, [], ◌∷◌, ◌++◌, length, map, filter, Option, Some, None, option_and_then, option_map, slice_get, refl, ◌∙◌, ap, sym, arith}
+use Rattle.std.specs.List.{enumerate_from, filter_map}
 use Rattle.std.proofs.lemmas.Option.{same_Some}
-use Rattle.std.proofs.lemmas.Bool.Decides.{nat_tests}
 use Rattle.std.specs.Option.{is_some, option_or}
 
 -- the answers are those of the elements that have one
@@ -63,27 +61,6 @@ counted {X = X} p n (y ∷ ys) i at x h = go (p (n, y)) refl (counted p (n + 1) 
         (le, ap (slice_get (y ∷ ys)) zeroth ∙ ap Some element)
     go true e more (suc j) k = later (more j at x (rw e at k))
 
--- the element of a rank is that at the place
-pub ranked : {X : Type 0} (i n : ℕ) (xs : List X) → n ≤ i
-    → find (λ e. e.0 == i) (enumerate_from n xs) ≡ option_map (λ x. (i, x)) (slice_get xs (i - n))
-ranked i n [] le = refl
-ranked i n (x ∷ xs) le = go (cases_Bool (n == i)) (ranked i (n + 1) xs)
-  where
-    go : ((n == i) ≡ true) ⊎ ((n == i) ≡ false)
-        → (n + 1 ≤ i
-        → find (λ e. e.0 == i) (enumerate_from (n + 1) xs)
-        ≡ option_map (λ z. (i, z)) (slice_get xs (i - (n + 1))))
-        → find (λ e. e.0 == i) (enumerate_from n (x ∷ xs))
-        ≡ option_map (λ z. (i, z)) (slice_get (x ∷ xs) (i - n))
-    go (inl e) more =
-        let same : n ≡ i = eqb-true n i e in
-        let zeroth : i - n ≡ 0 = omega arith in
-        rw (e, zeroth) (ap (λ k. Some (k, x)) same)
-    go (inr e) more =
-        let other : n + 1 ≤ i = grind (arith, nat_tests) in
-        let down : i - n ≡ suc (i - (n + 1)) = omega arith in
-        rw (e, down) (more other)
-
 -- of two lists behind one another, what the first one names
 pub first_place : {X Y Z : Type 0} (f : X → Option Z) (h : Y → Option Z) (xs : List X) (ys : List Y)
     (at : ℕ) (z : Z)
@@ -118,38 +95,11 @@ mapped f [] i = refl
 mapped f (x ∷ xs) zero = refl
 mapped f (x ∷ xs) (suc i) = mapped f xs i
 
-from_first : {X : Type 0} (i : ℕ) (xs : List X)
-    → find (λ e. e.0 == i) (enumerate_from 0 xs) ≡ option_map (λ x. (i, x)) (slice_get xs i)
-from_first i xs =
-    let same : i - 0 ≡ i = omega arith in
-    ranked i 0 xs (omega arith) ∙ ap (λ j. option_map (λ x. (i, x)) (slice_get xs j)) same
-
--- what has a rank stands there
-at_rank : {X : Type 0} (i rank : ℕ) (xs : List X) (x : X)
-    → find (λ e. e.0 == i) (enumerate_from 0 xs) ≡ Some (rank, x) → slice_get xs i ≡ Some x
-at_rank {X = X} i rank xs x h = go (slice_get xs i) (sym (from_first i xs) ∙ h)
-  where
-    go : (o : Option X) → ◌≡◌ {A = Option (ℕ × X)} (option_map (λ z. (i, z)) o) (Some (rank, x))
-        → o ≡ Some x
-    go None k = cc
-    go (Some y) k = ap (λ (q : ℕ × X). Some q.1) (same_Some (i, y) (rank, x) k)
-
-no_rank : {X : Type 0} (i : ℕ) (xs : List X) → find (λ e. e.0 == i) (enumerate_from 0 xs) ≡ None
-    → slice_get xs i ≡ None
-no_rank {X = X} i xs h = go (slice_get xs i) (sym (from_first i xs) ∙ h)
-  where
-    go : (o : Option X) → ◌≡◌ {A = Option (ℕ × X)} (option_map (λ z. (i, z)) o) None → o ≡ None
-    go None k = refl
-    go (Some y) k = cc
-
--- the element that is found by its rank among those that pass a test, by its own number
-pub picked : {X : Type 0} (p : ℕ × X → Bool) (xs : List X) (i rank at : ℕ) (x : X)
-    → find (λ e. e.0 == i) (enumerate_from 0 (filter p (enumerate_from 0 xs)))
-    ≡ Some (rank, (at, x))
+-- the element at a place among those that pass a test, by its own number
+pub picked : {X : Type 0} (p : ℕ × X → Bool) (xs : List X) (i at : ℕ) (x : X)
+    → slice_get (filter p (enumerate_from 0 xs)) i ≡ Some (at, x)
     → slice_get xs at ≡ slice_get (map (λ e. e.1) (filter p (enumerate_from 0 xs))) i
-picked {X = X} p xs i rank at x h =
-    let there : slice_get (filter p (enumerate_from 0 xs)) i ≡ Some (at, x) =
-    at_rank i rank (filter p (enumerate_from 0 xs)) (at, x) h in
+picked {X = X} p xs i at x there =
     let same : at - 0 ≡ at = omega arith in
     let own : slice_get xs at ≡ Some x =
     ap (slice_get xs) (sym same) ∙ (counted p 0 xs i at x there).1 in
@@ -158,10 +108,10 @@ picked {X = X} p xs i rank at x h =
     (mapped (λ (e : ℕ × X). e.1) (filter p (enumerate_from 0 xs)) i
     ∙ ap (option_map (λ (e : ℕ × X). e.1)) there)
 
--- where none is found there is none
+-- where none is there
 pub none_picked : {X : Type 0} (p : ℕ × X → Bool) (xs : List X) (i : ℕ)
-    → find (λ e. e.0 == i) (enumerate_from 0 (filter p (enumerate_from 0 xs))) ≡ None
+    → slice_get (filter p (enumerate_from 0 xs)) i ≡ None
     → slice_get (map (λ e. e.1) (filter p (enumerate_from 0 xs))) i ≡ None
-none_picked {X = X} p xs i h =
+none_picked {X = X} p xs i none =
     mapped (λ (e : ℕ × X). e.1) (filter p (enumerate_from 0 xs)) i
-    ∙ ap (option_map (λ (e : ℕ × X). e.1)) (no_rank i (filter p (enumerate_from 0 xs)) h)
+    ∙ ap (option_map (λ (e : ℕ × X). e.1)) none

@@ -4,6 +4,7 @@ ghost use Rattle.std.specs.Prelude.{◌≡◌, ◌≤◌, ◌&&◌, ◌||◌, If
 ghost use Rattle.std.specs.Prelude.{length, nat_le, not, option_map, unwrap_or};
 ghost use Rattle.std.specs.List.{list_any};
 ghost use Rattle.std.specs.Option.{is_some};
+ghost use Rattle.cw_rules.specs.Accepted.{Single, same_ballot};
 ghost use Rattle.cw_rules.specs.Notes.{has_cert};
 ghost use Rattle.cw_rules.specs.Owed as rule;
 ghost use Rattle.cw_types.specs.Epochs.{members_in, size};
@@ -32,7 +33,8 @@ impl<H> Tally<H> {
 
     // Whether this vote of that member came.
     pub(crate) fn has_voted_so(&self, vote: &Vote, member: u16) -> bool
-        ensures { result ≡ list_any (rule.is_single member vote.now) self.now.ballots }
+        ensures vote { result ≡ list_any (rule.is_single member vote.now) self.now.ballots }
+        ensures same { result ≡ list_any (same_ballot (Single member vote.now)) self.now.ballots }
     {
         self.ballots
             .as_slice()

@@ -4,7 +4,7 @@ use cw_types::Commitment;
 
 /// A chunk that came, at the member's place in the list of some epoch: what it is of, and its
 /// place.
-#[derive(Clone, Copy, Debug, PartialEq, Eq)]
+#[derive(Clone, Copy)]
 pub struct OwnChunk {
     pub commitment: Commitment,
     pub index: u16,

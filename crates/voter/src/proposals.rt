@@ -1,6 +1,6 @@
 //! The proposals that a member may certify.
 
-ghost use Rattle.std.specs.Prelude.{◌≡◌, ◌==◌, IfSome, IsTrue, filter, filter_map, find, length};
+ghost use Rattle.std.specs.Prelude.{◌≡◌, IfSome, IsTrue, filter, filter_map, length};
 ghost use Rattle.std.specs.Prelude.{option_and_then, option_map, slice_get, take};
 ghost use Rattle.std.specs.List.{enumerate_from, list_any};
 ghost use Rattle.std.specs.Option.{is_some};
@@ -52,10 +52,9 @@ impl<H> Tally<H> {
     }
 
     // The candidate at this place, with its place among those that are named.
-    fn ranked_candidate(&self, index: usize) -> Option<(usize, (usize, Proposal))>
-        ensures { result ≡ find (λ e. e.0 == index)
-            (enumerate_from 0 (filter (owing.is_candidate self.now)
-            (enumerate_from 0 (rule.named_proposals (state_of self.now))))) }
+    fn ranked_candidate(&self, index: usize) -> Option<(usize, Proposal)>
+        ensures { result ≡ slice_get (filter (owing.is_candidate self.now)
+            (enumerate_from 0 (rule.named_proposals (state_of self.now)))) index }
     {
         self.ballots
             .as_slice()
@@ -69,8 +68,7 @@ impl<H> Tally<H> {
             )
             .enumerate()
             .filter(|(at, proposal)| self.is_candidate(*at, proposal))
-            .enumerate()
-            .find(|(rank, _)| *rank == index)
+            .nth(index)
     }
 
     // How many votes and certificates that came name a proposal.
@@ -152,7 +150,7 @@ impl<H> Tally<H> {
             ≡ slice_get (owing.uncertified self.now) index }
     {
         match self.ranked_candidate(index) {
-            Some((_, (at, _))) => self.named_at(at),
+            Some((at, _)) => self.named_at(at),
             None => None,
         }
     }

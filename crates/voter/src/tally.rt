@@ -114,7 +114,7 @@ impl<H> Tally<H> {
             self.old.ballots)) }
         ensures err { OnErr result (self.new ≡ self.old) }
     {
-        if self.has_single(signer, vote) {
+        if self.has_voted_so(vote, signer) {
             return Ok(false);
         }
         self.ballots.push(Ballot::single(signer, *vote))?;
@@ -152,16 +152,7 @@ impl<H> Tally<H> {
         Ok(())
     }
 
-    // Whether this vote of that member came.
-    fn has_single(&self, signer: u16, vote: &Vote) -> bool
-        ensures { result ≡ list_any (same_ballot (Single signer vote.now)) self.now.ballots }
-    {
-        self.ballots
-            .as_slice()
-            .iter()
-            .any(|ballot| ballot.is_single(signer, vote))
-    }
-
+    // Whether this certificate came.
     fn has_same_cert(&self, cert: &Cert) -> bool
         ensures { result ≡ list_any (same_ballot (Many cert.now)) self.now.ballots }
     {

@@ -1,10 +1,14 @@
-use Rattle.std.proofs.Common.{rules, tests}
+use Rattle.std.proofs.Common.{rules, tests, ap, ◌∙◌}
 use Rattle.std.proofs.lemmas.Iterator.{YieldsList-from_slice}
-use Rattle.std.proofs.lemmas.Iterator.Consumers.{YieldsList-from_filter, nth_from_yields_List}
+use Rattle.std.proofs.lemmas.Iterator.Consumers.{YieldsList-at, YieldsList-from_filter, nth_from_yields_List}
+use Rattle.voter.specs.Known.{Known}
 use Rattle.voter.proofs.tally.Tally.note_naming.Goals as goal
 
 pub returns : goal.returns
 returns g c =
     nth_from_yields_List c.nth.result c.nth.new.self c.args.at c.nth.ensures.ran
-    (YieldsList-from_filter _ _ (YieldsList-from_slice c.args.self.now.notes (cc))
+    (YieldsList-from_filter _ _ (YieldsList-at c.filter.ensures.source
+    (YieldsList-from_slice c.args.self.now.notes
+    (c.iter.ensures.rest
+    ∙ (c.as_slice.ensures ∙ ap (λ (k : Known). k.notes) c.self.view_is))))
     c.filter.ensures.closure (λ x r q k. search (rules, tests)))

@@ -9,7 +9,7 @@ pub returns-in-Some : goal.returns-in-Some
 returns-in-Some g c =
     c.named_at.ensures
     ∙ picked (is_candidate c.args.self.now) (named_proposals (state_of c.args.self.now))
-    c.args.index c.in-Some.field-0-0 c.in-Some.at c.in-Some.field-0-1-1
+    c.args.index c.in-Some.at c.in-Some.field-0-1
     (sym c.ranked_candidate.ensures ∙ c.in-Some.is)
 
 pub returns-in-None : goal.returns-in-None
