@@ -1,6 +1,7 @@
 //! Two texts of one root, and two texts of one digest that come of them.
 
-ghost use Rattle.std.specs.Prelude.{◌≡◌, ◌≢◌, ◌⊎◌, ℕ, ◌<◌, ◌↔◌, length, slice_get, IsTrue, IfOk, IsSome};
+ghost use Rattle.std.specs.Prelude.{◌≡◌, ◌≢◌, ◌⊎◌, ℕ, ◌<◌, ◌↔◌, length, slice_get};
+ghost use Rattle.std.specs.Prelude.{IsTrue, IfOk, IsSome};
 ghost use Rattle.std.specs.Prelude.{IfErr, IfSome, IfNone, MatchBool, MatchOption, Some};
 ghost use Rattle.cw_tree.specs.Chunks.{Piece};
 ghost use Rattle.cw_coding.specs.Encoding.{IsEncodable, IsEncodeRefusal, root_of_text};

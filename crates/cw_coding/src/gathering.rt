@@ -1,6 +1,7 @@
 //! The chunks that are decoded: which fit together, and in which order they are used.
 
-ghost use Rattle.std.specs.Prelude.{◌≡◌, ℕ, ◌+◌, ◌-◌, ◌*◌, ◌^◌, ◌<◌, ◌≤◌, ◌==◌, [], ◌∷◌, ◌++◌, ◌↔◌, ◌⊎◌};
+ghost use Rattle.std.specs.Prelude.{◌≡◌, ℕ, ◌+◌, ◌-◌, ◌*◌, ◌^◌, ◌<◌, ◌≤◌, ◌==◌};
+ghost use Rattle.std.specs.Prelude.{[], ◌∷◌, ◌++◌, ◌↔◌, ◌⊎◌};
 ghost use Rattle.std.specs.Prelude.{List, length, take, map, filter, nat_lt, not, if◌then◌else◌};
 ghost use Rattle.std.specs.Prelude.{IfOk, OnOk, IsTrue, MatchResult};
 ghost use Rattle.std.specs.List.{flat_map};

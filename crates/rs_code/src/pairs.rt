@@ -1,7 +1,7 @@
 //! Sums of rows for two targets at once, where no more are left.
 
-ghost use Rattle.std.specs.Prelude.{◌≡◌, ℕ, ◌<◌, ◌≤◌, ◌+◌, ◌*◌, ◌/◌, ◌%◌, bit_xor, length, slice_index};
-ghost use Rattle.std.specs.Prelude.{IfOk};
+ghost use Rattle.std.specs.Prelude.{◌≡◌, ℕ, ◌<◌, ◌≤◌, ◌+◌, ◌*◌, ◌/◌, ◌%◌, bit_xor, length};
+ghost use Rattle.std.specs.Prelude.{slice_index, IfOk};
 ghost use Rattle.rs_code.specs.Codeword.{sum_below};
 ghost use Rattle.rs_code.specs.Coefficients.{lane, half};
 ghost use Rattle.rs_code.specs.Field.{times};
