@@ -12,3 +12,5 @@ pub mod Cuts
 pub mod Reopens
 pub mod Starting
 pub mod ReadBack
+pub mod Gone
+pub mod Appending

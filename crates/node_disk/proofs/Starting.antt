@@ -1,5 +1,5 @@
 -- A start on a file shorter than two bytes.
-use Rattle.std.proofs.Common.{◌≡◌, ◌⊎◌, inl, inr, ℕ, ◌<◌, List, [], ◌∷◌, length, Ok, Option, true, refl, sym, ◌∙◌, ap, subst, arith}
+use Rattle.std.proofs.Common.{◌≡◌, ◌⊎◌, inl, inr, ℕ, ◌<◌, ◌≤◌, List, [], ◌∷◌, length, Ok, Option, true, refl, sym, ◌∙◌, ap, subst, arith}
 use Rattle.node_disk.specs.Images.{IsImage}
 use Rattle.node_disk.specs.Disk.{DiskState, DeviceCall, Synced, told_more, HasTold, IsCutShort, IsFront, Torn, LeavesOnly}
 use Rattle.node_disk.specs.Frames.{read_log}
@@ -33,6 +33,13 @@ gate_calls : (seen : List ℕ) → length seen < 2 → write_then_sync 0 (0 ∷ 
 gate_calls [] short = refl
 gate_calls (a ∷ []) short = refl
 gate_calls (a ∷ b ∷ seen) short = absurd (omega arith)
+
+-- a longer file needs no gate
+pub told_long : (seen : List ℕ) (old new : DiskState) → 2 ≤ length seen
+    → HasTold (Synced true ∷ []) old new → HasTold (start_calls seen) old new
+told_long [] old new long told = absurd (omega arith)
+told_long (a ∷ []) old new long told = absurd (omega arith)
+told_long (a ∷ b ∷ seen) old new long told = told
 
 -- the sync failed, or the read after it
 pub cut_first : (seen : List ℕ) (old new : DiskState)

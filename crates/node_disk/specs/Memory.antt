@@ -1,8 +1,12 @@
 -- A disk in memory, as every contract sees it.
-use Rattle.std.specs.Prelude.{◌≡◌, ℕ, ◌+◌, List, [], ◌∷◌, ◌++◌, length, Bool, true, false, ◌||◌, ◌&&◌, Option, Some, None}
+use Rattle.std.specs.Prelude.{◌≡◌, ℕ, ◌+◌, List, [], ◌∷◌, ◌++◌, length, Bool, true, false, ◌||◌, ◌&&◌, Option, Some, None, Result, Ok, Err}
 use Rattle.std.specs.Option.{is_none}
+use Rattle.std.specs.declared.alloc.AllocError.{AllocError}
+use Rattle.cw_base.specs.Memory.{counted}
 use Rattle.node_disk.specs.Disk.{DiskState}
 use Rattle.node_disk.specs.Record.{Request, Entry, Held, held_after, past_of, told_calls, moment_of, done_writes, decided, reopened_still, outcome_at, is_reached, is_listed}
+use Rattle.node_disk.specs.declared.disk.DiskError.{DiskError}
+use Rattle.node_disk.specs.declared.disk.DiskError.TheVariants as error
 use Rattle.node_disk.specs.declared.record.Outcome.{Outcome}
 use Rattle.node_disk.specs.declared.record.Stop.{Stop}
 
@@ -81,6 +85,23 @@ pub record HasCalled (request : Request) (old new : MemoryState) : Type 0 where
   pub reopened : new.reopened ≡ false
   pub stop : new.stop ≡ old.stop
   pub failing : new.failing ≡ old.failing
+
+-- what a device call answers that was done or not, or that was refused for memory
+abbrev pub answer_of : Result Bool AllocError → Result (Unit {0}) DiskError
+answer_of (Ok true) = Ok tt
+answer_of (Ok false) = Err error.Failed
+answer_of (Err refused) = Err error.NoMemory
+
+-- the count of faults behind such a call
+abbrev pub faults_after : Result Bool AllocError → ℕ → ℕ
+faults_after (Ok true) faults = faults
+faults_after (Ok false) faults = counted faults
+faults_after (Err refused) faults = faults
+
+-- one try more of a device call, and a fault more where it failed
+abbrev pub HasCounted : Result Bool AllocError → MemoryState → MemoryState → Type 0
+HasCounted made old new =
+    new ≡ record old { faults = faults_after made old.faults; tries = counted old.tries }
 
 -- some device calls more, each of which went as the stop and the numbers that fail decide
 pub record Continues (old new : MemoryState) : Type 0 where

@@ -7,7 +7,7 @@ ghost use Rattle.cw_base.specs.Memory.{counted};
 ghost use Rattle.node_disk.specs.Disk.{put_at};
 ghost use Rattle.node_disk.specs.Record.{Write, Sync, Held, put_within, torn, put_torn};
 ghost use Rattle.node_disk.specs.Record.{done_writes, write_of, effect, entry_of, is_listed};
-ghost use Rattle.node_disk.specs.Record.{by_number, outcome_at, is_done};
+ghost use Rattle.node_disk.specs.Record.{by_number, outcome_at, is_done, request_of};
 
 use crate::DiskError;
 use crate::record::{Action, Call, Outcome, Pending, Stop};
@@ -57,7 +57,7 @@ pub(crate) fn make_torn(
 
 // What a write does. Where memory is refused nothing changes.
 #[tactic(auto, using(crate::proofs::Writes::done_pushes))]
-pub(crate) fn change_by_write(
+fn change_by_write(
     alloc: Global,
     bytes: &mut Vec<u8>,
     pending: &mut Vec<Pending>,
@@ -111,7 +111,7 @@ fn tear(
 }
 
 // What a sync does. Where memory is refused nothing changes.
-pub(crate) fn change_by_sync(
+fn change_by_sync(
     alloc: Global,
     bytes: &mut Vec<u8>,
     pending: &mut Vec<Pending>,
@@ -138,6 +138,36 @@ pub(crate) fn change_by_sync(
             *bytes = next;
             Ok(())
         }
+    }
+}
+
+// What a device call does, with room for its record. Where memory is refused nothing changes.
+pub(crate) fn change(
+    alloc: Global,
+    bytes: &mut Vec<u8>,
+    pending: &mut Vec<Pending>,
+    calls: &mut Vec<Call>,
+    action: &Action,
+    outcome: Outcome,
+) -> Result<(), AllocError>
+    ensures room { OnOk result (vec_len calls.new < vec_capacity calls.new) }
+    ensures calls { calls.new.items ≡ calls.old.items }
+    ensures seen { OnOk result ((held : Held) → bytes.old.items ≡ held.seen
+        → map write_of pending.old.items ≡ done_writes held.writes
+        → bytes.new.items ≡ (effect held (request_of action.now) outcome).seen) }
+    ensures unsynced { OnOk result ((held : Held)
+        → map write_of pending.old.items ≡ done_writes held.writes
+        → map write_of pending.new.items ≡ done_writes
+        (effect held (request_of action.now) outcome).writes) }
+    ensures err { OnErr result ((bytes.new.items ≡ bytes.old.items)
+        × (pending.new.items ≡ pending.old.items)) }
+{
+    calls.reserve(1)?;
+    match action {
+        Action::Write { place, bytes: new } => {
+            change_by_write(alloc, bytes, pending, *place, new, outcome)
+        }
+        Action::Sync => change_by_sync(alloc, bytes, pending, outcome),
     }
 }
 

@@ -2,7 +2,7 @@
 
 ghost use Rattle.std.specs.Prelude.{◌≡◌, ◌⊎◌, ◌+◌, ◌≤◌, ◌<◌, ◌^◌, ◌++◌, [], ◌∷◌, List, ℕ, length};
 ghost use Rattle.std.specs.Prelude.{true, false, IfOk, OnOk, OnErr, IfErr, Ok, Err, IsErrOf, Some};
-ghost use Rattle.std.specs.Prelude.{None, slice_get};
+ghost use Rattle.std.specs.Prelude.{None, slice_get, vec_len, vec_capacity};
 ghost use Rattle.node_disk.specs.Images.{IsImage, IsDurable};
 ghost use Rattle.cw_base.specs.Causes.{Rose};
 ghost use Rattle.node_disk.specs.Disk.{Holds, Torn, LeavesOnly, Synced, HasTold, IsCutShort};
@@ -214,7 +214,6 @@ impl<D: Disk> Log<D> {
     /// closed gate behind the last gate, syncs, opens that gate, and syncs, and makes none after
     /// the first that fails. An empty frame isn't added and calls no device. Refused for memory
     /// before a device call, it changes nothing.
-    #[tactic(auto, using(crate::proofs::AtRest::settled_images))]
     pub fn append(&mut self, frame: &[u8]) -> Result<(), StoreError>
         ensures ok { OnOk result ((has_failed self.new ≡ false)
             × (log_frames self.new ≡ with_frame (log_frames self.old) frame.now)) }
@@ -269,15 +268,14 @@ impl<D: Disk> Log<D> {
         if count == 0 {
             return Ok(());
         }
-        self.frames.reserve(1)?;
-        let kept = frame.to_vec(self.alloc)?;
-        let bytes = bytes_of(self.alloc, frame)?;
-        // No memory holds the frames of so long a file.
-        let Some(next) = self.gate.checked_add(bytes.len() as u64) else {
+        let Ok((kept, bytes, next)) = prepare(self.alloc, &mut self.frames, self.gate, frame) else {
             return Err(StoreError::NoMemory);
         };
         self.failed = true;
-        add_frame(&mut self.disk, self.gate, &bytes)?;
+        match add_frame(&mut self.disk, self.gate, &bytes) {
+            Ok(()) => {}
+            Err(error) => return Err(StoreError::from(error)),
+        }
         // Room was reserved, so this takes no memory.
         let _ = self.frames.push(kept);
         self.gate = next;
@@ -334,6 +332,31 @@ fn bytes_of(alloc: Global, frame: &[u8]) -> Result<Vec<u8>, NoMemory>
     put_bytes(&mut bytes, frame)?;
     put_u8(&mut bytes, 0)?;
     Ok(bytes)
+}
+
+// What an append needs of memory: room for one frame more, a copy of it, what is written, and the
+// place of the gate behind it.
+fn prepare(
+    alloc: Global,
+    frames: &mut Vec<Vec<u8>>,
+    gate: u64,
+    frame: &[u8],
+) -> Result<(Vec<u8>, Vec<u8>, u64), NoMemory>
+    ensures same { frames.new.items ≡ frames.old.items }
+    ensures room { OnOk result (vec_len frames.new < vec_capacity frames.new) }
+    ensures made { IfOk result (λ made. (made.0.items ≡ frame.now)
+        × (made.1.items ≡ body frame.now ++ 0 ∷ [])
+        × (made.2 ≡ gate + length made.1.items)) }
+    ensures fits { OnOk result (gate + 1 < 2 ^ 64) }
+{
+    frames.reserve(1)?;
+    let kept = frame.to_vec(alloc)?;
+    let bytes = bytes_of(alloc, frame)?;
+    // No memory holds the frames of so long a file.
+    match gate.checked_add(bytes.len() as u64) {
+        None => Err(NoMemory),
+        Some(next) => Ok((kept, bytes, next)),
+    }
 }
 
 // Writes bytes on a disk that is all synced, and syncs it.

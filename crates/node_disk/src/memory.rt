@@ -1,14 +1,17 @@
 //! A disk in memory, which keeps a record of its device calls.
 
-ghost use Rattle.std.specs.Prelude.{◌≡◌, ◌+◌, [], ◌∷◌, ◌++◌, length, map, true, false, Some, None};
+ghost use Rattle.std.specs.Prelude.{◌≡◌, ◌+◌, ◌≤◌, [], ◌∷◌, ◌++◌, length, map, true, false, Some};
+ghost use Rattle.std.specs.Prelude.{None, IfOk, OnOk, OnErr};
 ghost use Rattle.node_disk.specs.Images.{IsDurable};
+ghost use Rattle.node_disk.specs.Record.{Write, request_of, is_done};
 ghost use Rattle.node_disk.specs.Memory.{memory_state, new_disk, reopened_disk, is_stopped};
-ghost use Rattle.node_disk.specs.Memory.{stop_from_now};
+ghost use Rattle.node_disk.specs.Memory.{stop_from_now, HasCalled, next_outcome, HasCounted};
+ghost use Rattle.node_disk.specs.Memory.{answer_of};
 
-use crate::effects::{add_call, change_by_sync, change_by_write, count_fault, is_done, outcome_of};
+use crate::effects::{add_call, change, count_fault, is_done, outcome_of};
 use crate::record::{Action, Call, Pending, Stop};
 use crate::{Disk, DiskError};
-use std::alloc::Global;
+use std::alloc::{AllocError, Global};
 use std::marker::Model;
 
 /// A disk in memory. Device calls are `write_at` and `sync`, counted from 1. It fails in the calls
@@ -164,6 +167,58 @@ impl MemoryDisk {
     {
         &self.bytes
     }
+
+    // Makes the next device call as the stop and the numbers that fail decide, and records it.
+    // Answers whether it was done; refused for memory, it wasn't made.
+    fn make(&mut self, action: Action) -> Result<bool, AllocError>
+        ensures called { OnOk result (HasCalled (request_of action) self.old self.new) }
+        ensures done { IfOk result (λ done. done ≡ is_done (next_outcome self.old)) }
+        ensures err { OnErr result (self.new ≡ self.old) }
+        ensures faults { self.new.faults ≡ self.old.faults }
+        ensures tries { self.new.tries ≡ self.old.tries }
+    {
+        let outcome = outcome_of(self.stop, &self.failing, self.calls.len() as u64);
+        if let Err(error) = change(
+            self.alloc,
+            &mut self.bytes,
+            &mut self.pending,
+            &mut self.calls,
+            &action,
+            outcome,
+        ) {
+            drop(action);
+            return Err(error);
+        }
+        add_call(&mut self.calls, self.reopened, action, outcome);
+        self.reopened = false;
+        Ok(is_done(outcome))
+    }
+
+    // The same of a write, whose bytes the record keeps.
+    fn make_write(&mut self, place: u64, bytes: &[u8]) -> Result<bool, AllocError>
+        ensures called { OnOk result (HasCalled (Write place bytes.now) self.old self.new) }
+        ensures done { IfOk result (λ done. done ≡ is_done (next_outcome self.old)) }
+        ensures err { OnErr result (self.new ≡ self.old) }
+        ensures faults { self.new.faults ≡ self.old.faults }
+        ensures tries { self.new.tries ≡ self.old.tries }
+    {
+        let kept = bytes.to_vec(self.alloc)?;
+        self.make(Action::Write { place, bytes: kept })
+    }
+
+    // Counts a device call that was tried, and its fault where it failed, and answers how it went.
+    fn count(&mut self, made: Result<bool, AllocError>) -> Result<(), DiskError>
+        ensures answer { result ≡ answer_of made }
+        ensures counts { HasCounted made self.old self.new }
+        ensures later { self.old.faults ≤ self.new.faults }
+    {
+        self.tries = self.tries.saturating_add(1);
+        match made {
+            Ok(true) => Ok(()),
+            Ok(false) => Err(count_fault(&mut self.faults)),
+            Err(_) => Err(DiskError::NoMemory),
+        }
+    }
 }
 
 impl Disk for MemoryDisk {
@@ -219,7 +274,6 @@ impl Disk for MemoryDisk {
     }
 
     // It fails exactly where a stop or the numbers that fail say so, and records what it did.
-    #[tactic(auto, using(crate::proofs::Calm::never))]
     fn write_at(&mut self, place: u64, bytes: &[u8]) -> Result<(), DiskError>
         requires { place ≤ length (memory_state self.old).now.seen }
         ensures ok { OnOk result
@@ -244,29 +298,11 @@ impl Disk for MemoryDisk {
         ensures succeeds { OnOk result (next_fails self.old ≡ false) }
         ensures fails { IsErrOf result DiskError.Failed → next_fails self.old ≡ true }
     {
-        self.tries = self.tries.saturating_add(1);
-        self.calls.reserve(1)?;
-        let outcome = outcome_of(self.stop, &self.failing, self.calls.len() as u64);
-        let kept = bytes.to_vec(self.alloc)?;
-        change_by_write(
-            self.alloc,
-            &mut self.bytes,
-            &mut self.pending,
-            place,
-            bytes,
-            outcome,
-        )?;
-        let action = Action::Write { place, bytes: kept };
-        add_call(&mut self.calls, self.reopened, action, outcome);
-        self.reopened = false;
-        if is_done(outcome) {
-            return Ok(());
-        }
-        Err(count_fault(&mut self.faults))
+        let made = self.make_write(place, bytes);
+        self.count(made)
     }
 
     // The same of a sync.
-    #[tactic(auto, using(crate::proofs::Calm::never))]
     fn sync(&mut self) -> Result<(), DiskError>
         ensures ok { OnOk result (HasSynced (memory_state self.old) (memory_state self.new)) }
         ensures failed { IsErrOf result DiskError.Failed
@@ -289,15 +325,7 @@ impl Disk for MemoryDisk {
         ensures succeeds { OnOk result (next_fails self.old ≡ false) }
         ensures fails { IsErrOf result DiskError.Failed → next_fails self.old ≡ true }
     {
-        self.tries = self.tries.saturating_add(1);
-        self.calls.reserve(1)?;
-        let outcome = outcome_of(self.stop, &self.failing, self.calls.len() as u64);
-        change_by_sync(self.alloc, &mut self.bytes, &mut self.pending, outcome)?;
-        add_call(&mut self.calls, self.reopened, Action::Sync, outcome);
-        self.reopened = false;
-        if is_done(outcome) {
-            return Ok(());
-        }
-        Err(count_fault(&mut self.faults))
+        let made = self.make(Action::Sync);
+        self.count(made)
     }
 }

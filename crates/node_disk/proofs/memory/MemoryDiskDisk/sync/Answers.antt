@@ -1,218 +1,42 @@
-use Rattle.std.proofs.Common.{◌≡◌, ◌++◌, [], ◌∷◌, length, map, true, false, refl, subst, rules}
-use Rattle.cw_base.specs.Causes.{Rose}
-use Rattle.node_disk.specs.Disk.{HasSynced, HasFailedToSync}
-use Rattle.node_disk.specs.Record.{Request, Sync, request_of, entry_of, held_after, outcome_at, is_done}
-use Rattle.node_disk.specs.Memory.{MemoryState, memory_state, HasCalled, Continues}
-use Rattle.node_disk.specs.declared.record.Call.{Call}
-use Rattle.node_disk.specs.declared.record.Action.TheVariants as action
-use Rattle.node_disk.proofs.Called.{called_by, outcome_was, keeps_now, called_continues, sync_done, sync_failed}
+use Rattle.std.proofs.Common.{◌≡◌, true, false, sym, ◌∙◌, le_of_eq}
+use Rattle.node_disk.specs.Record.{Request, Sync}
+use Rattle.node_disk.specs.Memory.{MemoryState}
+use Rattle.node_disk.proofs.Calm.{calm_succeeds}
+use Rattle.node_disk.proofs.Called.{called_succeeds, called_fails, sync_done, sync_failed}
+use Rattle.node_disk.proofs.Gone.{HasGone, has_gone, both_ok}
 use Rattle.node_disk.proofs.memory.MemoryDiskDisk.sync.Goals as goal
 
-pub invariant_of-self-then-is_done : goal.invariant_of-self-then-is_done
-invariant_of-self-then-is_done c =
-    let m = c.self.inside in
-    let o = c.outcome_of-outcome.result in
-    let old : MemoryState =
-    record {
-      calls = map entry_of m.calls.items;
-      reopened = m.reopened;
-      stop = m.stop;
-      failing = m.failing.items;
-      faults = m.faults;
-      tries = m.tries;
-    } in
-    let new : MemoryState =
-    record {
-      calls = map entry_of c.add_call.new.calls.items;
-      reopened = false;
-      stop = m.stop;
-      failing = m.failing.items;
-      faults = m.faults;
-      tries = c.saturating_add-self-inside.result;
-    } in
-    let call : Call = record { reopened = m.reopened; action = action.Sync; outcome = o } in
+pub returns : goal.returns
+returns c =
+    let old : MemoryState = c.args.self.now in
+    let new : MemoryState = c.count.new.self in
     let request : Request = Sync in
-    let pushed : c.add_call.new.calls.items ≡ m.calls.items ++ call ∷ [] = search rules in
-    let asked : request_of call.action ≡ request = refl in
-    let known : o ≡ outcome_at m.stop m.failing.items (length m.calls.items) = search rules in
-    let called : HasCalled request old new =
-    called_by request m.calls.items c.add_call.new.calls.items call old new pushed asked known
-    refl refl refl refl refl refl in
-    keeps_now request old new called o c.change_by_sync.new.bytes.items _ m.calls.items known refl
-    (c.in_ok-change_by_sync.ensures.seen (held_after old.calls old.reopened)
-    c.self.invariant.seen c.self.invariant.unsynced)
-    (c.in_ok-change_by_sync.ensures.unsynced (held_after old.calls old.reopened)
-    c.self.invariant.unsynced)
-
-pub invariant_of-self-2 : goal.invariant_of-self-2
-invariant_of-self-2 c =
-    let m = c.self.inside in
-    let o = c.outcome_of-outcome.result in
-    let old : MemoryState =
+    let gone : HasGone request c.count.result old new =
+    has_gone request old c.make-made.new.self new c.make-made.ensures.faults
+    c.make-made.ensures.tries c.count.ensures.later c.make-made.result c.count.result
+    c.make-made.ensures.called c.make-made.ensures.done c.make-made.ensures.err
+    c.count.ensures.answer c.count.ensures.counts in
     record {
-      calls = map entry_of m.calls.items;
-      reopened = m.reopened;
-      stop = m.stop;
-      failing = m.failing.items;
-      faults = m.faults;
-      tries = m.tries;
-    } in
-    let new : MemoryState =
-    record {
-      calls = map entry_of c.add_call.new.calls.items;
-      reopened = false;
-      stop = m.stop;
-      failing = m.failing.items;
-      faults = c.count_fault.new.faults;
-      tries = c.saturating_add-self-inside.result;
-    } in
-    let call : Call = record { reopened = m.reopened; action = action.Sync; outcome = o } in
-    let request : Request = Sync in
-    let pushed : c.add_call.new.calls.items ≡ m.calls.items ++ call ∷ [] = search rules in
-    let asked : request_of call.action ≡ request = refl in
-    let known : o ≡ outcome_at m.stop m.failing.items (length m.calls.items) = search rules in
-    let called : HasCalled request old new =
-    called_by request m.calls.items c.add_call.new.calls.items call old new pushed asked known
-    refl refl refl refl refl refl in
-    keeps_now request old new called o c.change_by_sync.new.bytes.items _ m.calls.items known refl
-    (c.in_ok-change_by_sync.ensures.seen (held_after old.calls old.reopened)
-    c.self.invariant.seen c.self.invariant.unsynced)
-    (c.in_ok-change_by_sync.ensures.unsynced (held_after old.calls old.reopened)
-    c.self.invariant.unsynced)
-
-pub returns-then-is_done-clause-continues : goal.returns-then-is_done-clause-continues
-returns-then-is_done-clause-continues c =
-    let m = c.self.inside in
-    let o = c.outcome_of-outcome.result in
-    let old : MemoryState =
-    record {
-      calls = map entry_of m.calls.items;
-      reopened = m.reopened;
-      stop = m.stop;
-      failing = m.failing.items;
-      faults = m.faults;
-      tries = m.tries;
-    } in
-    let new : MemoryState =
-    record {
-      calls = map entry_of c.add_call.new.calls.items;
-      reopened = false;
-      stop = m.stop;
-      failing = m.failing.items;
-      faults = m.faults;
-      tries = c.saturating_add-self-inside.result;
-    } in
-    let call : Call = record { reopened = m.reopened; action = action.Sync; outcome = o } in
-    let request : Request = Sync in
-    let pushed : c.add_call.new.calls.items ≡ m.calls.items ++ call ∷ [] = search rules in
-    let asked : request_of call.action ≡ request = refl in
-    let known : o ≡ outcome_at m.stop m.failing.items (length m.calls.items) = search rules in
-    let called : HasCalled request old new =
-    called_by request m.calls.items c.add_call.new.calls.items call old new pushed asked known
-    refl refl refl refl refl refl in
-    subst (λ (s : MemoryState). Continues s new) c.self.view_is
-    (called_continues request old new called)
-
-pub returns-then-is_done-clause-ok : goal.returns-then-is_done-clause-ok
-returns-then-is_done-clause-ok c =
-    let m = c.self.inside in
-    let o = c.outcome_of-outcome.result in
-    let old : MemoryState =
-    record {
-      calls = map entry_of m.calls.items;
-      reopened = m.reopened;
-      stop = m.stop;
-      failing = m.failing.items;
-      faults = m.faults;
-      tries = m.tries;
-    } in
-    let new : MemoryState =
-    record {
-      calls = map entry_of c.add_call.new.calls.items;
-      reopened = false;
-      stop = m.stop;
-      failing = m.failing.items;
-      faults = m.faults;
-      tries = c.saturating_add-self-inside.result;
-    } in
-    let call : Call = record { reopened = m.reopened; action = action.Sync; outcome = o } in
-    let request : Request = Sync in
-    let pushed : c.add_call.new.calls.items ≡ m.calls.items ++ call ∷ [] = search rules in
-    let asked : request_of call.action ≡ request = refl in
-    let known : o ≡ outcome_at m.stop m.failing.items (length m.calls.items) = search rules in
-    let called : HasCalled request old new =
-    called_by request m.calls.items c.add_call.new.calls.items call old new pushed asked known
-    refl refl refl refl refl refl in
-    let done : is_done o ≡ true = search rules in
-    subst (λ (s : MemoryState). HasSynced (memory_state s) (memory_state new)) c.self.view_is
-    (sync_done old new called
-    (outcome_was request old new called o m.calls.items true known refl done))
-
-pub returns-clause-continues : goal.returns-clause-continues
-returns-clause-continues c =
-    let m = c.self.inside in
-    let o = c.outcome_of-outcome.result in
-    let old : MemoryState =
-    record {
-      calls = map entry_of m.calls.items;
-      reopened = m.reopened;
-      stop = m.stop;
-      failing = m.failing.items;
-      faults = m.faults;
-      tries = m.tries;
-    } in
-    let new : MemoryState =
-    record {
-      calls = map entry_of c.add_call.new.calls.items;
-      reopened = false;
-      stop = m.stop;
-      failing = m.failing.items;
-      faults = c.count_fault.new.faults;
-      tries = c.saturating_add-self-inside.result;
-    } in
-    let call : Call = record { reopened = m.reopened; action = action.Sync; outcome = o } in
-    let request : Request = Sync in
-    let pushed : c.add_call.new.calls.items ≡ m.calls.items ++ call ∷ [] = search rules in
-    let asked : request_of call.action ≡ request = refl in
-    let known : o ≡ outcome_at m.stop m.failing.items (length m.calls.items) = search rules in
-    let called : HasCalled request old new =
-    called_by request m.calls.items c.add_call.new.calls.items call old new pushed asked known
-    refl refl refl refl refl refl in
-    subst (λ (s : MemoryState). Continues s new) c.self.view_is
-    (called_continues request old new called)
-
-pub returns-clause-failed : goal.returns-clause-failed
-returns-clause-failed c e =
-    let m = c.self.inside in
-    let o = c.outcome_of-outcome.result in
-    let old : MemoryState =
-    record {
-      calls = map entry_of m.calls.items;
-      reopened = m.reopened;
-      stop = m.stop;
-      failing = m.failing.items;
-      faults = m.faults;
-      tries = m.tries;
-    } in
-    let new : MemoryState =
-    record {
-      calls = map entry_of c.add_call.new.calls.items;
-      reopened = false;
-      stop = m.stop;
-      failing = m.failing.items;
-      faults = c.count_fault.new.faults;
-      tries = c.saturating_add-self-inside.result;
-    } in
-    let call : Call = record { reopened = m.reopened; action = action.Sync; outcome = o } in
-    let request : Request = Sync in
-    let pushed : c.add_call.new.calls.items ≡ m.calls.items ++ call ∷ [] = search rules in
-    let asked : request_of call.action ≡ request = refl in
-    let known : o ≡ outcome_at m.stop m.failing.items (length m.calls.items) = search rules in
-    let called : HasCalled request old new =
-    called_by request m.calls.items c.add_call.new.calls.items call old new pushed asked known
-    refl refl refl refl refl refl in
-    let not_done : is_done o ≡ false = search rules in
-    let rose : Rose old.faults new.faults = c.count_fault.ensures.cause in
-    subst (λ (s : MemoryState). HasFailedToSync (memory_state s) (memory_state new)) c.self.view_is
-    (sync_failed old new called
-    (outcome_was request old new called o m.calls.items false known refl not_done) rose)
+      ok = both_ok c.count.result gone.done (sync_done old new);
+      failed =
+          λ is. sync_failed old new (gone.failed is).0 (gone.failed is).1
+          (le_of_eq (sym (gone.fault_counted is)));
+      no_memory = gone.same;
+      tried = le_of_eq (sym gone.tries);
+      faults = gone.faults;
+      never_fails =
+          λ calm is. let no : false ≡ true =
+          sym (calm_succeeds old calm)
+          ∙ called_fails request old new (gone.failed is).0 (gone.failed is).1 in
+          cc;
+      continues = gone.continues;
+      recorded = both_ok c.count.result gone.done (λ called done. called);
+      failure_recorded = λ is. (gone.failed is).0;
+      calm = gone.calm;
+      fault_counted = gone.fault_counted;
+      no_fault = gone.no_fault;
+      try_counted = gone.tries;
+      succeeds =
+          both_ok c.count.result gone.done (called_succeeds request old new);
+      fails = λ is. called_fails request old new (gone.failed is).0 (gone.failed is).1;
+    }
