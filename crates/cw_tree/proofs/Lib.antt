@@ -5,3 +5,5 @@ pub mod TreeRoots
 pub mod TreeLaws
 pub mod ReadLoop
 pub mod Bounds
+pub mod Written
+pub mod ChunkParts

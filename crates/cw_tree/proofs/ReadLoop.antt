@@ -15,6 +15,15 @@ regroup : (front : List (List ℕ)) (d : List ℕ) (read : Reading (List (List �
 regroup front d (Ok x) = ap (λ (ds : List (List ℕ)). Ok (ds, x.1)) (simp append_assoc)
 regroup front d (Err f) = refl
 
+-- nothing was read before
+pub begins : (front : List (List ℕ)) (read : Reading (List (List ℕ))) → front ≡ []
+    → with_front front read ≡ read
+begins front read none = rw none (itself read)
+  where
+    itself : (r : Reading (List (List ℕ))) → with_front [] r ≡ r
+    itself (Ok x) = refl
+    itself (Err e) = refl
+
 pub goes_on : (size : ℕ) (front : List (List ℕ)) (count i : ℕ) (bytes d after : List ℕ)
     (total : Reading (List (List ℕ)))
     → i < count → bytes_at size bytes ≡ Ok (d, after)

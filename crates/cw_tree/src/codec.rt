@@ -177,6 +177,13 @@ impl<D: Digest> Proof<D> {
     }
 }
 
+// How wide the shards of data of `maximum` bytes are, or of `u32::MAX` bytes if that is less.
+fn widest_shard(config: &Config, maximum: usize) -> usize
+    ensures { result ≡ widest config.now.minimum maximum }
+{
+    canonical_shard_len(maximum.min(0xffff_ffff), config.minimum())
+}
+
 // A shard of at most so many bytes, behind its length.
 #[tactic(auto, using(cw_base::proofs::Ends::ends), unfolding(crate::specs::Formats::shard_at))]
 fn read_shard<'a>(reader: &mut Reader<'a>, bound: usize) -> Result<&'a [u8], CodecError>
@@ -213,7 +220,7 @@ impl<D: Digest> Chunk<D> {
             (chunk_at D.SIZE (widest config.now.minimum maximum) reader.old) }
         ensures place { IsEnd reader.old reader.new }
     {
-        let bound = canonical_shard_len(maximum.min(0xffff_ffff), config.minimum_shards.get());
+        let bound = widest_shard(config, maximum);
         let shard = read_shard(reader, bound)?;
         let index = reader.be16()?;
         let proof = Proof::<D>::read(alloc, reader)?;

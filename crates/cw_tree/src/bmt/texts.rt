@@ -1,7 +1,7 @@
 //! The texts that are hashed on the way up from a leaf.
 
 ghost use Rattle.std.specs.Prelude.{◌≡◌, ℕ, ◌+◌, ◌%◌, ◌<◌, ◌≤◌, ◌==◌, ◌++◌, ◌∷◌, IfOk, drop};
-ghost use Rattle.std.specs.Prelude.{option_map, if◌then◌else◌, length};
+ghost use Rattle.std.specs.Prelude.{option_map, if◌then◌else◌, length, Some, None, OnOk, []};
 ghost use Rattle.cw_base.specs.Bytes.{be32};
 ghost use Rattle.cw_tree.specs.Tree.{pair_bytes, way_from, way_by};
 
@@ -52,22 +52,26 @@ fn texts_by<H: Hasher>(
     let text = numbered(alloc, index, digest)?;
     let leaf = H::hash(&text);
     let mut texts = Vec::new(alloc);
-    texts.push(Items::from_vec(text))?;
-    texts_above::<H>(alloc, count, index, leaf, siblings, texts)
+    put_text(&mut texts, text)?;
+    if put_above::<H>(alloc, count, index, leaf, siblings, &mut texts)? {
+        Ok(Some(texts))
+    } else {
+        Ok(None)
+    }
 }
 
-// These texts, and those that are hashed on the way up from a leaf.
-fn texts_above<H: Hasher>(
+// Adds the texts that are hashed on the way up from a leaf; false where no such way is.
+fn put_above<H: Hasher>(
     alloc: Global,
     count: u32,
     index: u32,
     leaf: H::Digest,
     siblings: &[H::Digest],
-    mut texts: Vec<Items<u8>>,
-) -> Result<Option<Vec<Items<u8>>>, NoMemory>
+    texts: &mut Vec<Items<u8>>,
+) -> Result<bool, NoMemory>
     requires { 1 ≤ count }
-    ensures { IfOk result (λ found. option_map (λ all. all.items) found
-        ≡ option_map (λ above. texts.items ++ above)
+    ensures { IfOk result (λ found. (if found then Some texts.new.items else None)
+        ≡ option_map (λ above. texts.old.items ++ above)
         (way_from H.digest_of H.Digest.content count count count index leaf siblings.now)) }
 {
     let mut width = count;
@@ -76,20 +80,28 @@ fn texts_above<H: Hasher>(
     let mut used = 0;
     'up: while width > 1 {
         let Some((partner, more)) = partner(width, at, &node, siblings, used) else {
-            return Ok(None);
+            return Ok(false);
         };
         let text = pair(alloc, at, &node, &partner)?;
         node = H::hash(&text);
-        texts.push(Items::from_vec(text))?;
+        put_text(texts, text)?;
         used = more;
         width = width / 2 + width % 2;
         at /= 2;
     }
     if used < siblings.len() {
-        return Ok(None);
+        return Ok(false);
     }
-    texts.push(Items::from_vec(numbered(alloc, count, &node)?))?;
-    Ok(Some(texts))
+    put_text(texts, numbered(alloc, count, &node)?)?;
+    Ok(true)
+}
+
+// Adds a text.
+fn put_text(texts: &mut Vec<Items<u8>>, text: Vec<u8>) -> Result<(), NoMemory>
+    ensures { OnOk result (texts.new.items ≡ texts.old.items ++ text.items ∷ []) }
+{
+    texts.push(Items::from_vec(text))?;
+    Ok(())
 }
 
 // The bytes of a node and of its partner.

@@ -2,7 +2,7 @@ use Rattle.std.proofs.Common.{◌≤◌, ◌++◌, length, drop}
 use Rattle.std.specs.Prelude.{option_map}
 use Rattle.cw_tree.specs.Tree.{way_from}
 use Rattle.cw_tree.proofs.WayLaws.{OnWay}
-use Rattle.cw_tree.proofs.bmt.texts.texts_above.Given as goal
+use Rattle.cw_tree.proofs.bmt.texts.put_above.Given as goal
 
 abbrev pub invariant-up : goal.invariant-up
 invariant-up g l =

@@ -1,7 +1,7 @@
 use Rattle.std.proofs.Common.{◌≡◌, ◌<◌, ◌∙◌, ◌++◌, ◌∷◌, [], List, ℕ, length, drop, ap, sym, arith, Some, append_assoc}
 use Rattle.std.proofs.lemmas.List.{drop_all, length-drop}
 use Rattle.cw_tree.proofs.WayLaws.{goes_up, goes_off, goes_home, goes_over}
-use Rattle.cw_tree.proofs.bmt.texts.texts_above.Goals as goal
+use Rattle.cw_tree.proofs.bmt.texts.put_above.Goals as goal
 
 -- a text that was added, and those behind it
 behind_added : (texts after : List (List ℕ)) (added text : List ℕ) → after ≡ texts ++ added ∷ []
@@ -18,11 +18,11 @@ up-preserved g c =
       on_way =
           goes_up hash g.H.Digest.Digest.content c.args.count c.up.width c.up.at c.up.node _
           (λ above. c.up.texts.items ++ above) _ _ c.hash-node.result _
-          (λ above. c.push.new.self.items ++ above) (omega (arith, c.up-test.true))
+          (λ above. c.put_text.new.texts.items ++ above) (omega (arith, c.up-test.true))
           c.in-Some.ensures.value
           (c.hash-node.ensures ∙ ap hash (c.deref.ensures.value ∙ c.in_ok-text.ensures))
-          (behind_added c.up.texts.items c.push.new.self.items c.from_vec.result _
-          c.in_ok-push.ensures.items (c.from_vec.ensures ∙ c.in_ok-text.ensures))
+          (behind_added c.up.texts.items c.put_text.new.texts.items c.in_ok-text.text.items _
+          c.in_ok-put_text.ensures c.in_ok-text.ensures)
           c.up.invariant.on_way;
     }
 
@@ -43,9 +43,7 @@ returns-then-used-siblings g c =
 pub returns : goal.returns
 returns g c =
     ap Some
-    (c.in_ok-push-2.ensures.items
-    ∙ ap (λ t. c.up.texts.items ++ t ∷ [])
-    (c.from_vec-2.ensures ∙ c.in_ok-numbered.ensures))
+    (c.in_ok-put_text-2.ensures ∙ ap (λ t. c.up.texts.items ++ t ∷ []) c.in_ok-numbered.ensures)
     ∙ goes_home g.H.Hasher.digest_of g.H.Digest.Digest.content c.args.count c.up.width c.up.at
     c.up.node (drop c.up.used c.args.siblings.now) (λ above. c.up.texts.items ++ above) _
     (omega (arith, c.up-test.false))
