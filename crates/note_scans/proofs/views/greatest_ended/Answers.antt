@@ -11,5 +11,6 @@ returns c =
     c.unwrap_or.ensures
     ∙ greatest_else c.max.result (filter_map (rule.ended c.args.epoch) c.args.notes.now)
     (max_from_yields_List _ _ c.max.ensures.ran
-    (YieldsList-from_filter_map _ (rule.ended c.args.epoch) (YieldsList-from_slice c.args.notes.now (cc))
+    (YieldsList-from_filter_map _ (rule.ended c.args.epoch)
+    (YieldsList-from_slice c.args.notes.now (cc))
     c.filter_map.ensures.closure (λ x r q k. search (rules, tests))))

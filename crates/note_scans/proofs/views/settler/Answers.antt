@@ -9,7 +9,8 @@ use Rattle.note_scans.proofs.views.settler.Goals as goal
 pub returns : goal.returns
 returns c =
     sym (option_map_id _)
-    ∙ find_from_yields_List (λ p. (p.epoch == c.args.epoch) && (p.view == c.args.view)) _ _ _ c.find.ensures.ran
+    ∙ find_from_yields_List
+    (λ p. (p.epoch == c.args.epoch) && (p.view == c.args.view)) _ _ _ c.find.ensures.ran
     (YieldsList-from_filter_map _ settling (YieldsList-from_slice c.args.notes.now (cc))
     c.filter_map.ensures.closure (λ x r q k. search (rules, tests)))
     (λ x b q k. search (rules, tests))

@@ -10,7 +10,8 @@ use Rattle.voter.proofs.tally.Tally.count_known.Goals as goal
 pub returns : goal.returns
 returns g c =
     count_from_yields_List c.filter.result _ c.count.ensures.ran
-    (YieldsList-from_filter _ (rule.knows c.args.self.now.id (state_of c.args.self.now) c.args.vote.now)
+    (YieldsList-from_filter _ (rule.knows c.args.self.now.id
+    (state_of c.args.self.now) c.args.vote.now)
     (YieldsList-at c.filter.ensures.source
     (YieldsList-from_slice (members_in c.args.self.now.epochs (vote_epoch c.args.vote.now))
     (c.iter.ensures.rest

@@ -13,5 +13,6 @@ returns g c =
     (YieldsList-at c.filter_map.ensures.source
     (YieldsList-from_slice c.args.self.now.ballots
     (c.iter.ensures.rest
-    ∙ (c.as_slice.ensures ∙ ap (λ (k : Known). k.ballots) c.self.view_is)))) c.filter_map.ensures.closure
+    ∙ (c.as_slice.ensures ∙ ap (λ (k : Known). k.ballots) c.self.view_is))))
+    c.filter_map.ensures.closure
     (λ x r q k. search (rules, tests)))

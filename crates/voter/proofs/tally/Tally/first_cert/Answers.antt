@@ -9,4 +9,5 @@ returns g c =
     find_from_yields_List (is_cert_for c.args.vote.now) _ _ _ c.find.ensures.ran
     (YieldsList-from_slice c.args.self.now.ballots
     (c.iter.ensures.rest
-    ∙ (c.as_slice.ensures ∙ ap (λ (k : Known). k.ballots) c.self.view_is))) (λ x b q k. search (rules, tests))
+    ∙ (c.as_slice.ensures ∙ ap (λ (k : Known). k.ballots) c.self.view_is)))
+    (λ x b q k. search (rules, tests))

@@ -20,14 +20,16 @@ returns g c =
     (YieldsList-at c.filter_map.ensures.source
     (YieldsList-from_slice c.args.self.now.ballots
     (c.iter.ensures.rest
-    ∙ (c.as_slice.ensures ∙ ap (λ (k : Known). k.ballots) c.self.view_is)))) c.filter_map.ensures.closure
+    ∙ (c.as_slice.ensures ∙ ap (λ (k : Known). k.ballots) c.self.view_is))))
+    c.filter_map.ensures.closure
     (λ x r q k. search (rules, tests))))
     (YieldsList-at c.chain.ensures.second
     (YieldsList-from_filter_map _ rule.note_proposal
     (YieldsList-at c.filter_map-2.ensures.source
     (YieldsList-from_slice c.args.self.now.notes
     (c.iter-2.ensures.rest
-    ∙ (c.as_slice-2.ensures ∙ ap (λ (k : Known). k.notes) c.self.view_is)))) c.filter_map-2.ensures.closure
+    ∙ (c.as_slice-2.ensures ∙ ap (λ (k : Known). k.notes) c.self.view_is))))
+    c.filter_map-2.ensures.closure
     (λ x r q k. search (rules, tests))))
     c.chain.ensures.first_done c.chain.ensures.second_done)
     (λ x b q k. search (rules, tests))

@@ -9,4 +9,5 @@ returns g c =
     any_from_yields_List (is_own_at c.args.index c.args.commitment.now) _ _ _ c.any.ensures.ran
     (YieldsList-from_slice c.args.self.now.own
     (c.iter.ensures.rest
-    ∙ (c.as_slice.ensures ∙ ap (λ (k : Known). k.own) c.self.view_is))) (λ x b q k. search (rules, tests))
+    ∙ (c.as_slice.ensures ∙ ap (λ (k : Known). k.own) c.self.view_is)))
+    (λ x b q k. search (rules, tests))

@@ -10,4 +10,5 @@ returns g c =
     any_from_yields_List (same_ballot (Many c.args.cert.now)) _ _ _ c.any.ensures.ran
     (YieldsList-from_slice c.args.self.now.ballots
     (c.iter.ensures.rest
-    ∙ (c.as_slice.ensures ∙ ap (λ (k : Known). k.ballots) c.self.view_is))) (λ x b q k. search (rules, tests))
+    ∙ (c.as_slice.ensures ∙ ap (λ (k : Known). k.ballots) c.self.view_is)))
+    (λ x b q k. search (rules, tests))

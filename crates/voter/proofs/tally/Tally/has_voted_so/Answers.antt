@@ -11,7 +11,8 @@ returns-clause-vote g c =
     any_from_yields_List (rule.is_single c.args.member c.args.vote.now) _ _ _ c.any.ensures.ran
     (YieldsList-from_slice c.args.self.now.ballots
     (c.iter.ensures.rest
-    ∙ (c.as_slice.ensures ∙ ap (λ (k : Known). k.ballots) c.self.view_is))) (λ x b q k. search (rules, tests))
+    ∙ (c.as_slice.ensures ∙ ap (λ (k : Known). k.ballots) c.self.view_is)))
+    (λ x b q k. search (rules, tests))
 
 pub returns-clause-same : goal.returns-clause-same
 returns-clause-same g c =

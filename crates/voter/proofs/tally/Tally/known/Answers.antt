@@ -14,7 +14,8 @@ returns g c =
     d.2.0
     ∙ (sym (map-id d.0)
     ∙ items_from_drains d.0 d.1
-    (YieldsList-from_filter _ (rule.knows c.args.self.now.id (state_of c.args.self.now) c.args.vote.now)
+    (YieldsList-from_filter _ (rule.knows c.args.self.now.id
+    (state_of c.args.self.now) c.args.vote.now)
     (YieldsList-at c.filter.ensures.source
     (YieldsList-from_copied
     (YieldsList-at c.copied.ensures.source
