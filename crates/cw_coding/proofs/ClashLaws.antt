@@ -3,7 +3,7 @@ use Rattle.std.proofs.Common.{◌≡◌, ◌≢◌, ℕ, suc, zero, ◌+◌, ◌
 use Rattle.std.specs.Prelude.{option_map, IsSome}
 use Rattle.std.proofs.lemmas.Bool.{cases_lt}
 use Rattle.std.proofs.lemmas.List.{length-append, append_cancel_left, take_at, drop_at}
-use Rattle.std.proofs.lemmas.Option.{none-some, same_Some, slice_get_read, slice_get_within}
+use Rattle.std.proofs.lemmas.Option.{none-some, same_Some, slice_get_read, slice_get_within, get_or_from_slice_get}
 use Rattle.cw_base.specs.Bytes.{be32}
 use Rattle.cw_tree.specs.Chunks.{Piece}
 use Rattle.cw_tree.specs.Tree.{last_digest, pair_bytes, way_from, way_by}
@@ -256,3 +256,32 @@ clash_there hash content s t ours theirs p q i x y a b es et eo ew long within i
           subst (λ (xs : List (List ℕ)). AreTold hash i xs theirs) es
           (subst (λ (ys : List (List ℕ)). AreTold hash i s ys) et told);
     }
+
+-- one more place at which texts of one digest are one text
+pub told_more : {D : Type 0} (hash : List ℕ → D) (n : ℕ) (ours theirs : List (List ℕ))
+    (x y : List ℕ)
+    → x ≡ get_or ours n x → y ≡ get_or theirs n y → (hash x ≡ hash y → x ≡ y)
+    → AreTold hash n ours theirs → AreTold hash (n + 1) ours theirs
+told_more hash n ours theirs x y isx isy tell told p a b l ga gb same =
+    elim (cases_lt p n) [
+      | inl lt ↦ told p a b lt ga gb same
+      | inr ge ↦
+          let at : p ≡ n = omega arith in
+          let one : x ≡ a =
+          isx ∙ get_or_from_slice_get ours n a x
+          (ap (λ (i : ℕ). slice_get ours i) (sym at) ∙ ga) in
+          let other : y ≡ b =
+          isy ∙ get_or_from_slice_get theirs n b y
+          (ap (λ (i : ℕ). slice_get theirs i) (sym at) ∙ gb) in
+          sym one ∙ tell (ap hash one ∙ same ∙ ap hash (sym other)) ∙ other
+    ]
+
+-- two different texts of one digest, where they stand
+pub told_there : {D : Type 0} (hash : List ℕ → D) (n : ℕ) (ours theirs : List (List ℕ))
+    (x y a b : List ℕ)
+    → x ≡ get_or ours n x → y ≡ get_or theirs n y → (x ≢ y) × (hash x ≡ hash y)
+    → slice_get ours n ≡ Some a → slice_get theirs n ≡ Some b → (a ≢ b) × (hash a ≡ hash b)
+told_there hash n ours theirs x y a b isx isy meet ga gb =
+    let one : x ≡ a = isx ∙ get_or_from_slice_get ours n a x ga in
+    let other : y ≡ b = isy ∙ get_or_from_slice_get theirs n b y gb in
+    (λ h. meet.0 (one ∙ h ∙ sym other), ap hash (sym one) ∙ meet.1 ∙ ap hash other)

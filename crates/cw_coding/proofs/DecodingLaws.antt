@@ -17,10 +17,11 @@ use Rattle.cw_coding.specs.Layout.{layout, row_at, row_digests}
 use Rattle.cw_tree.specs.Tree.{root_of}
 use Rattle.rs_code.proofs.IndexLaws.{AreSound-push}
 use Rattle.cw_base.specs.Counts.{Counts}
+use Rattle.cw_coding.specs.declared.error.RsError.TheVariants.{InvalidShardSize}
 use Rattle.cw_coding.specs.declared.error.ReedSolomonError.{ReedSolomonError}
 use Rattle.cw_coding.specs.declared.error.ReedSolomonError.TheVariants.{ReedSolomon, Inconsistent, InvalidProof, NotEnoughChunks, DuplicateIndex, InvalidDataLength, InvalidIndex, TooManyTotalShards, CommitmentMismatch, NoMemory}
 use Rattle.cw_coding.specs.Totals.{total_of, IsWidth}
-use Rattle.cw_coding.specs.Decoding.{FitTogether, IsFirstMisfit, IsChunkRefusal, indices_of, width_of, Fits}
+use Rattle.cw_coding.specs.Decoding.{FitTogether, IsFirstMisfit, IsChunkRefusal, AreDecodable, indices_of, width_of, Fits}
 use Rattle.cw_tree.proofs.WidthLaws.{shard_len-covers, shard_len-even, shard_len-some}
 use Rattle.cw_coding.proofs.LayoutLaws.{length-layout, row_of-text, length-row_at, bytes_layout, text_hashes}
 
@@ -277,3 +278,26 @@ misfit_refuses {D = D} c root chunks total width e t w small wide why =
     go (InvalidDataLength n) small wide m = there (InvalidDataLength n) small wide m
     go (TooManyTotalShards n) small wide m = absurd m.misfit
     go NoMemory small wide m = there NoMemory small wide m
+
+-- the tests that chunks are decoded after, by the numbers that they were made with
+module _ {D : Type 0} (c : Counts) (root : D) (chunks : List (Checked D)) (total width : ℕ)
+    (t : total ≡ total_of c) (w : width ≡ width_of chunks) (small : total ≤ 65535)
+    (some : 0 < length chunks) where
+  pub wide_refuses : (IsWidth total width → ⊥)
+      → IsChunkRefusal c root chunks (ReedSolomon (InvalidShardSize width))
+  wide_refuses never = (omega arith, some, w, λ h. never (rw (t, w) h))
+
+  pub few_refuses : IsWidth total width → FitTogether total root width chunks
+      → length chunks < c.minimum → IsChunkRefusal c root chunks NotEnoughChunks
+  few_refuses wide fit few =
+      (omega arith, inr (record { width = rw (t, w) at wide; fit = rw (t, w) at fit; few = few }))
+
+  pub decodable_is : IsWidth total width → FitTogether total root width chunks
+      → c.minimum ≤ length chunks → AreDecodable c root chunks
+  decodable_is wide fit enough = record {
+    total = omega arith;
+    some = some;
+    width = rw (t, w) at wide;
+    fit = rw (t, w) at fit;
+    enough = enough;
+  }

@@ -1,7 +1,7 @@
 -- Chunks in the order in which they are used.
 use Rattle.std.proofs.Common.{◌≡◌, ℕ, suc, zero, ◌+◌, ◌*◌, ◌<◌, ◌≤◌, Bool, true, false, cond, not, nat_lt, List, [], ◌∷◌, ◌++◌, length, drop, take, get_or, All, refl, sym, ap, ◌∙◌, arith}
 use Rattle.std.specs.List.{filter, flat_map}
-use Rattle.std.proofs.lemmas.List.{length-append, map-append, length-map, take_at, drop_at, get_or-take, drop-drop, length-take-le}
+use Rattle.std.proofs.lemmas.List.{length-append, map-append, length-map, take_at, drop_at, get_or-take, drop-drop, length-take-le, append_assoc, append-nil, drop_more, drop_all}
 use Rattle.std.proofs.lemmas.List.Elements.{All-append}
 use Rattle.cw_base.specs.Rows.{row_of}
 use Rattle.rs_code.specs.Indices.{AreSound}
@@ -208,3 +208,33 @@ rows_long_of c root chunks k width indices rows d ew ei er =
     ∙ ap (λ n. n * width_of chunks)
     (length-in_order k chunks ∙ sym (ap length ei ∙ length-indices k chunks))
     ∙ ap (λ w. length indices * w) (sym ew)
+
+-- ---- chunks that are taken one by one
+
+-- F gathers something of each chunk. What is taken of chunk i, with what is gathered behind it, is
+-- what is gathered from it on
+pub taken_more : {D : Type 0} (F : List (Checked D) → List ℕ) (p : Checked D → Bool)
+    (cs : List (Checked D)) (i : ℕ) (c : Checked D) (taken : Bool) (x old new whole : List ℕ)
+    → ((rest : List (Checked D)) → F (c ∷ rest) ≡ x ++ F rest) → i < length cs → c ≡ get_or cs i c
+    → taken ≡ p c → new ≡ cond taken (old ++ x) old → old ++ F (filter p (drop i cs)) ≡ whole
+    → new ++ F (filter p (drop (i + 1) cs)) ≡ whole
+taken_more {D = D} F p cs i c taken x old new whole first l is t e before =
+    let rest : List (Checked D) = drop (i + 1) cs in
+    let here : drop i cs ≡ c ∷ rest = drop_more cs i c l ∙ ap (λ y. y ∷ rest) (sym is) in
+    ap (λ (xs : List ℕ). xs ++ F (filter p rest)) e
+    ∙ ap (λ (b : Bool). cond b (old ++ x) old ++ F (filter p rest)) t
+    ∙ step (p c) (filter p rest)
+    ∙ ap (λ (xs : List (Checked D)). old ++ F (filter p xs)) (sym here) ∙ before
+  where
+    step : (b : Bool) (ys : List (Checked D))
+        → cond b (old ++ x) old ++ F ys ≡ old ++ F (cond b (c ∷ ys) ys)
+    step true ys = append_assoc old x (F ys) ∙ ap (λ zs. old ++ zs) (sym (first ys))
+    step false ys = refl
+
+-- behind the last chunk nothing is gathered
+pub taken_all : {D : Type 0} (F : List (Checked D) → List ℕ) (p : Checked D → Bool)
+    (cs : List (Checked D)) (n : ℕ) (now whole : List ℕ)
+    → F [] ≡ [] → length cs ≤ n → now ++ F (filter p (drop n cs)) ≡ whole → now ≡ whole
+taken_all F p cs n now whole none l all =
+    sym (append-nil now) ∙ ap (λ zs. now ++ zs) (sym none)
+    ∙ ap (λ xs. now ++ F (filter p xs)) (sym (drop_all n cs l)) ∙ all

@@ -99,6 +99,53 @@ fn cut<H: Hasher>(
     Ok(chunks)
 }
 
+// The chunks of rows, which keep the bytes of the rows.
+fn cut_rows<H: Hasher>(
+    alloc: Global,
+    tree: Tree<H>,
+    rows: Vec<u8>,
+    width: usize,
+    count: u16,
+) -> Result<Vec<Chunk<H::Digest>>, NoMemory>
+    requires leaves { length tree ≡ count }
+    requires rows { length rows.items ≡ count * width }
+    requires room { count * width ≤ 2 ^ 63 - 1 }
+    ensures { IfOk result (λ chunks. chunks.items ≡ listed count (λ i. record {
+      shard = row_of rows.items width i;
+      index = i;
+      leaf_count = length tree;
+      siblings = path_of H.digest_of H.Digest.content i tree;
+    })) }
+{
+    let shared = Bytes::from_vec(rows)?;
+    let chunks = cut::<H>(alloc, &tree, &shared, width, count)?;
+    Ok(chunks)
+}
+
+// The root of a text that is encoded, and its chunks in the order of their indices.
+fn encoded<H: Hasher, R: Threads + Sync, S: Strategy>(
+    rt: &R,
+    alloc: Global,
+    config: &Config,
+    input: &[u8],
+    strategy: &S,
+) -> Result<(H::Digest, Vec<Chunk<H::Digest>>), NoMemory>
+    requires total { total_of config.now ≤ 65535 }
+    requires codable { IsCodable config.now (length input.now) }
+    ensures encoded { IfOk result
+        (λ r. IsEncoding H.digest_of H.Digest.content config.now input.now r.0 r.1.items) }
+    ensures some { IfOk result (λ _. 1 ≤ config.now.minimum) }
+{
+    let k = config.minimum();
+    let m = config.extra();
+    let rows = rows_of_text(rt, alloc, k, m, input, strategy)?;
+    let width = canonical_shard_len(input.len(), k);
+    let tree = tree_of_rows::<H, R, S>(rt, alloc, &rows, width, k + m, strategy)?;
+    let root = tree.root();
+    let chunks = cut_rows::<H>(alloc, tree, rows, width, k + m)?;
+    Ok((root, chunks))
+}
+
 // The root of a text, and its chunks in the order of their indices.
 pub(crate) fn encode_text<H: Hasher, R: Threads + Sync, S: Strategy>(
     rt: &R,
@@ -119,15 +166,8 @@ pub(crate) fn encode_text<H: Hasher, R: Threads + Sync, S: Strategy>(
     if !is_codable(config, input.len()) {
         return Err(ReedSolomonError::InvalidDataLength(input.len()));
     }
-    let k = config.minimum();
-    let m = config.extra();
-    let rows = rows_of_text(rt, alloc, k, m, input, strategy)?;
-    let width = canonical_shard_len(input.len(), k);
-    let tree = tree_of_rows::<H, R, S>(rt, alloc, &rows, width, total as u16, strategy)?;
-    let shared = match Bytes::from_vec(rows) {
-        Ok(shared) => shared,
-        Err(_) => return Err(ReedSolomonError::NoMemory),
-    };
-    let chunks = cut::<H>(alloc, &tree, &shared, width, total as u16)?;
-    Ok((tree.root(), chunks))
+    match encoded::<H, R, S>(rt, alloc, config, input, strategy) {
+        Ok(encoded) => Ok(encoded),
+        Err(_) => Err(ReedSolomonError::NoMemory),
+    }
 }

@@ -3,7 +3,7 @@
 ghost use Rattle.std.specs.Prelude.{◌≡◌, ℕ, ◌+◌, ◌-◌, ◌*◌, ◌^◌, ◌<◌, ◌≤◌, ◌==◌};
 ghost use Rattle.std.specs.Prelude.{[], ◌∷◌, ◌++◌, ◌↔◌, ◌⊎◌};
 ghost use Rattle.std.specs.Prelude.{List, length, take, map, filter, nat_lt, not, if◌then◌else◌};
-ghost use Rattle.std.specs.Prelude.{IfOk, OnOk, IsTrue, MatchResult};
+ghost use Rattle.std.specs.Prelude.{IfOk, OnOk, IsTrue, MatchOption, MatchResult};
 ghost use Rattle.std.specs.List.{flat_map};
 ghost use Rattle.std.specs.Iterator.{IsFinite, Drains};
 ghost use Rattle.cw_coding.specs.Checked.{Checked};
@@ -96,6 +96,15 @@ fn fitting<H: Hasher>(
     Ok(())
 }
 
+// The width of the first chunk.
+fn first_width<H: Hasher>(shards: &[CheckedChunk<H>]) -> Option<usize>
+    ensures { MatchOption result (length shards.now ≡ 0)
+        (λ width. (0 < length shards.now) × (width ≡ width_of shards.now)) }
+{
+    let first = shards.first()?;
+    Some(first.shard().len())
+}
+
 // The width of chunks that can be decoded.
 pub(crate) fn decodable<H: Hasher>(
     alloc: Global,
@@ -112,17 +121,16 @@ pub(crate) fn decodable<H: Hasher>(
     if total > 65535 {
         return Err(ReedSolomonError::TooManyTotalShards(total));
     }
-    let Some(first) = shards.first() else {
+    let Some(width) = first_width::<H>(shards) else {
         return Err(ReedSolomonError::NotEnoughChunks);
     };
-    let width = first.shard().len();
     if !is_width(total, width) {
         return Err(ReedSolomonError::ReedSolomon(RsError::InvalidShardSize { shard_bytes: width }));
     }
     if let Err(error) = fitting::<H>(alloc, total, root, width, shards) {
         return Err(error);
     }
-    if shards.len() < usize::from(config.minimum_shards.get()) {
+    if shards.len() < usize::from(config.minimum()) {
         return Err(ReedSolomonError::NotEnoughChunks);
     }
     Ok(width)

@@ -3,7 +3,7 @@
 ghost use Rattle.std.specs.Prelude.{◌≡◌, ℕ, ◌+◌, ◌-◌, ◌*◌, ◌%◌, ◌^◌, ◌<◌, ◌≤◌, ◌↔◌, List, length};
 ghost use Rattle.std.specs.Prelude.{slice_index, take, IfOk, IsTrue, Some, MatchOption};
 ghost use Rattle.rs_code.specs.Rows.{joined, code_row};
-ghost use Rattle.cw_base.specs.Rows.{row_of};
+ghost use Rattle.cw_base.specs.Rows.{row_of, row_hashes};
 ghost use Rattle.rs_code.specs.Indices.{AreSound};
 ghost use Rattle.cw_tree.specs.Tree.{root_of};
 ghost use Rattle.cw_tree.specs.Widths.{shard_len};
@@ -157,6 +157,25 @@ fn first_indices(alloc: Global, count: u16) -> Result<Vec<u16>, NoMemory>
     Ok(values)
 }
 
+// The root over the digests of so many rows of one width.
+fn root_of_rows<H: Hasher, R: Threads + Sync, S: Strategy>(
+    rt: &R,
+    alloc: Global,
+    rows: &[u8],
+    width: usize,
+    count: u16,
+    strategy: &S,
+) -> Result<H::Digest, NoMemory>
+    requires positive { 0 < width }
+    requires some { 1 ≤ count }
+    requires rows { length rows.now ≡ count * width }
+    ensures { IfOk result (λ root. root_of H.digest_of H.Digest.content
+        (row_hashes H.digest_of width rows.now) ≡ Some root) }
+{
+    let tree = tree_of_rows::<H, R, S>(rt, alloc, rows, width, count, strategy)?;
+    Ok(tree.root())
+}
+
 // Whether a text is the one that these rows come of.
 fn confirmed<H: Hasher, R: Threads + Sync, S: Strategy>(
     rt: &R,
@@ -189,8 +208,7 @@ fn confirmed<H: Hasher, R: Threads + Sync, S: Strategy>(
 {
     let rows = rows_of_text(rt, alloc, k, m, text, strategy)?;
     let total = k + m;
-    let tree = tree_of_rows::<H, R, S>(rt, alloc, &rows, width, total, strategy)?;
-    let found = tree.root();
+    let found = root_of_rows::<H, R, S>(rt, alloc, &rows, width, total, strategy)?;
     let same = same_rows(
         &rows,
         width,

@@ -1,5 +1,5 @@
 use Rattle.std.proofs.Common.{◌≡◌, ℕ, ◌<◌, Bool, true, false, List, take, get_or, Contains, refl, sym, ap, subst, ◌∙◌, arith, inr}
-use Rattle.std.proofs.lemmas.List.{length-set, length-map, take-map, get_or_default}
+use Rattle.std.proofs.lemmas.List.{length-set, length-map, take-map, take_all, get_or_default}
 use Rattle.std.proofs.lemmas.Option.{slice_get_read}
 use Rattle.rs_code.proofs.IndexLaws.{seen_more}
 use Rattle.cw_coding.specs.Checked.{Checked}
@@ -89,3 +89,9 @@ loop-chunk-preserved g c =
       was_given = marks.0;
       is_marked = marks.1;
     }
+
+pub returns : goal.returns
+returns g c =
+    let all : take c.loop-chunk.chunk-index c.args.shards.now ≡ c.args.shards.now =
+    take_all c.loop-chunk.chunk-index c.args.shards.now (omega arith) in
+    rw all at c.loop-chunk.invariant.fit

@@ -1,13 +1,12 @@
-use Rattle.std.proofs.Common.{◌≡◌, ◌+◌, length, arith, IsTrue, rules}
+use Rattle.std.proofs.Common.{◌≡◌, ◌+◌, length, refl, arith}
 use Rattle.rs_code.specs.Rows.{joined}
 use Rattle.cw_tree.specs.Widths.{shard_len}
 use Rattle.cw_coding.specs.Layout.{row_at}
 use Rattle.cw_coding.proofs.EncodingLaws.{encoding_is}
-use Rattle.cw_coding.proofs.encoding.encode_text.Goals as goal
+use Rattle.cw_coding.proofs.encoding.encoded.Goals as goal
 
 pub returns-clause-encoded : goal.returns-clause-encoded
 returns-clause-encoded g c =
-    let yes : IsTrue c.is_codable.result = search rules in
     let width : c.canonical_shard_len-width.result
     ≡ shard_len (length c.args.input.now) c.args.config.now.minimum =
     rw c.minimum-k.ensures.value at c.canonical_shard_len-width.ensures.value in
@@ -15,9 +14,10 @@ returns-clause-encoded g c =
     ≡ joined (c.args.config.now.minimum + c.args.config.now.extra)
     (row_at c.args.config.now.minimum c.args.input.now) =
     rw (c.minimum-k.ensures.value, c.extra-m.ensures.value) at c.in_ok-rows.ensures.value in
-    encoding_is _ _ c.args.config.now c.args.input.now _ c.total_shards-total.result _
-    c.in_ok-rows.rows.items _ c.in-Ok.shared c.in_ok-tree.tree _
+    encoding_is _ _ c.args.config.now c.args.input.now _ (c.minimum-k.result + c.extra-m.result) _
+    c.in_ok-rows.rows.items _ c.in_ok-rows.rows.items c.in_ok-tree.tree _
     (omega (arith, c.minimum-k.ensures.value, c.minimum-k.ensures.some))
-    c.total_shards-total.ensures (omega (arith, c.if-total-gt65535.false))
-    (c.is_codable.ensures.0 yes) width rows c.deref.ensures.value c.in-Ok.ensures.ok
-    c.in_ok-tree.ensures.digests c.root.ensures c.in_ok-chunks.ensures
+    (omega (arith, c.minimum-k.ensures.value, c.extra-m.ensures.value))
+    (omega (arith, c.minimum-k.ensures.value, c.extra-m.ensures.value, c.requires.total))
+    c.requires.codable width rows c.deref.ensures.value refl c.in_ok-tree.ensures.digests
+    c.root-root.ensures c.in_ok-chunks.ensures
