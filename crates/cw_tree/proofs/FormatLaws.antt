@@ -136,7 +136,8 @@ proof_reads_back size = record { found = found; again = again }
         let parts : bytes ≡ be32 n.0 ++ sibling_bytes ds.0 ++ ds.1 =
         first.0 ∙ ap (λ (ys : List ℕ). be32 n.0 ++ ys) second.0
         ∙ sym (append_assoc (be32 n.0) (sibling_bytes ds.0) ds.1) in
-        let whole : (bytes ≡ be32 n.0 ++ sibling_bytes ds.0 ++ rest) × FitsProof size (n.0, ds.0) = (
+        let whole : (bytes ≡ be32 n.0 ++ sibling_bytes ds.0 ++ rest)
+        × FitsProof size (n.0, ds.0) = (
           rw is.1 at parts,
           record {
             leaf_count = first.1;

@@ -29,5 +29,6 @@ returns-clause-indices g c =
 
 pub returns-clause-rows : goal.returns-clause-rows
 returns-clause-rows g c =
-    taken_all (flat_map (λ (x : Checked _). x.shard)) (λ (x : Checked _). not (nat_lt x.index c.args.k))
+    taken_all (flat_map (λ (x : Checked _). x.shard))
+    (λ (x : Checked _). not (nat_lt x.index c.args.k))
     c.args.shards.now c.loop-chunk.chunk-index _ _ refl (omega arith) c.loop-chunk.invariant.rows

@@ -15,7 +15,9 @@ overflow_mul-used g c =
 pub slice_bounds-used-end : goal.slice_bounds-used-end
 slice_bounds-used-end g c =
     let room = mul-le-mul_right c.args.width c.requires.enough in
-    sym (length-take-le _ c.args.rows.now (rw c.from.ensures (omega (arith, room, c.requires.rows))))
+    sym
+    (length-take-le _ c.args.rows.now
+    (rw c.from.ensures (omega (arith, room, c.requires.rows))))
 
 pub rebuild-requires-clause-rows : goal.rebuild-requires-clause-rows
 rebuild-requires-clause-rows g c = λ κs h.

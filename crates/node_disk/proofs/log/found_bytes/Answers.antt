@@ -17,7 +17,8 @@ returns-in-Ok g c =
     let same : IsSame mid new = c.read_all.ensures.same in
     record {
       bytes =
-          subst (λ (l : List ℕ). IfOk c.read_all.result (λ (bytes : Vec ℕ Global). bytes.items ≡ l)) synced.seen
+          subst (λ (l : List ℕ). IfOk c.read_all.result (λ (bytes : Vec ℕ Global). bytes.items ≡ l))
+          synced.seen
           c.read_all.ensures.bytes;
       seen = always c.read_all.result (read_seen old mid new synced same);
       durable = always c.read_all.result (read_durable old mid new synced same);

@@ -17,16 +17,22 @@ returns-in-Ok g c =
     let new : DiskState = g.D.Disk.state c.sync.new.self in
     let wrote : HasWritten place bytes old mid = c.in-Ok.ensures.ok in
     record {
-      written = on_ok_weaker c.sync.result (λ (f : HasSynced mid new). f.seen ∙ wrote.seen) c.sync.ensures.ok;
+      written =
+          on_ok_weaker c.sync.result (λ (f : HasSynced mid new). f.seen ∙ wrote.seen)
+          c.sync.ensures.ok;
       durable =
           on_ok_weaker c.sync.result
-          (λ (f : HasSynced mid new). record { synced = f.synced ∙ sym f.seen; ranges = f.ranges }) c.sync.ensures.ok;
+          (λ (f : HasSynced mid new). record {
+            synced = f.synced ∙ sym f.seen;
+            ranges = f.ranges;
+          }) c.sync.ensures.ok;
       any_moment =
           then_sync old mid place bytes c.requires.inside c.requires.durable new wrote
           (laws.seen_is_image c.write_at.new.self) c.sync.result c.sync.ensures.ok
           c.sync.ensures.failed c.sync.ensures.no_memory;
       calls =
-          on_ok_weaker c.sync.result (λ (f : HasSynced mid new). both_told place bytes old mid new wrote f)
+          on_ok_weaker c.sync.result
+          (λ (f : HasSynced mid new). both_told place bytes old mid new wrote f)
           c.sync.ensures.ok;
       failed = λ e. cut_at_sync place bytes old mid new wrote (c.sync.ensures.failed e);
       no_memory = λ e. front_write place bytes old mid new wrote (c.sync.ensures.no_memory e);

@@ -100,5 +100,6 @@ returns-clause-done c =
     pushed refl known refl refl refl refl refl refl in
     c.is_done.ensures
     ∙ sym
-    (outcome_was (request_of c.args.action) old new called o m.calls.items (is_done o) known refl refl)
+    (outcome_was (request_of c.args.action) old new called o m.calls.items (is_done o) known refl
+    refl)
     ∙ ap (λ (s : MemoryState). is_done (next_outcome s)) c.self.view_is

@@ -19,7 +19,8 @@ returns c =
     record {
       ok = both_ok c.count.result gone.done (write_done c.args.place c.args.bytes.now old new);
       failed =
-          λ is. write_failed c.args.place c.args.bytes.now old new (gone.failed is).0 (gone.failed is).1 c.requires
+          λ is. write_failed c.args.place c.args.bytes.now old new (gone.failed is).0
+          (gone.failed is).1 c.requires
           (le_of_eq (sym (gone.fault_counted is)));
       no_memory = gone.same;
       tried = le_of_eq (sym gone.tries);
