@@ -12,7 +12,7 @@ use cw_types::Commitment;
 use std::alloc::Global;
 
 /// A chunk that was kept, and what it is of. Contracts see what `Shards` holds as a list of these.
-#[derive(Drop)]
+#[derive(Debug, Drop, PartialEq, Eq)]
 pub struct KeptChunk {
     pub commitment: Commitment,
     pub chunk: Chunk<Digest32>,

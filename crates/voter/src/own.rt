@@ -4,7 +4,7 @@ use cw_types::Commitment;
 
 /// A chunk that came, at the member's place in the list of some epoch: what it is of, and its
 /// place.
-#[derive(Clone, Copy)]
+#[derive(Clone, Copy, Debug, PartialEq, Eq)]
 pub struct OwnChunk {
     pub commitment: Commitment,
     pub index: u16,
