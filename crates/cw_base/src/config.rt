@@ -1,6 +1,6 @@
 //! Into how many shards a text is cut.
 
-ghost use Rattle.std.specs.Prelude.{◌≡◌, ◌+◌, ◌≤◌};
+ghost use Rattle.std.specs.Prelude.{◌≡◌, ◌↔◌, ◌+◌, ◌≤◌, IfSome, IsSome};
 ghost use Rattle.cw_base.specs.Config.{config_bytes, same_counts};
 
 use std::marker::Model;
@@ -37,6 +37,18 @@ impl Model for Config {
 impl Config {
     /// How many bytes a config is written in.
     pub const SIZE: usize = 4;
+
+    /// The config of these two numbers; `None` exactly where one of them is zero.
+    pub fn new(minimum: u16, extra: u16) -> Option<Config>
+        ensures exact { IsSome result ↔ (1 ≤ minimum × 1 ≤ extra) }
+        ensures minimum { IfSome result (λ config. config.minimum ≡ minimum) }
+        ensures extra { IfSome result (λ config. config.extra ≡ extra) }
+    {
+        Some(Config {
+            minimum_shards: NonZeroU16::new(minimum)?,
+            extra_shards: NonZeroU16::new(extra)?,
+        })
+    }
 
     /// How many shards hold the text and give it back, as a number.
     pub fn minimum(&self) -> u16

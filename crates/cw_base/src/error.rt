@@ -1,9 +1,11 @@
 //! Refusals that every crate shares.
 
 use std::alloc::{AllocError, AllocFailed};
+use thiserror::Error;
 
 /// Memory is short.
-#[derive(Clone, Copy, Debug, PartialEq, Eq)]
+#[derive(Clone, Copy, Debug, PartialEq, Eq, Error)]
+#[error("memory is short")]
 pub struct NoMemory;
 
 impl From<AllocError> for NoMemory {
@@ -19,5 +21,6 @@ impl<T: Drop> From<AllocFailed<T>> for NoMemory {
 }
 
 /// A source or a sink failed, and its count of faults rose.
-#[derive(Clone, Copy, Debug, PartialEq, Eq)]
+#[derive(Clone, Copy, Debug, PartialEq, Eq, Error)]
+#[error("a source or a sink failed")]
 pub struct Failed;

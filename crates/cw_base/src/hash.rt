@@ -11,6 +11,7 @@ use crate::rows::hash_rows;
 use crate::strategy::Strategy;
 use sha2::Digest as Sha2Digest;
 use std::alloc::Global;
+use std::fmt;
 use std::hash::Hash;
 use std::thread::Threads;
 
@@ -52,6 +53,16 @@ pub trait Digest: Copy + Eq + Ord + Hash + Send + Sync {
 /// A digest of 32 bytes.
 #[derive(Clone, Copy, Debug, PartialEq, Eq, PartialOrd, Ord, Hash)]
 pub struct Digest32(pub [u8; 32]);
+
+/// Its bytes in order, each in two hex digits.
+impl fmt::Display for Digest32 {
+    fn fmt<W: fmt::Write>(&self, f: &mut fmt::Formatter<W>) -> fmt::Result {
+        for byte in self.0 {
+            write!(f, "{byte:02x}")?;
+        }
+        Ok(())
+    }
+}
 
 impl Digest for Digest32 {
     ghost SIZE = { 32 };

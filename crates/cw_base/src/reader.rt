@@ -12,21 +12,28 @@ use crate::error::NoMemory;
 use std::alloc::{AllocError, AllocFailed};
 use std::marker::Model;
 use std::num::NonZeroU16;
+use thiserror::Error;
 
 /// Why bytes are not read.
-#[derive(Clone, Copy, Debug, PartialEq, Eq)]
+#[derive(Clone, Copy, Debug, PartialEq, Eq, Error)]
 pub enum CodecError {
     /// Fewer bytes are left than asked.
+    #[error("fewer bytes are left than asked")]
     EndOfBuffer,
     /// A varint that isn't in its shortest form, or whose value is above `u32::MAX`.
+    #[error("a varint that is not in its shortest form, or above 32 bits")]
     InvalidVarint,
     /// A length above its stated limit.
+    #[error("a length above its limit")]
     TooLong,
     /// A tag or a value outside its table.
+    #[error("a tag or a value outside its table")]
     Invalid,
     /// Bytes are left at the end.
+    #[error("bytes are left at the end")]
     Extra,
     /// Memory ran out.
+    #[error("memory ran out")]
     NoMemory,
 }
 

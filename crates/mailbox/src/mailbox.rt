@@ -17,21 +17,43 @@ use crate::slot::{Slot, take_out};
 use crate::turn::{Turn, TurnAlone};
 use cw_base::NoMemory;
 use std::alloc::Global;
+use std::fmt;
 use std::marker::Model;
 use std::sync::ledger::{Blank, Share};
 use std::sync::{Arc, Mutex, Wait};
+use thiserror::Error;
 
-/// Why a session was not closed.
-#[derive(Drop)]
+/// Why a session was not closed. Its texts tell the parts and the place alone.
+#[derive(Drop, Error)]
 pub enum CloseError<T: Turn, L: Session<T>> {
     /// Not all parts of the session are here: another mailbox wasn't joined. The mailbox is handed
     /// back.
+    #[error("not all parts of the session are here")]
     Open(Mailbox<T, L>),
     /// The history isn't the calls of all mailboxes: the least place of it that fails, the history,
     /// and the lists of calls. A place fails where not exactly one call has it, where the call that
     /// has it isn't the entry there, or where a call of it stands behind one of a greater place in
     /// its list.
+    #[error("the history is not the calls of all mailboxes: place {0} fails")]
     Differs(u64, Vec<(T::Event, T::Reply)>, Vec<Vec<Call<T>>>),
+}
+
+impl<T: Turn, L: Session<T>> fmt::Debug for CloseError<T, L> {
+    fn fmt<W: fmt::Write>(&self, f: &mut fmt::Formatter<W>) -> fmt::Result {
+        match self {
+            CloseError::Open(mailbox) => {
+                let (parts, all) = (mailbox.parts, mailbox.all);
+                write!(f, "Open({parts} of {all})")
+            }
+            CloseError::Differs(place, history, lists) => {
+                let (entries, mailboxes) = (history.len(), lists.len());
+                write!(
+                    f,
+                    "Differs({place}, {entries} entries, {mailboxes} mailboxes)"
+                )
+            }
+        }
+    }
 }
 
 /// Some parts of a session, at least one, and the calls that were made on them. All mailboxes of a

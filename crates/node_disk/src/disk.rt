@@ -7,13 +7,16 @@ ghost use Rattle.node_disk.specs.Disk.{DiskState, HasWritten, HasFailedToWrite, 
 ghost use Rattle.node_disk.specs.Disk.{HasFailedToSync, IsSame};
 
 use std::alloc::{AllocError, Global};
+use thiserror::Error;
 
 /// Why a call of a disk did not succeed.
-#[derive(Clone, Copy, Debug, PartialEq, Eq)]
+#[derive(Clone, Copy, Debug, PartialEq, Eq, Error)]
 pub enum DiskError {
     /// The disk failed, and counted it.
+    #[error("the disk failed")]
     Failed,
     /// Memory was refused, and nothing was done to the disk.
+    #[error("memory was refused, and nothing was done to the disk")]
     NoMemory,
 }
 

@@ -16,19 +16,24 @@ use crate::reading::read_frames;
 use crate::{Disk, DiskError, MemoryDisk};
 use cw_base::{NoMemory, put_be64, put_bytes, put_u8};
 use std::alloc::{AllocError, AllocFailed, Global};
+use thiserror::Error;
 
 /// Why a store on a disk did not do what it was asked for.
-#[derive(Clone, Copy, Debug, PartialEq, Eq)]
+#[derive(Clone, Copy, Debug, PartialEq, Eq, Error)]
 pub enum StoreError {
     /// The disk failed in this call: its count of faults rose.
+    #[error("the disk failed")]
     Disk,
     /// An earlier call since the start answered `Disk`, or `NoMemory` after a device call was made.
     /// It is tested before all else; start again on the disk.
+    #[error("an earlier call failed: start again on the disk")]
     Failed,
     /// Memory was refused.
+    #[error("memory was refused")]
     NoMemory,
     /// A start found an open gate byte at this place, in bytes from the start of the file, whose
     /// frame is cut, and only whole frames before it.
+    #[error("not a file of this log: the frame at byte {0} is open and cut")]
     Foreign(u64),
 }
 
