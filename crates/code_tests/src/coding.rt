@@ -4,6 +4,7 @@ mod clashes;
 mod planted;
 mod refusals;
 mod roots;
+mod striped;
 mod written;
 
 use crate::gate::Gate;

@@ -12,6 +12,8 @@ mod light_tests;
 #[cfg(test)]
 mod shards_tests;
 #[cfg(test)]
+mod shown_tests;
+#[cfg(test)]
 mod tables;
 #[cfg(test)]
 mod types_tests;
