@@ -10,26 +10,29 @@ use std::test::Fail;
 use std::thread;
 use std::thread::Threads;
 
-// Holds lane 0 until lane 1 arrives, for so many turns.
+// Holds lane 0 until lane 1 arrives, for so many turns; counts who came, and how often lane 0 found
+// lane 1 there.
 #[derive(Drop)]
 struct Door {
     open: AtomicU64,
-    late: AtomicU64,
+    came: AtomicU64,
+    passed: AtomicU64,
 }
 
 impl Gate for Door {
     fn arrive(&self, piece: usize) {
+        self.came.fetch_add(1, Ordering::SeqCst);
         if piece == 1 {
             self.open.store(1, Ordering::SeqCst);
         }
         if piece == 0 {
             for _ in 0..10_000_000u64 {
                 if self.open.load(Ordering::SeqCst) == 1 {
+                    self.passed.fetch_add(1, Ordering::SeqCst);
                     return;
                 }
                 thread::yield_now();
             }
-            self.late.store(1, Ordering::SeqCst);
         }
     }
 }
@@ -103,10 +106,12 @@ fn two_lanes_run_beside_each_other_and_have_their_turns_in_one_order(
 ) -> Result<(), Fail> {
     let door = Door {
         open: AtomicU64::new(0),
-        late: AtomicU64::new(0),
+        came: AtomicU64::new(0),
+        passed: AtomicU64::new(0),
     };
     assert!(rt; two_lanes(&rt, rt.alloc(), &door)?);
-    assert_eq!(rt; door.late.load(Ordering::SeqCst), 0);
+    assert_eq!(rt; door.came.load(Ordering::SeqCst), 2);
+    assert_eq!(rt; door.passed.load(Ordering::SeqCst), 1);
     Ok(())
 }
 

@@ -114,6 +114,35 @@ fn texts_that_are_refused(rt: HostRuntime) -> Result<(), Fail> {
     Ok(())
 }
 
+const TOLD: [(RunError, &str); 6] = [
+    (RunError::Syntax(7), "line 7 is outside the grammar"),
+    (
+        RunError::BadCommittee,
+        "a committee has fewer than 4 members, or more than 65,535",
+    ),
+    (
+        RunError::UnknownMember(3),
+        "line 3 names a member past the last",
+    ),
+    (
+        RunError::TooManyFaulty,
+        "more members are faulty than an epoch bears",
+    ),
+    (
+        RunError::OversizeBlock(2),
+        "line 2 has a payload of more than 1,048,576 bytes",
+    ),
+    (RunError::NoMemory, "memory is short"),
+];
+
+#[test]
+fn refusals_are_told_in_words(rt: HostRuntime) -> Result<(), Fail> {
+    for (error, want) in &TOLD {
+        assert_eq!(rt; format!(in rt.alloc(); "{error}")?.as_str(), *want);
+    }
+    Ok(())
+}
+
 #[test]
 fn texts_that_are_run(rt: HostRuntime) -> Result<(), Fail> {
     for (text, members, backlog, events) in &RUN {
