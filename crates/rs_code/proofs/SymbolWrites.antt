@@ -20,7 +20,7 @@ rows_apart width r s a b other ha hb = λ e.
     (cases_lt r s)
 
 -- different places are different
-places_apart : (width r s a b : ℕ) → a < width → b < width → (r ≡ s → a ≡ b → ⊥)
+pub places_apart : (width r s a b : ℕ) → a < width → b < width → (r ≡ s → a ≡ b → ⊥)
     → r * width + a ≢ s * width + b
 places_apart width r s a b ha hb other = λ e.
     ⊎_elim {C = ⊥}

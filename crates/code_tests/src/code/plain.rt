@@ -103,7 +103,7 @@ const SHAPES: [(u16, u16, u16); 9] = [
 ];
 
 // So many rows.
-fn originals_of(alloc: Global, k: u16, width: u16) -> Result<Vec<u8>, AllocError> {
+pub fn originals_of(alloc: Global, k: u16, width: u16) -> Result<Vec<u8>, AllocError> {
     bytes(alloc, usize::from(k) * usize::from(width))
 }
 
@@ -144,7 +144,7 @@ fn recoveries_are_those_of_the_plain_definition(rt: HostRuntime) -> Result<(), F
 }
 
 // Rows with their recoveries added behind them in so many pieces.
-fn with_recoveries<R: Threads + Sync>(
+pub fn with_recoveries<R: Threads + Sync>(
     rt: &R,
     alloc: Global,
     k: u16,
@@ -170,7 +170,7 @@ fn with_recoveries<R: Threads + Sync>(
 }
 
 // Whether rows are those of two lists, one behind the other.
-fn is_joined(rows: &[u8], front: &[u8], back: &[u8]) -> bool {
+pub fn is_joined(rows: &[u8], front: &[u8], back: &[u8]) -> bool {
     rows.starts_with(front) && rows.ends_with(back) && rows.len() == front.len() + back.len()
 }
 

@@ -1,0 +1,52 @@
+//! Recoveries of many rows, against an independent program. From 64 originals and 64 recoveries on
+//! they are made by another body than of fewer.
+
+use super::plain::{is_joined, originals_of, with_recoveries};
+use super::*;
+use cw_base::{Digest, Hasher, Sha256};
+
+// Whether the recoveries of a part of the table have the digest that stands there, and stand behind
+// the originals where they are added.
+fn are_recoveries<R: Threads + Sync>(rt: &R, alloc: Global, part: &str) -> Result<bool, Fail> {
+    let (head, digest) = head_and_rest(part)?;
+    let want = bytes_of(alloc, digest)?;
+    let numbers = numbers_of(alloc, head)?;
+    let [k, m, width] = numbers.as_slice() else {
+        return Err(Fail::from("no sizes"));
+    };
+    let originals = originals_of(alloc, *k, *width)?;
+    let found = recoveries(rt, alloc, *k, *m, &originals, *width, &Sequential)?;
+    let rows = with_recoveries(rt, alloc, *k, *m, &originals, *width, 4)?;
+    let right = Sha256::hash(&found).as_bytes() == want.as_slice();
+    Ok(right && is_joined(&rows, &originals, &found))
+}
+
+#[test]
+fn many_recoveries_are_those_of_an_independent_program(rt: HostRuntime) -> Result<(), Fail> {
+    let mut count = 0u8;
+    for part in RECOVERIES.split("== ").skip(1) {
+        assert!(rt; are_recoveries(&rt, rt.alloc(), part)?, "at {count}");
+        count = count.wrapping_add(1);
+    }
+    assert_eq!(rt; count, 7);
+    Ok(())
+}
+
+// Originals, recoveries and the width of a row, then the digest of the recoveries end to end, under
+// SHA-256. The first has one original too few for the other body.
+const RECOVERIES: &str = "\
+== 63 64 66
+8a2835da9221098c7869896228565edf62fe537a05c56359e985672c375b0bc9
+== 64 64 2
+a1a683cb1a32ce70a00591d9620bbcfa7e6b740d9c9db76d2f08541b04e0fe38
+== 64 100 66
+03097a9be34bb065d1ea6e9906b5cd189cf2bb81e961b897b78c86a9fc8a2ae8
+== 65 130 258
+2dc1e458f8cda9da49a5de9eb93a75167b1459ceb42235037cde824cfa881b4a
+== 100 64 126
+721bc9f35edbb8abc2b7fda5b9a7ff0035bc2ef6e080ce9d8d9754c70668170f
+== 200 300 40
+9c76c9ffa6e82cfea9e98b8c6291504cd06161b7b0aa43f0b3fdbc60ed011231
+== 342 682 48
+57869e2d0e144ac7243371a8c63181d5a9393c919ba22b67244f813fb118eae6
+";

@@ -1,0 +1,124 @@
+//! The transform between coefficients and values, for all columns of rows at once. It goes by
+//! halves: after one step each half of the rows is a block of its own.
+
+ghost use Rattle.std.specs.Prelude.{◌≡◌, ℕ, ◌<◌, ◌≤◌, ◌+◌, ◌-◌, ◌*◌, ◌^◌, length, slice_index};
+ghost use Rattle.rs_code.specs.Columns.{entry, AreScales};
+ghost use Rattle.rs_code.specs.Transform.{vanishing, combined};
+
+use crate::products::{add, add_products, step_back, step_forward};
+use crate::subspaces::{STEPS, vanishing_at};
+
+/// How many rows a block has.
+pub fn size(t: usize) -> usize
+    requires { t ≤ 16 }
+    ensures { result ≡ 2 ^ t }
+{
+    1 << t
+}
+
+// What the second half of a block counts for in its first.
+fn factor_at(scales: &[u16; STEPS], t: usize, block: usize) -> u16
+    requires some { 1 ≤ t }
+    requires block { (block + 1) * 2 ^ t ≤ 2 ^ 16 }
+    requires fits { t ≤ 16 }
+    requires scales { AreScales 15 scales.now }
+    ensures { result ≡ vanishing (t - 1) (block * 2 ^ t) }
+{
+    vanishing_at(scales, t - 1, (block * size(t)) as u16)
+}
+
+/// It does nothing: what is known of the rows' type is its contract.
+pub fn symbols_fit(rows: &[u16])
+    ensures { (p : ℕ) → slice_index rows.now p < 2 ^ 16 }
+{
+    let _ = rows;
+}
+
+/// From the coefficients in 2^t rows to their polynomial's values at the elements of a block, in the
+/// rows from `first` on that are before `last`. What the others have then isn't said.
+pub fn forward(
+    rows: &mut [u16],
+    n: usize,
+    scales: &[u16; STEPS],
+    t: usize,
+    block: usize,
+    first: usize,
+    last: usize,
+)
+    requires fits { t ≤ 16 }
+    requires block { (block + 1) * 2 ^ t ≤ 2 ^ 16 }
+    requires rows { length rows.old ≡ 2 ^ t * n }
+    requires scales { AreScales 15 scales.now }
+    ensures count { length rows.new ≡ length rows.old }
+    ensures values { (i j : ℕ) → first ≤ i → i < last → i < 2 ^ t → j < n
+        → entry rows.new n i j
+        ≡ combined t (λ r. entry rows.old n r j) (block * 2 ^ t + i) }
+{
+    if t == 0 {
+        return;
+    }
+    if last <= first {
+        return;
+    }
+    if size(t) <= first {
+        return;
+    }
+    symbols_fit(rows);
+    let half = size(t - 1);
+    let factor = factor_at(scales, t, block);
+    let (low, high) = rows.split_at_mut(half * n);
+    step_forward(low, high, factor);
+    forward(low, n, scales, t - 1, 2 * block, first, last);
+    forward(
+        high,
+        n,
+        scales,
+        t - 1,
+        2 * block + 1,
+        first.saturating_sub(half),
+        last.saturating_sub(half),
+    );
+}
+
+/// From the values of a polynomial at the first elements of a block, and its coefficients from their
+/// number on, to all its coefficients.
+pub fn inverse(
+    rows: &mut [u16],
+    n: usize,
+    scales: &[u16; STEPS],
+    t: usize,
+    block: usize,
+    known: usize,
+)
+    requires fits { t ≤ 16 }
+    requires block { (block + 1) * 2 ^ t ≤ 2 ^ 16 }
+    requires known { known ≤ 2 ^ t }
+    requires rows { length rows.old ≡ 2 ^ t * n }
+    requires scales { AreScales 15 scales.now }
+    ensures count { length rows.new ≡ length rows.old }
+    ensures values { (i j : ℕ) → i < known → j < n
+        → combined t (λ r. entry rows.new n r j) (block * 2 ^ t + i) ≡ entry rows.old n i j }
+    ensures others { (i j : ℕ) → known ≤ i → i < 2 ^ t → j < n
+        → entry rows.new n i j ≡ entry rows.old n i j }
+{
+    if t == 0 {
+        return;
+    }
+    if known == 0 {
+        return;
+    }
+    let half = size(t - 1);
+    let factor = factor_at(scales, t, block);
+    let (low, high) = rows.split_at_mut(half * n);
+    if known <= half {
+        add_products(low, factor, high, known * n);
+        inverse(low, n, scales, t - 1, 2 * block, known);
+        add_products(low, factor, high, 0);
+        return;
+    }
+    let more = known - half;
+    inverse(low, n, scales, t - 1, 2 * block, half);
+    add(high, low, more * n);
+    inverse(high, n, scales, t - 1, 2 * block + 1, more);
+    step_back(low, high, factor);
+}
