@@ -1,6 +1,7 @@
 //! Tests of cw_coding.
 
 mod clashes;
+mod commitments;
 mod planted;
 mod refusals;
 mod roots;

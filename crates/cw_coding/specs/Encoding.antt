@@ -51,3 +51,9 @@ pub record IsEncoding {D : Type 0} (hash : List ℕ → D) (content : D → List
   pub codable : IsCodable c (length text)
   pub rooted : root_of hash content (row_digests hash c.minimum c.extra text) ≡ Some root
   pub each : pieces ≡ listed (total_of c) (piece_of hash content c text)
+
+-- the root of what a text is encoded to
+abbrev pub IsEncodingRoot : {D : Type 0}
+    → (hash : List ℕ → D) (content : D → List ℕ) (c : Counts) (text : List ℕ) → D → Type 0
+IsEncodingRoot {D = D} hash content c text root =
+    (pieces : List (Piece D)) × IsEncoding hash content c text root pieces

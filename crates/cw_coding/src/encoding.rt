@@ -4,9 +4,13 @@ ghost use Rattle.std.specs.Prelude.{◌≡◌, ℕ, ◌+◌, ◌-◌, ◌*◌, �
 ghost use Rattle.std.specs.Prelude.{IfErr, IsTrue, MatchResult};
 ghost use Rattle.cw_base.specs.Rows.{row_of};
 ghost use Rattle.cw_base.specs.Rows.{listed, row_hashes};
+ghost use Rattle.rs_code.specs.Rows.{joined};
 ghost use Rattle.cw_tree.specs.Tree.{path_of};
+ghost use Rattle.cw_tree.specs.Widths.{shard_len};
 ghost use Rattle.cw_coding.specs.Totals.{total_of};
-ghost use Rattle.cw_coding.specs.Encoding.{IsCodable, IsEncodeRefusal, IsEncoding};
+ghost use Rattle.cw_coding.specs.Layout.{row_at, row_digests};
+ghost use Rattle.cw_coding.specs.Encoding.{IsCodable, IsEncodable, IsEncodeRefusal, IsEncoding};
+ghost use Rattle.cw_coding.specs.Encoding.{IsEncodingRoot};
 
 use crate::error::ReedSolomonError;
 use crate::layout::rows_of_text;
@@ -122,6 +126,41 @@ fn cut_rows<H: Hasher>(
     Ok(chunks)
 }
 
+// The rows of a text, end to end, each of one width, and the tree over their digests.
+#[derive(Drop)]
+struct CodedText<H: Hasher> {
+    width: usize,
+    rows: Vec<u8>,
+    tree: Tree<H>,
+}
+
+fn coded_text<H: Hasher, R: Threads + Sync, S: Strategy>(
+    rt: &R,
+    alloc: Global,
+    config: &Config,
+    input: &[u8],
+    strategy: &S,
+) -> Result<CodedText<H>, NoMemory>
+    requires total { total_of config.now ≤ 65535 }
+    requires short { length input.now ≤ 2 ^ 32 - 1 }
+    ensures width { IfOk result
+        (λ made. made.width ≡ shard_len (length input.now) config.now.minimum) }
+    ensures rows { IfOk result (λ made. made.rows.items
+        ≡ joined (total_of config.now) (row_at config.now.minimum input.now)) }
+    ensures long { IfOk result
+        (λ made. length made.rows.items ≡ total_of config.now * made.width) }
+    ensures digests { IfOk result (λ made. made.tree
+        ≡ row_digests H.digest_of config.now.minimum config.now.extra input.now) }
+    ensures leaves { IfOk result (λ made. length made.tree ≡ total_of config.now) }
+{
+    let k = config.minimum();
+    let m = config.extra();
+    let rows = rows_of_text(rt, alloc, k, m, input, strategy)?;
+    let width = canonical_shard_len(input.len(), k);
+    let tree = tree_of_rows::<H, R, S>(rt, alloc, &rows, width, k + m, strategy)?;
+    Ok(CodedText { width, rows, tree })
+}
+
 // The root of a text that is encoded, and its chunks in the order of their indices.
 fn encoded<H: Hasher, R: Threads + Sync, S: Strategy>(
     rt: &R,
@@ -130,20 +169,48 @@ fn encoded<H: Hasher, R: Threads + Sync, S: Strategy>(
     input: &[u8],
     strategy: &S,
 ) -> Result<(H::Digest, Vec<Chunk<H::Digest>>), NoMemory>
-    requires total { total_of config.now ≤ 65535 }
-    requires codable { IsCodable config.now (length input.now) }
+    requires { IsEncodable config.now (length input.now) }
     ensures encoded { IfOk result
         (λ r. IsEncoding H.digest_of H.Digest.content config.now input.now r.0 r.1.items) }
     ensures some { IfOk result (λ _. 1 ≤ config.now.minimum) }
 {
-    let k = config.minimum();
-    let m = config.extra();
-    let rows = rows_of_text(rt, alloc, k, m, input, strategy)?;
-    let width = canonical_shard_len(input.len(), k);
-    let tree = tree_of_rows::<H, R, S>(rt, alloc, &rows, width, k + m, strategy)?;
-    let root = tree.root();
-    let chunks = cut_rows::<H>(alloc, tree, rows, width, k + m)?;
+    let count = config.minimum() + config.extra();
+    let coded = coded_text::<H, R, S>(rt, alloc, config, input, strategy)?;
+    let root = coded.tree.root();
+    let chunks = cut_rows::<H>(alloc, coded.tree, coded.rows, coded.width, count)?;
     Ok((root, chunks))
+}
+
+// The root of a text that is encoded.
+fn rooted<H: Hasher, R: Threads + Sync, S: Strategy>(
+    rt: &R,
+    alloc: Global,
+    config: &Config,
+    input: &[u8],
+    strategy: &S,
+) -> Result<H::Digest, NoMemory>
+    requires { IsEncodable config.now (length input.now) }
+    ensures { IfOk result
+        (λ root. IsEncodingRoot H.digest_of H.Digest.content config.now input.now root) }
+{
+    let coded = coded_text::<H, R, S>(rt, alloc, config, input, strategy)?;
+    Ok(coded.tree.root())
+}
+
+// Refuses data of so many bytes where it isn't encoded.
+fn encodable(config: &Config, length: usize) -> Result<(), ReedSolomonError>
+    ensures { MatchResult result
+        (λ _. IsEncodable config.now length)
+        (λ e. IsEncodeRefusal config.now length e) }
+{
+    let total = config.total_shards();
+    if total > 65535 {
+        return Err(ReedSolomonError::TooManyTotalShards(total));
+    }
+    if !is_codable(config, length) {
+        return Err(ReedSolomonError::InvalidDataLength(length));
+    }
+    Ok(())
 }
 
 // The root of a text, and its chunks in the order of their indices.
@@ -159,15 +226,32 @@ pub(crate) fn encode_text<H: Hasher, R: Threads + Sync, S: Strategy>(
     ensures refused { IfErr result (λ e. IsEncodeRefusal config.now (length input.now) e) }
     ensures some { IfOk result (λ _. 1 ≤ config.now.minimum) }
 {
-    let total = config.total_shards();
-    if total > 65535 {
-        return Err(ReedSolomonError::TooManyTotalShards(total));
-    }
-    if !is_codable(config, input.len()) {
-        return Err(ReedSolomonError::InvalidDataLength(input.len()));
+    if let Err(error) = encodable(config, input.len()) {
+        return Err(error);
     }
     match encoded::<H, R, S>(rt, alloc, config, input, strategy) {
         Ok(encoded) => Ok(encoded),
+        Err(_) => Err(ReedSolomonError::NoMemory),
+    }
+}
+
+// The root of a text, without its chunks.
+pub(crate) fn commit_text<H: Hasher, R: Threads + Sync, S: Strategy>(
+    rt: &R,
+    alloc: Global,
+    config: &Config,
+    input: &[u8],
+    strategy: &S,
+) -> Result<H::Digest, ReedSolomonError>
+    ensures committed { IfOk result
+        (λ root. IsEncodingRoot H.digest_of H.Digest.content config.now input.now root) }
+    ensures refused { IfErr result (λ e. IsEncodeRefusal config.now (length input.now) e) }
+{
+    if let Err(error) = encodable(config, input.len()) {
+        return Err(error);
+    }
+    match rooted::<H, R, S>(rt, alloc, config, input, strategy) {
+        Ok(root) => Ok(root),
         Err(_) => Err(ReedSolomonError::NoMemory),
     }
 }

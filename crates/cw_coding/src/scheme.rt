@@ -7,12 +7,13 @@ ghost use Rattle.cw_tree.specs.Sizes.{IsHeight};
 ghost use Rattle.cw_tree.specs.Widths.{shard_len};
 ghost use Rattle.cw_coding.specs.Totals.{total_of};
 ghost use Rattle.cw_coding.specs.Encoding.{IsEncodable, IsEncodeRefusal, IsEncoding};
+ghost use Rattle.cw_coding.specs.Encoding.{IsEncodingRoot};
 ghost use Rattle.cw_coding.specs.Checking.{Checks, AllCheck};
 ghost use Rattle.cw_coding.specs.Decoding.{AreDecodable, IsDecoding, IsDecodeRefusal};
 
 use crate::checking::{CheckedChunk, check_all, check_chunk};
 use crate::decoding::decode_text;
-use crate::encoding::encode_text;
+use crate::encoding::{commit_text, encode_text};
 use crate::error::ReedSolomonError;
 use crate::sizes::height_of;
 use cw_base::{Config, Digest, Hasher, Strategy};
@@ -79,6 +80,23 @@ pub trait Scheme {
         ensures refused { IfErr result (λ e. IsEncodeRefusal config.now (length input.now) e) }
     {
         encode_text::<Self::Hasher, R, S>(rt, alloc, config, input, strategy)
+    }
+
+    /// The commitment that [`Scheme::encode`] gives `input`; its chunks and their proofs are not
+    /// made. Refused as `encode` is.
+    final fn commitment<R: Threads + Sync, S: Strategy>(
+        rt: &R,
+        alloc: Global,
+        config: &Config,
+        input: &[u8],
+        strategy: &S,
+    ) -> Result<<Self::Hasher as Hasher>::Digest, ReedSolomonError>
+        ensures committed { IfOk result
+            (λ root. IsEncodingRoot Self.Hasher.digest_of Self.Hasher.Digest.content config.now
+            input.now root) }
+        ensures refused { IfErr result (λ e. IsEncodeRefusal config.now (length input.now) e) }
+    {
+        commit_text::<Self::Hasher, R, S>(rt, alloc, config, input, strategy)
     }
 
     /// The chunk, if it stands under the commitment at `index`.

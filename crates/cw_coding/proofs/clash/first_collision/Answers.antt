@@ -1,4 +1,4 @@
-use Rattle.std.proofs.Common.{ℕ, List, get_or, ◌≡◌, ◌∙◌, ap, sym, arith}
+use Rattle.std.proofs.Common.{ℕ, List, get_or, ◌∙◌, ap, sym, arith}
 use Rattle.cw_coding.proofs.ClashLaws.{told_more, told_there}
 use Rattle.cw_coding.proofs.clash.first_collision.Goals as goal
 

@@ -1,5 +1,4 @@
 use Rattle.std.proofs.Common.{rules, ◌≤◌, IsTrue, inl, inr, arith}
-use Rattle.cw_coding.specs.Totals.{IsWidth}
 use Rattle.cw_coding.proofs.DecodingLaws.{misfit_refuses, wide_refuses, few_refuses, decodable_is}
 use Rattle.cw_coding.proofs.gathering.decodable.Goals as goal
 
