@@ -19,10 +19,15 @@ use std::marker::Model;
 /// of the block that it stands over. In bytes: 8, 8, 2, 8 and 100.
 #[derive(Clone, Copy, Debug, PartialEq, Eq)]
 pub struct Context {
+    /// The epoch that the block was proposed in.
     pub epoch: u64,
+    /// The view that it was proposed in.
     pub view: u64,
+    /// The member that leads the view.
     pub leader: u16,
+    /// The view of the block that it stands over.
     pub parent_view: u64,
+    /// The commitment of the block that it stands over.
     pub parent: Commitment,
 }
 
@@ -154,6 +159,7 @@ impl ChainBlock {
         }
     }
 
+    /// Where it was proposed.
     pub fn context(&self) -> &Context
         ensures { result.now ≡ self.now.context }
     {
@@ -167,6 +173,7 @@ impl ChainBlock {
         self.parent
     }
 
+    /// How many blocks it stands over: 0 for the first one.
     pub fn height(&self) -> u64
         ensures value { result ≡ self.now.height }
         ensures bound { result < 2 ^ 64 - 1 }
@@ -174,6 +181,7 @@ impl ChainBlock {
         self.height
     }
 
+    /// What it carries.
     pub fn payload(&self) -> &Payload
         ensures { result.now ≡ self.now.payload }
     {

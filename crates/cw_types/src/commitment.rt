@@ -16,14 +16,18 @@ use std::cmp::Ordering;
 /// Commitments are ordered field by field, digests byte by byte.
 #[derive(Clone, Copy, Debug)]
 pub struct Commitment {
+    /// The digest of the block's bytes.
     pub block: Digest32,
+    /// The root of the tree over its shards' digests.
     pub root: Digest32,
+    /// The digest of its context's bytes.
     pub context: Digest32,
+    /// How many shards it is cut into.
     pub config: Config,
 }
 
-// Two values of the type may differ in a config that no commitment has, with a zero, where a derive
-// would compare them equal: so the comparisons are written out, and tell all values apart.
+// A clause may name a config with a zero, which no commitment has, and a derived comparison would
+// take it for another. So the comparisons are written out: they tell apart whatever a clause names.
 impl PartialEq for Commitment {
     ghost use Rattle.cw_types.specs.OrderLaws.{commitments_are_told};
     ghost use Rattle.std.specs.Cmp.{partial_equiv_from_equiv};
