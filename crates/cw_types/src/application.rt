@@ -14,6 +14,7 @@ pub trait Verifier: Send + Sync {
     /// Whether a member signed a vote.
     ghost signs: { Self → ℕ → VoteValue → Bool };
 
+    /// Whether the member signed the vote.
     fn signed(&self, member: u16, vote: &Vote) -> bool
         ensures { result ≡ signs self.now member vote.now };
 }
@@ -27,6 +28,7 @@ pub trait Application: Send + Sync {
     /// Where nothing is made ready ahead: always, unless an application says otherwise.
     ghost waits: { Self → Type 0 } = { λ application. ⊤ };
 
+    /// Whether the block may stand over the other, its parent.
     fn verify(&self, block: &ChainBlock, parent: &ChainBlock) -> bool
         ensures { result ≡ accepts self.now block.now parent.now };
 

@@ -13,10 +13,13 @@ use std::marker::{Model, PhantomData};
 
 /// A block of a chain: it has a height, a digest and its parent's digest.
 pub trait Block: Heightable {
+    /// What a block is known by.
     type Digest;
 
+    /// A block's digest.
     ghost digest_of: { Self → Self.Digest };
 
+    /// The digest of a block's parent.
     ghost parent_of: { Self → Self.Digest };
 
     /// A block's bytes.
@@ -25,6 +28,7 @@ pub trait Block: Heightable {
     /// The block that a text is read as, to its end.
     ghost read_as: { List ℕ → Option Self };
 
+    /// Its digest.
     fn digest(&self) -> Self::Digest
         ensures { result ≡ digest_of self.now };
 
@@ -44,10 +48,13 @@ pub trait Block: Heightable {
 
 /// A block that says where it was proposed.
 pub trait CertifiableBlock: Block {
+    /// Where a block is proposed.
     type Context;
 
+    /// Where a block was proposed.
     ghost context_of: { Self → Self.Context };
 
+    /// Where it was proposed.
     fn context(&self) -> Self::Context
         ensures { result ≡ context_of self.now };
 }

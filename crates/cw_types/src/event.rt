@@ -2,9 +2,9 @@
 
 ghost use Rattle.std.specs.Prelude.{◌≡◌, IfOk};
 
-use crate::block::Payload;
 use crate::commitment::Commitment;
 use crate::message::Message;
+use crate::payload::Payload;
 use crate::vote::Cert;
 use cw_base::{Digest32, Items, NoMemory};
 use std::alloc::Global;
@@ -60,36 +60,48 @@ impl Event {
 pub enum To {
     /// Every member, its sender too.
     All,
+    /// The member of this number.
     One(u16),
 }
 
 /// A message to send.
 #[derive(Debug, Drop, PartialEq, Eq)]
 pub struct Out {
+    /// Whom it goes to.
     pub to: To,
+    /// What is sent.
     pub message: Message,
 }
 
-/// A block handed out.
+/// A finalized block that is handed out: its height, and what names it. The member holds the block
+/// itself under that commitment.
 #[derive(Clone, Copy, Debug, PartialEq, Eq)]
 pub struct Handed {
+    /// The height of the block.
     pub height: u64,
+    /// The commitment that the block is held under.
     pub commitment: Commitment,
+    /// The digest of the block's bytes.
     pub digest: Digest32,
 }
 
 /// A ticket: given now where it has no commitment, else the block that it waited for is held.
 #[derive(Clone, Copy, Debug, PartialEq, Eq)]
 pub struct TicketOut {
+    /// The number of the ticket, by which it can be cancelled.
     pub number: u64,
+    /// The commitment of the block that it waited for; none where the ticket is given now.
     pub commitment: Option<Commitment>,
 }
 
 /// What a step gives: the messages to send, the blocks handed out, and tickets, each in order.
 #[derive(Debug, Drop, PartialEq, Eq)]
 pub struct StepOut {
+    /// The messages to send.
     pub sent: Items<Out>,
+    /// The blocks handed out.
     pub handed: Items<Handed>,
+    /// The tickets that are given, and those whose block is held.
     pub tickets: Items<TicketOut>,
 }
 
@@ -109,6 +121,7 @@ impl StepOut {
     }
 }
 
+// Equal messages to send.
 fn copy_outs(alloc: Global, outs: &[Out]) -> Result<Items<Out>, NoMemory>
     ensures { IfOk result (λ copy. copy ≡ outs.now) }
 {

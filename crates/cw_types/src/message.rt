@@ -28,6 +28,7 @@ pub enum Message {
     Shard(Commitment, Chunk<Digest32>),
     /// The signer, and its vote.
     Vote(u16, Vote),
+    /// A certificate.
     Cert(Cert),
     /// A member asks for the block under the commitment.
     Ask(u16, Commitment),

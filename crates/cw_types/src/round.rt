@@ -22,18 +22,21 @@ impl Model for Epoch {
 }
 
 impl Epoch {
+    /// The epoch of this number.
     pub fn new(value: u64) -> Epoch
         ensures { result ≡ value }
     {
         Epoch { value }
     }
 
+    /// Its number.
     pub fn get(self) -> u64
         ensures { result ≡ self }
     {
         self.value
     }
 
+    /// The first epoch.
     pub fn zero() -> Epoch
         ensures { result ≡ 0 }
     {
@@ -58,18 +61,21 @@ impl Model for View {
 }
 
 impl View {
+    /// The view of this number.
     pub fn new(value: u64) -> View
         ensures { result ≡ value }
     {
         View { value }
     }
 
+    /// Its number.
     pub fn get(self) -> u64
         ensures { result ≡ self }
     {
         self.value
     }
 
+    /// View 0, which comes before all views that are voted in.
     pub fn zero() -> View
         ensures { result ≡ 0 }
     {
@@ -94,18 +100,21 @@ impl Model for Height {
 }
 
 impl Height {
+    /// The height of this number.
     pub fn new(value: u64) -> Height
         ensures { result ≡ value }
     {
         Height { value }
     }
 
+    /// Its number.
     pub fn get(self) -> u64
         ensures { result ≡ self }
     {
         self.value
     }
 
+    /// The height of the first block.
     pub fn zero() -> Height
         ensures { result ≡ 0 }
     {
@@ -116,17 +125,21 @@ impl Height {
 /// A view of an epoch.
 #[derive(Clone, Copy, Debug, Default, PartialEq, Eq, PartialOrd, Ord, Hash)]
 pub struct Round {
+    /// The epoch of the view.
     pub epoch: Epoch,
+    /// The view.
     pub view: View,
 }
 
 impl Round {
+    /// That view of that epoch.
     pub fn new(epoch: Epoch, view: View) -> Round
         ensures { result ≡ record { epoch = epoch; view = view } }
     {
         Round { epoch, view }
     }
 
+    /// View 0 of epoch 0: that of the first block.
     pub fn zero() -> Round
         ensures { result ≡ record { epoch = 0; view = 0 } }
     {
@@ -136,22 +149,27 @@ impl Round {
 
 /// What is of an epoch.
 pub trait Epochable {
+    /// The number of its epoch.
     ghost epoch_of: { Self → ℕ };
 
+    /// Its epoch.
     fn epoch(&self) -> Epoch
         ensures { result ≡ epoch_of self.now };
 }
 
 /// What is of a view.
 pub trait Viewable {
+    /// The number of its view.
     ghost view_of: { Self → ℕ };
 
+    /// Its view.
     fn view(&self) -> View
         ensures { result ≡ view_of self.now };
 }
 
 /// What is of a view of an epoch.
 pub trait Roundable: Epochable + Viewable {
+    /// Its view with its epoch.
     fn round(&self) -> Round
         ensures epoch { result.epoch ≡ Self.epoch_of self.now }
         ensures view { result.view ≡ Self.view_of self.now }
@@ -162,8 +180,10 @@ pub trait Roundable: Epochable + Viewable {
 
 /// What has a height.
 pub trait Heightable {
+    /// The number of blocks below it.
     ghost height_of: { Self → ℕ };
 
+    /// Its height.
     fn height(&self) -> Height
         ensures { result ≡ height_of self.now };
 }

@@ -18,10 +18,13 @@ use std::alloc::Global;
 /// A block that is proposed in a view of an epoch, over the block of an earlier view.
 #[derive(Clone, Copy, Debug, PartialEq, Eq)]
 pub struct Proposal {
+    /// The epoch that it is made in.
     pub epoch: u64,
+    /// The view that it is made in.
     pub view: u64,
     /// The view of the block that it stands over.
     pub parent: u64,
+    /// The commitment of the block.
     pub payload: Commitment,
 }
 
@@ -39,7 +42,9 @@ pub enum Vote {
 /// A vote with the numbers of the members that signed it.
 #[derive(Debug, Drop, PartialEq, Eq)]
 pub struct Cert {
+    /// What is signed.
     pub vote: Vote,
+    /// The numbers of the members, in the order in which they are written.
     pub signers: Items<u16>,
 }
 
