@@ -6,7 +6,7 @@ use Rattle.std.specs.Prelude.{Option, Some, None, option_map, option_and_then, u
 use Rattle.std.specs.List.{list_any, list_all, range_with_len}
 use Rattle.std.specs.Option.{option_or, option_map_or}
 use Rattle.cw_base.specs.Counts.{Counts}
-use Rattle.cw_types.specs.Numbers.{config_for}
+use Rattle.cw_types.specs.Numbers.{config_for, quorum}
 
 -- how many members there are, how many heights an epoch covers (none: the first epoch has no end),
 -- and the members of each epoch, rising
@@ -48,6 +48,10 @@ members_in x epoch = list_of x.lists epoch
 -- n of an epoch
 abbrev pub size : Epochs → ℕ → ℕ
 size x epoch = length (members_in x epoch)
+
+-- so many members are a quorum of an epoch
+abbrev pub is_enough : Epochs → ℕ → ℕ → Bool
+is_enough x epoch count = nat_le (quorum (size x epoch)) count
 
 -- in how many chunks the blocks of an epoch are cut
 abbrev pub config_in : Epochs → ℕ → Counts

@@ -6,7 +6,7 @@ ghost use Rattle.std.specs.List.{list_all};
 ghost use Rattle.cw_coding.specs.Totals.{total_of};
 ghost use Rattle.cw_types.specs.Epochs as epochs;
 
-use crate::numbers::config_for;
+use crate::numbers::{config_for, quorum};
 use cw_base::{Config, Items, NoMemory};
 use std::alloc::Global;
 use std::marker::Model;
@@ -145,6 +145,13 @@ impl Committees {
         let _total = self.total();
         let members = self.members(epoch);
         members.len() as u16
+    }
+
+    /// Whether so many members are a [`quorum`] of an epoch. Takes no memory.
+    pub fn is_enough(&self, epoch: u64, count: usize) -> bool
+        ensures { result ≡ epochs.is_enough self.now epoch count }
+    {
+        usize::from(quorum(self.size(epoch))) <= count
     }
 
     /// In how many chunks the blocks of an epoch are cut, as [`config_for`] says. Takes no memory.
