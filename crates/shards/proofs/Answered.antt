@@ -1,14 +1,12 @@
 -- The verdict on a chunk that is kept.
 use Rattle.std.proofs.Common.{◌≡◌, ℕ, ◌+◌, ◌-◌, ◌≤◌, ◌==◌, true, false, if◌then◌else◌, IsTrue, List, [], ◌∷◌, ◌++◌, length, Option, sym, ◌∙◌, ap, subst, arith, ◌⊎◌, inl, inr, eq-eqb, eqb-true, length-append}
-use Rattle.std.specs.List.{AllByRecursion, filter, list_any}
+use Rattle.std.specs.List.{AllByRecursion, list_any}
 use Rattle.std.specs.Option.{option_and_then}
 use Rattle.std.proofs.lemmas.Bool.{and_parts, cases_Bool, cond-false, cond-true}
-use Rattle.std.proofs.lemmas.List.{length-map}
 use Rattle.cw_base.specs.Config.{same_counts}
 use Rattle.cw_base.specs.declared.hash.Digest32.{Digest32}
 use Rattle.cw_types.specs.Block.{Block}
 use Rattle.cw_types.specs.Epochs.{Epochs}
-use Rattle.cw_types.specs.Same.{same_commitment}
 use Rattle.cw_types.specs.declared.commitment.Commitment.{Commitment}
 use Rattle.cw_rules.specs.Accepted.{is_chunk_of}
 use Rattle.cw_rules.specs.Held.{if_committed}
@@ -24,21 +22,12 @@ use Rattle.shards.specs.declared.verdict.Verdict.TheVariants.{Foreign, Kept, Kno
 use Rattle.shards.proofs.KeptLemmas.{chunks_more, keep_more, shown_kept}
 use Rattle.cw_types.proofs.Same.{same_commitment_self}
 
--- how many chunks were kept of a commitment
-abbrev pub count : Commitment → List KeptChunk → ℕ
-count c kept = length (filter (λ (k : KeptChunk). same_commitment c k.commitment) kept)
-
 -- with one more of the same commitment
 pub chunks_with : (c : Commitment) (kept : List KeptChunk) (x : Chunk)
     → chunks_of c (with_chunk kept c x) ≡ chunks_of c kept ++ x ∷ []
 chunks_with c kept x =
     chunks_more c kept c x
     ∙ ap (λ b. chunks_of c kept ++ (if b then x ∷ [] else [])) (same_commitment_self c)
-
-counted : (c : Commitment) (kept : List KeptChunk) → length (chunks_of c kept) ≡ count c kept
-counted c kept =
-    length-map (filter (λ (k : KeptChunk). same_commitment c k.commitment) kept)
-    (λ (k : KeptChunk). k.chunk)
 
 all_under : (hash : List ℕ → Digest32) (epochs : Epochs) (c : Commitment) (xs : List Chunk)
     → AllByRecursion (λ x. IsTrue (is_chunk_of (rules_of hash epochs) c x)) xs → AreUnder hash c xs
@@ -55,14 +44,14 @@ pub enough_kept : (hash : List ℕ → Digest32) (epochs : Epochs) (kept : List 
     (c : Commitment) (x : Chunk)
     → AreTakenOnce (rules_of hash epochs) kept → is_known kept c x ≡ false
     → is_chunk_of (rules_of hash epochs) c x ≡ true → 2 ≤ c.config.minimum
-    → total_of c.config ≤ 65535 → count c kept ≡ c.config.minimum - 1
+    → total_of c.config ≤ 65535 → length (chunks_of c kept) ≡ c.config.minimum - 1
     → AreEnough hash c (chunks_of c kept ++ x ∷ [])
 enough_kept hash epochs kept c x are new taken some few n =
     let more = keep_more (rules_of hash epochs) kept c x are new taken in
     record {
       some = some;
       few = few;
-      enough = omega (arith, length-append (chunks_of c kept) (x ∷ []), counted c kept);
+      enough = omega (arith, length-append (chunks_of c kept) (x ∷ []));
       under =
           all_under hash epochs c (chunks_of c kept ++ x ∷ [])
           (subst (AllByRecursion (λ y. IsTrue (is_chunk_of (rules_of hash epochs) c y)))
@@ -73,15 +62,15 @@ enough_kept hash epochs kept c x are new taken some few n =
 -- the verdict on the k-th chunk
 pub verdict_shown : (r : Rules) (kept : List KeptChunk) (c : Commitment) (x : Chunk)
     (block : Option Block)
-    → 2 ≤ c.config.minimum → count c kept ≡ c.config.minimum - 1
+    → 2 ≤ c.config.minimum → length (chunks_of c kept) ≡ c.config.minimum - 1
     → block ≡ option_and_then (if_committed r c) (block_of r c.config (chunks_of c kept ++ x ∷ []))
     → of_shown block ≡ kept_verdict r kept c x
 verdict_shown r kept c x block some n is =
     let long : length (chunks_of c (with_chunk kept c x)) ≡ c.config.minimum =
     ap length (chunks_with c kept x)
-    ∙ omega (arith, length-append (chunks_of c kept) (x ∷ []), counted c kept) in
+    ∙ omega (arith, length-append (chunks_of c kept) (x ∷ [])) in
     let last : (length (chunks_of c kept) + 1 == c.config.minimum) ≡ true =
-    eq-eqb _ _ (omega (arith, counted c kept)) in
+    eq-eqb _ _ (omega arith) in
     ap of_shown
     (is
     ∙ (ap (λ xs. option_and_then (if_committed r c) (block_of r c.config xs))
@@ -91,7 +80,7 @@ verdict_shown r kept c x block some n is =
 
 -- the verdict on another
 pub verdict_kept : (r : Rules) (kept : List KeptChunk) (c : Commitment) (x : Chunk)
-    → 2 ≤ c.config.minimum → (count c kept ≡ c.config.minimum - 1 → ⊥)
+    → 2 ≤ c.config.minimum → (length (chunks_of c kept) ≡ c.config.minimum - 1 → ⊥)
     → Kept ≡ kept_verdict r kept c x
 verdict_kept r kept c x some other =
     go (cases_Bool (length (chunks_of c kept) + 1 == c.config.minimum))
@@ -99,7 +88,7 @@ verdict_kept r kept c x some other =
     go : ((length (chunks_of c kept) + 1 == c.config.minimum) ≡ true)
         ⊎ ((length (chunks_of c kept) + 1 == c.config.minimum) ≡ false)
         → Kept ≡ kept_verdict r kept c x
-    go (inl t) = absurd (other (let e = eqb-true _ _ t in omega (arith, counted c kept)))
+    go (inl t) = absurd (other (let e = eqb-true _ _ t in omega arith))
     go (inr f) = sym (cond-false (length (chunks_of c kept) + 1 == c.config.minimum) _ Kept f)
 
 -- the verdict on a chunk that isn't known and that the rules take

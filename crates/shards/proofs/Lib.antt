@@ -1,4 +1,6 @@
 pub mod Lists
+pub mod BlockLemmas
+pub mod IndexLemmas
 pub mod Answered
 pub mod KeptLemmas
 pub mod LedUp

@@ -1,8 +1,7 @@
 -- What is kept stands for a member of the rules.
-use Rattle.std.proofs.Common.{◌≡◌, ℕ, ◌+◌, Bool, true, false, ◌&&◌, ◌||◌, ◌==◌, not, if◌then◌else◌, IsFalse, IsTrue, List, [], ◌∷◌, ◌++◌, length, Option, Some, None, refl, sym, ◌∙◌, ap, ◌↔◌, append-nil}
+use Rattle.std.proofs.Common.{◌≡◌, ℕ, ◌+◌, Bool, true, false, ◌&&◌, ◌||◌, ◌==◌, not, if◌then◌else◌, IsFalse, IsTrue, List, [], ◌∷◌, ◌++◌, length, Option, Some, None, refl, ◌∙◌, ap, ◌↔◌, append-nil}
 use Rattle.std.specs.List.{filter_map, list_any}
 use Rattle.std.specs.Option.{option_map_or}
-use Rattle.std.proofs.lemmas.Bool.{cases_Bool}
 use Rattle.std.proofs.lemmas.List.Elements.{filter_map-append}
 use Rattle.cw_base.specs.declared.hash.Digest32.{Digest32}
 use Rattle.cw_types.specs.Block.{Block}
@@ -15,16 +14,16 @@ use Rattle.cw_types.specs.declared.message.Message.{Message}
 use Rattle.cw_types.specs.declared.vote.Proposal.{Proposal}
 use Rattle.cw_types.specs.declared.vote.Vote.{Vote}
 use Rattle.cw_rules.specs.Accepted.{Ballot, Came, Part, Row, Whole, accepted, add_wish, is_chunk_of, is_valid, same_ballot, same_part, take_ballot, take_part, wish_for}
-use Rattle.cw_rules.specs.Held.{row_of, shown}
+use Rattle.cw_rules.specs.Held.{shown}
 use Rattle.cw_rules.specs.Rules.{Chunk, Rules}
 use Rattle.cw_rules.specs.Step.{nothing_came, taken_came}
 use Rattle.cw_rules_coded.specs.Coded.{coded}
 use Rattle.shards.specs.Kept.{Gathered, came_of, chunks_of, is_known, rules_of, with_chunk}
 use Rattle.shards.specs.Standing.{StandsFor, after_event, kept_of}
-use Rattle.shards.specs.Verdicts.{after, kept_after, kept_verdict, of_shown, verdict}
+use Rattle.shards.specs.Verdicts.{after, kept_verdict, of_shown, verdict}
 use Rattle.shards.specs.declared.pieces.KeptChunk.{KeptChunk}
 use Rattle.shards.specs.declared.verdict.Verdict.{Verdict}
-use Rattle.shards.specs.declared.verdict.Verdict.TheVariants.{Foreign, Garbage, Held, Kept, Known}
+use Rattle.shards.specs.declared.verdict.Verdict.TheVariants.{Foreign, Kept, Known}
 
 -- where nothing came nothing is kept
 pub stands_first : (hash : List ℕ → Digest32) (epochs : Epochs) (backlog : ℕ)

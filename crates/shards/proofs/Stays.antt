@@ -14,7 +14,7 @@ use Rattle.cw_rules.specs.Held.{if_committed, row_of, shown, whole_of}
 use Rattle.cw_rules.specs.Rules.{Chunk, Rules, block_of}
 use Rattle.shards.specs.Kept.{Gathered, came_of, chunks_of, is_known, part_of, rules_of, with_chunk}
 use Rattle.shards.specs.Standing.{StandsFor, kept_of}
-use Rattle.shards.specs.Verdicts.{kept_after, kept_verdict, of_shown, verdict}
+use Rattle.shards.specs.Verdicts.{kept_after, of_shown, verdict}
 use Rattle.shards.specs.declared.pieces.KeptChunk.{KeptChunk}
 use Rattle.shards.specs.declared.verdict.Verdict.{Verdict}
 use Rattle.shards.specs.declared.verdict.Verdict.TheVariants.{Foreign, Garbage, Held, Kept, Known}

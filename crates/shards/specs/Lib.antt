@@ -1,4 +1,5 @@
 pub mod Kept
+pub mod Index
 pub mod Verdicts
 pub mod Standing
 pub mod Enough

@@ -1,18 +1,22 @@
 //! The chunks that are kept.
 
-ghost use Rattle.std.specs.Prelude.{◌≡◌, [], IfErr, IfOk, IsFalse, IsTrue, OnErr, OnOk};
+ghost use Rattle.std.specs.BTreeMap.{btree_map_len};
+ghost use Rattle.std.specs.Map.{lookup};
+ghost use Rattle.std.specs.Prelude.{◌≡◌, ◌<◌, ◌==◌, [], IfErr, IfNone, IfOk, IfSome, IsFalse};
+ghost use Rattle.std.specs.Prelude.{IsTrue, OnErr, OnOk, ℕ, find, nat_eq};
 ghost use Rattle.cw_rules.specs.Accepted.{is_chunk_of};
-ghost use Rattle.shards.specs.Kept.{is_known, rules_of};
+ghost use Rattle.shards.specs.Kept.{chunks_of, is_known, rules_of, with_chunk};
 ghost use Rattle.shards.specs.Verdicts.{after, verdict};
 
 use crate::checks::is_chunk_of;
-use crate::pieces::{self, KeptChunk};
+use crate::index::KeptChunks;
 use crate::showing::kept_verdict;
 use crate::verdict::Verdict;
-use cw_base::{Digest32, Hasher, Items, NoMemory, Strategy};
+use cw_base::{Digest32, Hasher, NoMemory, Strategy};
 use cw_coding::Chunk;
 use cw_types::{Commitment, Committees};
 use std::alloc::Global;
+use std::collections::BTreeMap;
 use std::marker::{Model, PhantomData};
 use std::thread::Threads;
 
@@ -34,8 +38,7 @@ use std::thread::Threads;
 #[derive(Drop)]
 pub struct Shards<H: Hasher<Digest = Digest32>> {
     committees: Committees,
-    // an index by commitment and place replaces the scans over this list
-    kept: Items<KeptChunk>,
+    kept: KeptChunks,
     alloc: Global,
     hasher: PhantomData<H>,
 }
@@ -57,10 +60,21 @@ impl<H: Hasher<Digest = Digest32>> Shards<H> {
     {
         Shards {
             committees,
-            kept: Items::new(alloc),
+            kept: KeptChunks::new(alloc),
             alloc,
             hasher: PhantomData,
         }
+    }
+
+    /// The chunks that were kept of a commitment, by index: none exactly where none was kept. Takes
+    /// no memory.
+    pub fn kept(&self, commitment: &Commitment) -> Option<&BTreeMap<u16, Chunk<Digest32>>>
+        ensures some { IfSome result (λ m. (i : ℕ) → lookup (nat_eq i) m.now.entries
+            ≡ find (λ x. x.index == i) (chunks_of commitment.now self.now.kept)) }
+        ensures more { IfSome result (λ m. 0 < btree_map_len m.now) }
+        ensures none { IfNone result (chunks_of commitment.now self.now.kept ≡ []) }
+    {
+        self.kept.by_index(commitment)
     }
 
     /// Takes a chunk that came, under the commitment that it was said to be of. The verdict is the
@@ -88,7 +102,7 @@ impl<H: Hasher<Digest = Digest32>> Shards<H> {
             (λ _. IsTrue (is_chunk_of (rules_of H.digest_of self.old.epochs) commitment.now
             chunk)) }
     {
-        if pieces::is_known(self.kept.as_slice(), commitment, &chunk) {
+        if self.kept.has(commitment, &chunk) {
             drop(chunk);
             return Ok(Verdict::Known);
         }
@@ -100,11 +114,33 @@ impl<H: Hasher<Digest = Digest32>> Shards<H> {
             rt,
             self.alloc,
             &self.committees,
-            self.kept.as_slice(),
+            &self.kept,
             commitment,
             &chunk,
             strategy,
         )?;
-        Ok(pieces::push(&mut self.kept, commitment, chunk, verdict)?)
+        Ok(keep(&mut self.kept, self.alloc, commitment, chunk, verdict)?)
+    }
+}
+
+// Keeps a chunk that isn't known; what is answered to it is then as it was given.
+fn keep(
+    kept: &mut KeptChunks,
+    alloc: Global,
+    commitment: &Commitment,
+    chunk: Chunk<Digest32>,
+    verdict: Verdict,
+) -> Result<Verdict, NoMemory>
+    requires { IsFalse (is_known kept.old commitment.now chunk) }
+    ensures ok { OnOk result (kept.new ≡ with_chunk kept.old commitment.now chunk) }
+    ensures same { IfOk result (λ v. v ≡ verdict) }
+    ensures err { OnErr result (kept.new ≡ kept.old) }
+{
+    match kept.push(alloc, commitment, chunk) {
+        Ok(()) => Ok(verdict),
+        Err(error) => {
+            drop(verdict);
+            Err(error)
+        }
     }
 }

@@ -1,12 +1,14 @@
 //! Chunks that come, and the blocks that they show; and blocks that are cut into chunks.
 //!
-//! A verdict is the cluster rules' own function of the chunks that were kept. The bodies scan a
-//! plain list.
+//! A verdict is the cluster rules' own function of the chunks that were kept. The bodies look them
+//! up by commitment and index.
 #![tactic(auto)]
 
+mod block;
 mod checks;
 mod configs;
 mod cut;
+mod index;
 mod kept;
 mod laws;
 mod pieces;

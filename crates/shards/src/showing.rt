@@ -1,7 +1,7 @@
 //! The block that chunks show.
 
-ghost use Rattle.std.specs.Prelude.{◌&&◌, ◌≡◌, ◌≢◌, ◌≤◌, IfNone, IfOk, IfSome, IsNone, List, false};
-ghost use Rattle.std.specs.Prelude.{ℕ, map, option_and_then, true};
+ghost use Rattle.std.specs.Prelude.{◌&&◌, ◌-◌, ◌==◌, ◌≡◌, ◌≢◌, ◌≤◌, IfNone, IfOk, IfSome, IsNone};
+ghost use Rattle.std.specs.Prelude.{List, false, ℕ, length, map, option_and_then, true};
 ghost use Rattle.cw_base.specs.Config.{same_counts};
 ghost use Rattle.cw_rules.specs.Accepted.{is_chunk_of};
 ghost use Rattle.cw_rules.specs.Held.{if_committed};
@@ -11,12 +11,12 @@ ghost use Rattle.cw_types.specs.Encoding.{block_bytes};
 ghost use Rattle.cw_types.specs.Reading.{block_in};
 ghost use Rattle.cw_types.specs.Same.{same_commitment, same_digest};
 ghost use Rattle.shards.specs.Enough.{AreEnough, AreOfText, IsRooted};
-ghost use Rattle.shards.specs.Kept.{AreTakenOnce, is_known, rules_of};
+ghost use Rattle.shards.specs.Kept.{AreTakenOnce, chunks_of, is_known, rules_of};
 ghost use Rattle.shards.specs.Verdicts.{kept_verdict};
 
 use crate::checks::checked_all;
+use crate::index::KeptChunks;
 use crate::laws::coder_laws;
-use crate::pieces::{self, KeptChunk};
 use crate::verdict::Verdict;
 use cw_base::{Config, Digest32, Hasher, NoMemory, Strategy};
 use cw_coding::{Chunk, ReedSolomon, ReedSolomonError, Scheme, encodings_decode};
@@ -151,7 +151,7 @@ pub(crate) fn kept_verdict<H: Hasher<Digest = Digest32>, R: Threads + Sync, S: S
     rt: &R,
     alloc: Global,
     committees: &Committees,
-    kept: &[KeptChunk],
+    kept: &KeptChunks,
     commitment: &Commitment,
     chunk: &Chunk<Digest32>,
     strategy: &S,
@@ -165,13 +165,21 @@ pub(crate) fn kept_verdict<H: Hasher<Digest = Digest32>, R: Threads + Sync, S: S
     ensures { IfOk result (λ verdict. verdict
         ≡ kept_verdict (rules_of H.digest_of committees.now) kept.now commitment.now chunk.now) }
 {
-    if !pieces::lack_one(kept, commitment) {
+    if !lack_one(kept, commitment) {
         return Ok(Verdict::Kept);
     }
-    let chunks = pieces::chunks_with(alloc, kept, commitment, chunk)?;
+    let chunks = kept.chunks_with(alloc, commitment, chunk)?;
     let block = shown::<H, R, S>(rt, alloc, committees, commitment, &chunks, strategy)?;
     match block {
         Some(block) => Ok(Verdict::Held(block)),
         None => Ok(Verdict::Garbage),
     }
+}
+
+// Whether all but one of the chunks that show a block were kept of a commitment.
+fn lack_one(kept: &KeptChunks, commitment: &Commitment) -> bool
+    ensures { result ≡ (length (chunks_of commitment.now kept.now)
+        == commitment.now.config.minimum - 1) }
+{
+    kept.count(commitment) == usize::from(commitment.config.minimum() - 1)
 }

@@ -1,4 +1,4 @@
-use Rattle.std.proofs.Common.{◌≡◌, ◌∙◌, ap, false, subst, sym, true}
+use Rattle.std.proofs.Common.{◌≡◌, ◌∙◌, false, subst, sym, true}
 use Rattle.cw_rules.specs.Accepted.{is_chunk_of}
 use Rattle.shards.specs.Kept.{AreTakenOnce, Gathered, is_known, rules_of}
 use Rattle.shards.specs.Verdicts.{kept_verdict, verdict}
@@ -6,13 +6,15 @@ use Rattle.shards.proofs.Answered.{verdict_taken}
 use Rattle.shards.proofs.KeptLemmas.{keep_more}
 use Rattle.shards.proofs.kept.Shards.take.Goals as goal
 
+pub keep-requires : goal.keep-requires
+keep-requires g c = sym c.has.ensures ∙ c.if-has.false
+
 pub invariant_of-self-2 : goal.invariant_of-self-2
 invariant_of-self-2 g c =
     let r = rules_of g.H.Hasher.digest_of c.self.inside.committees in
-    subst (AreTakenOnce r) (sym c.in_ok-push.ensures.ok)
+    subst (AreTakenOnce r) (sym c.in_ok-keep.ensures.ok)
     (keep_more r c.self.inside.kept c.args.commitment.now c.args.chunk c.self.invariant
-    (ap (λ ks. is_known ks c.args.commitment.now c.args.chunk) (sym c.as_slice.ensures)
-    ∙ (sym c.is_known.ensures ∙ c.if-is_known.false))
+    (sym c.has.ensures ∙ c.if-has.false)
     (sym c.is_chunk_of.ensures.value ∙ c.if-not-is_chunk_of.false))
 
 pub returns-clause-verdict : goal.returns-clause-verdict
@@ -20,16 +22,13 @@ returns-clause-verdict g c =
     let hash = g.H.Hasher.digest_of in
     let r = rules_of hash c.self.inside.committees in
     let new : is_known c.self.inside.kept c.args.commitment.now c.args.chunk ≡ false =
-    ap (λ ks. is_known ks c.args.commitment.now c.args.chunk) (sym c.as_slice.ensures)
-    ∙ (sym c.is_known.ensures ∙ c.if-is_known.false) in
+    sym c.has.ensures ∙ c.if-has.false in
     let taken : is_chunk_of r c.args.commitment.now c.args.chunk ≡ true =
     sym c.is_chunk_of.ensures.value ∙ c.if-not-is_chunk_of.false in
     let kept : c.in_ok-verdict.verdict
     ≡ kept_verdict r c.self.inside.kept c.args.commitment.now c.args.chunk =
-    c.in_ok-verdict.ensures
-    ∙ ap (λ ks. kept_verdict r ks c.args.commitment.now c.args.chunk)
-    c.as_slice-2.ensures in
-    c.in_ok-push.ensures.same
+    c.in_ok-verdict.ensures in
+    c.in_ok-keep.ensures.same
     ∙ subst
     (λ (t : Gathered). c.in_ok-verdict.verdict
     ≡ verdict (rules_of hash t.epochs) t.kept c.args.commitment.now c.args.chunk)
