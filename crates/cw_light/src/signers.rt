@@ -10,7 +10,7 @@ ghost use Rattle.cw_types.specs.Epochs as epochs;
 ghost use Rattle.cw_types.specs.Votes.{vote_epoch};
 ghost use Rattle.std.specs.Prelude.{List};
 
-use cw_types::{Cert, Committees, Verifier, Vote, quorum, well_formed};
+use cw_types::{Cert, Committees, Verifier, Vote, well_formed};
 
 /// Whether a quorum of the members of its epoch, in the order of their numbers, signed the
 /// certificate's well-formed vote.
@@ -23,7 +23,7 @@ pub fn is_valid<V: Verifier>(committees: &Committees, verifier: &V, cert: &Cert)
     well_formed(&cert.vote)
         && rises(0, signers)
         && all_signed(committees, verifier, &cert.vote, signers)
-        && quorum(committees.size(cert.vote.epoch())) as usize <= signers.len()
+        && committees.is_enough(cert.vote.epoch(), signers.len())
 }
 
 // Whether the numbers rise from `low` on.
