@@ -28,6 +28,7 @@ mod votes;
 mod world;
 
 pub use frame::{Early, Exit, end_early, finish, run_source};
+pub use hail_script::{LaneScript, RunError, Script};
 pub use lane_program::lanes_program;
 pub use program::run_program;
 pub use report::{Acked, Entry, Ran, Report, Sent};
