@@ -3,7 +3,6 @@
 use cw_base::{CodecError, Config, Digest32, Failed, NoMemory};
 use cw_types::Commitment;
 use node_disk::{DiskError, StoreError};
-use rs_code::PlanError;
 use std::test::Fail;
 
 const CODEC: [(CodecError, &str); 6] = [
@@ -53,21 +52,6 @@ fn errors_are_told_in_words(rt: HostRuntime) -> Result<(), Fail> {
     }
     let shared = format!(in alloc; "{}, {}", NoMemory, Failed)?;
     assert_eq!(rt; shared.as_str(), "memory is short, a source or a sink failed");
-    Ok(())
-}
-
-const PLAN: [(PlanError, &str); 4] = [
-    (PlanError::TooFew, "PLAN"),
-    (PlanError::OutOfRange(9), "PLAN"),
-    (PlanError::Duplicate(3), "PLAN"),
-    (PlanError::NoMemory, "PLAN"),
-];
-
-#[test]
-fn a_plan_tells_which_index_it_refused(rt: HostRuntime) -> Result<(), Fail> {
-    for (error, want) in PLAN {
-        assert_eq!(rt; format!(in rt.alloc(); "{error}")?.as_str(), want);
-    }
     Ok(())
 }
 
