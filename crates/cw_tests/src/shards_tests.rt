@@ -117,11 +117,7 @@ fn a_chunk_of_another_config_or_root_is_foreign(rt: HostRuntime) -> Result<(), F
 }
 
 // the chunks that are kept of a commitment, each with its index
-fn kept(
-    alloc: Global,
-    shards: &Shards<Sha256>,
-    commitment: &Commitment,
-) -> Result<String, Fail> {
+fn kept(alloc: Global, shards: &Shards<Sha256>, commitment: &Commitment) -> Result<String, Fail> {
     let mut text = String::new(alloc);
     match shards.kept(commitment) {
         Some(chunks) => {
@@ -143,7 +139,10 @@ fn kept_chunks_are_found_by_index(rt: HostRuntime) -> Result<(), Fail> {
         told(&rt, rt.alloc(), &mut shards, &commitment, at)?;
     }
     let all = kept(rt.alloc(), &shards, &commitment)?;
-    assert_eq!(rt; all.as_str(), "0 [0, 0, 0, 1] 1 [1, 0, 0, 0] 2 [2, 0, 0, 4] ");
+    assert_eq!(rt;
+        all.as_str(),
+        "0 [0, 0, 0, 1] 1 [1, 0, 0, 0] 2 [2, 0, 0, 4] "
+    );
     let other = under(Digest32([9; 32]), two);
     assert_eq!(rt; kept(rt.alloc(), &shards, &other)?.as_str(), "none");
     Ok(())

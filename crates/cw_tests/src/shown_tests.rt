@@ -51,7 +51,10 @@ fn errors_are_told_in_words(rt: HostRuntime) -> Result<(), Fail> {
         assert_eq!(rt; format!(in alloc; "{error}")?.as_str(), want);
     }
     let shared = format!(in alloc; "{}, {}", NoMemory, Failed)?;
-    assert_eq!(rt; shared.as_str(), "memory is short, a source or a sink failed");
+    assert_eq!(rt;
+        shared.as_str(),
+        "memory is short, a source or a sink failed"
+    );
     Ok(())
 }
 
