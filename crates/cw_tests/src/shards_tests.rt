@@ -116,6 +116,38 @@ fn a_chunk_of_another_config_or_root_is_foreign(rt: HostRuntime) -> Result<(), F
     Ok(())
 }
 
+// the chunks that are kept of a commitment, each with its index
+fn kept(alloc: Global, shards: &Shards<Sha256>, commitment: &Commitment) -> Result<String, Fail> {
+    let mut text = String::new(alloc);
+    match shards.kept(commitment) {
+        Some(chunks) => {
+            for (index, chunk) in chunks.iter() {
+                text.push_str(&format!(in alloc; "{index} {:?} ", chunk.shard())?)?;
+            }
+        }
+        None => text.push_str("none")?,
+    }
+    Ok(text)
+}
+
+#[test]
+fn kept_chunks_are_found_by_index(rt: HostRuntime) -> Result<(), Fail> {
+    let two = NonZeroU16::MIN.saturating_add(1);
+    let commitment = under(tree(rt.alloc())?.root(), two);
+    let mut shards = four::<Sha256>(rt.alloc())?;
+    for at in 0..3 {
+        told(&rt, rt.alloc(), &mut shards, &commitment, at)?;
+    }
+    let all = kept(rt.alloc(), &shards, &commitment)?;
+    assert_eq!(rt;
+        all.as_str(),
+        "0 [0, 0, 0, 1] 1 [1, 0, 0, 0] 2 [2, 0, 0, 4] "
+    );
+    let other = under(Digest32([9; 32]), two);
+    assert_eq!(rt; kept(rt.alloc(), &shards, &other)?.as_str(), "none");
+    Ok(())
+}
+
 // the block of view 1 over the first one with the payload "hi"
 fn block(alloc: Global) -> Result<ChainBlock, Fail> {
     let context = Context {
