@@ -125,6 +125,32 @@ fn three_members_owe_a_certificate_and_two_owe_none(rt: HostRuntime) -> Result<(
     Ok(())
 }
 
+// whether these are the members that are known to have nullified the view, and some are
+fn have_nullified(
+    alloc: Global,
+    tally: &Tally<SumHasher>,
+    view: u64,
+    want: &[u16],
+) -> Result<bool, Fail> {
+    match tally.signers(&Vote::Nullify { epoch: 0, view }) {
+        Some(signers) => {
+            let signers: Vec<u16> = signers.iter().copied().collect(alloc)?;
+            Ok(!want.is_empty() && signers.as_slice() == want)
+        }
+        None => Ok(false),
+    }
+}
+
+#[test]
+fn the_signers_of_a_vote_are_the_members_that_are_known(rt: HostRuntime) -> Result<(), Fail> {
+    let tally = with_votes(tally(rt.alloc(), 0)?, &[3, 9, 1])?;
+    assert!(rt; have_nullified(rt.alloc(), &tally, 1, &[1, 3])?);
+    assert!(rt; tally.signers(&Vote::Nullify { epoch: 0, view: 2 }).is_none());
+    let tally = with_note(tally, Note::Vote(NULLIFY))?;
+    assert!(rt; have_nullified(rt.alloc(), &tally, 1, &[0, 1, 3])?);
+    Ok(())
+}
+
 // a certificate came, and then three votes of the same
 fn with_certificate(alloc: Global) -> Result<Tally<SumHasher>, Fail> {
     let mut tally = tally(alloc, 0)?;

@@ -1,5 +1,5 @@
 -- The height of the block under a commitment, and the last height of an epoch.
-use Rattle.std.proofs.Common.{◌≡◌, ◌&&◌, ◌==◌, ◌-◌, ◌^◌, ◌<◌, ◌⊎◌, inl, inr, ℕ, Bool, true, false, if◌then◌else◌, nat_lt, List, Option, Some, None, option_and_then, refl, arith}
+use Rattle.std.proofs.Common.{◌≡◌, ◌&&◌, ◌==◌, ◌-◌, ◌^◌, ◌<◌, ◌⊎◌, inl, inr, ℕ, true, false, if◌then◌else◌, nat_lt, List, Option, Some, None, option_and_then, refl, arith}
 use Rattle.std.specs.Option.{option_map_or}
 use Rattle.std.proofs.lemmas.Bool.{cases_Bool}
 use Rattle.cw_types.specs.Epochs.{Epochs, height_of_block, is_last, last_block_height, last_height}

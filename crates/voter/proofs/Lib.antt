@@ -4,9 +4,15 @@ pub mod Candidates
 pub mod Certified
 pub mod Formed
 pub mod Heights
+pub mod InSets
 pub mod Kept
+pub mod Keys
+pub mod KnownSigners
 pub mod Lists
 pub mod Places
+pub mod Rising
 pub mod Signers
+pub mod Signing
 pub mod StepDown
+pub mod Taking
 pub mod Voted

@@ -54,7 +54,7 @@ there_passes q (y ∷ ys) i a h =
     go (inr e) here more = more (rw e at h)
 
 -- what rises and is below the total, of a committee
-committee_rises : (total : ℕ) (list : List ℕ) → is_committee total list ≡ true
+pub committee_rises : (total : ℕ) (list : List ℕ) → is_committee total list ≡ true
     → (rises_from 0 list ≡ true) × (list_all (λ i. nat_lt i total) list ≡ true)
 committee_rises total list h =
     let p =

@@ -1,13 +1,15 @@
 -- What a tally holds, as a record of lists, and how the rules see it.
-use Rattle.std.specs.Prelude.{[], ℕ, ◌&&◌, ◌++◌, ◌==◌, ◌∷◌, Bool, List, None, Option, Some, false, map, true}
+use Rattle.std.specs.Prelude.{[], ℕ, ◌&&◌, ◌++◌, ◌==◌, ◌∷◌, Bool, List, None, Option, Some, false, filter, map, true}
 use Rattle.cw_base.specs.declared.hash.Digest32.{Digest32}
 use Rattle.cw_types.specs.Encoding.{block_bytes, context_bytes}
-use Rattle.cw_types.specs.Epochs.{Epochs}
+use Rattle.cw_types.specs.Epochs.{Epochs, members_in}
 use Rattle.cw_types.specs.Same.{same_commitment, same_vote}
+use Rattle.cw_types.specs.Votes.{vote_epoch}
 use Rattle.cw_types.specs.declared.commitment.Commitment.{Commitment}
 use Rattle.cw_types.specs.declared.note.Note.{Note}
 use Rattle.cw_types.specs.declared.vote.Vote.{Vote}
 use Rattle.cw_rules.specs.Accepted.{Ballot, Came, Many, Part, Row, Single, State, take_ballot}
+use Rattle.cw_rules.specs.Owed.{knows}
 use Rattle.cw_rules.specs.Rules.{Rules}
 use Rattle.voter.specs.declared.own.OwnChunk.{OwnChunk}
 
@@ -87,6 +89,16 @@ with_ballot t x = record {
   ballots = (take_ballot (came_of t) true x).ballots;
   own = t.own;
 }
+
+-- those, unless there are none
+abbrev pub unless_empty : {X : Type 0} → List X → Option (List X)
+unless_empty [] = None
+unless_empty (x ∷ xs) = Some (x ∷ xs)
+
+-- the members of its epoch that are known to have signed the vote, rising, if there are some
+abbrev pub known_signers : Known → Vote → Option (List ℕ)
+known_signers t v =
+    unless_empty (filter (knows t.id (state_of t) v) (members_in t.epochs (vote_epoch v)))
 
 -- ---- what came
 

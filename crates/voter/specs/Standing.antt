@@ -1,5 +1,6 @@
 -- The member of the rules that a tally stands for.
 use Rattle.std.specs.Prelude.{◌≡◌, ℕ, ◌&&◌, ◌-◌, Bool, IsTrue, List, None, Option, Some, if◌then◌else◌, min, true}
+use Rattle.std.specs.BTreeSet.{BTreeSet}
 use Rattle.std.specs.List.{list_all, list_any}
 use Rattle.cw_base.specs.declared.hash.Digest32.{Digest32}
 use Rattle.cw_types.specs.Block.{Block}
@@ -16,6 +17,8 @@ use Rattle.cw_rules.specs.Owed.{all_nullified, ballot_vote, is_row_at}
 use Rattle.cw_rules.specs.Rules.{Rules}
 use Rattle.note_scans.specs.Countable.{is_countable}
 use Rattle.voter.specs.Known.{Known, is_own_at}
+use Rattle.voter.specs.Signing.{HaveSigners}
+use Rattle.voter.specs.declared.key.VoteKey.{VoteKey}
 
 -- the tally has the member's committees, its notes, the votes and certificates that came to it, and
 -- those chunks that came and stand at its place of some epoch
@@ -42,11 +45,13 @@ abbrev pub is_signed : Epochs → Ballot → Bool
 is_signed x (Single i v) = true
 is_signed x (Many s) = are_signers x s.vote s.signers
 
--- what a tally holds may be counted
-pub record AreCountable (epochs : Epochs) (notes : List Note) (ballots : List Ballot) : Type 0 where
+-- what a tally holds may be counted, and its sets are those of the signers
+pub record IsTally (epochs : Epochs) (id : ℕ) (notes : List Note) (ballots : List Ballot)
+    (came known : List (VoteKey × BTreeSet ℕ)) : Type 0 where
   pub countable : IsTrue (list_all is_countable notes)
   pub formed : IsTrue (list_all is_formed ballots)
   pub signed : IsTrue (list_all (is_signed epochs) ballots)
+  pub signers : HaveSigners epochs id notes ballots came known
 
 -- the member once that came
 abbrev pub with_came : State → Came → State

@@ -73,17 +73,6 @@ impl Ballot {
         }
     }
 
-    /// Whether it is this vote of that member.
-    pub(crate) fn is_single(&self, signer: u16, vote: &Vote) -> bool
-        ensures vote { result ≡ rule.is_single signer vote.now self.now }
-        ensures same { result ≡ same_ballot (Single signer vote.now) self.now }
-    {
-        match &self.kind {
-            Kind::Single(other, voted) => signer == *other && vote.is_same(voted),
-            Kind::Many(_) => false,
-        }
-    }
-
     /// Whether it is this certificate.
     pub(crate) fn is_cert(&self, cert: &Cert) -> bool
         ensures { result ≡ same_ballot (Many cert.now) self.now }

@@ -12,7 +12,7 @@ ghost use Rattle.cw_types.specs.Numbers.{quorum};
 ghost use Rattle.cw_types.specs.Votes.{vote_epoch, well_formed};
 ghost use Rattle.cw_types.specs.declared.note.Note.{Note};
 ghost use Rattle.note_scans.specs.Countable.{is_countable};
-ghost use Rattle.voter.specs.Known.{ballot_signers, is_cert_for, state_of, vote_rules};
+ghost use Rattle.voter.specs.Known.{ballot_signers, is_cert_for, known_signers, state_of, vote_rules};
 ghost use Rattle.voter.specs.Owing as owing;
 ghost use Rattle.voter.specs.Standing.{are_signers};
 
@@ -21,14 +21,24 @@ use crate::tally::Tally;
 use cw_base::{Digest32, Hasher, Items, NoMemory};
 use cw_types::{Cert, Vote, quorum};
 use std::alloc::Global;
+use std::collections::BTreeSet;
 
 impl<H> Tally<H> {
-    // Whether this member is known to have signed the vote.
-    fn knows(&self, vote: &Vote, member: u16) -> bool
-        ensures { result ≡ rule.knows self.now.id (state_of self.now) vote.now member }
+    /// The members of its epoch that are known to have signed a vote, rising: those whose vote came,
+    /// and the member itself where it noted its own. None where there is none. Takes no memory.
+    pub fn signers(&self, vote: &Vote) -> Option<&BTreeSet<u16>>
+        ensures { option_map (λ signers. signers.now.keys) result
+            ≡ known_signers self.now vote.now }
     {
-        self.has_voted_so(vote, member)
-            || (member == self.id && note_scans::has_vote(self.notes.as_slice(), vote))
+        // A committee rises, and so does a set, which is asked for its order by its length.
+        let _members = self.committees.members(vote.epoch());
+        match self.index.known.get(vote) {
+            Some(signers) => {
+                let _count = signers.len();
+                Some(signers)
+            }
+            None => None,
+        }
     }
 
     // Whether this vote of that member came.
@@ -36,10 +46,7 @@ impl<H> Tally<H> {
         ensures vote { result ≡ list_any (rule.is_single member vote.now) self.now.ballots }
         ensures same { result ≡ list_any (same_ballot (Single member vote.now)) self.now.ballots }
     {
-        self.ballots
-            .as_slice()
-            .iter()
-            .any(|ballot| ballot.is_single(member, vote))
+        self.index.came.has(vote, member)
     }
 
     // How many members are known to have signed the vote.
@@ -48,11 +55,10 @@ impl<H> Tally<H> {
             (filter (rule.knows self.now.id (state_of self.now) vote.now)
             (members_in self.now.epochs (vote_epoch vote.now))) }
     {
-        self.committees
-            .members(vote.epoch())
-            .iter()
-            .filter(|member| self.knows(vote, **member))
-            .count()
+        match self.signers(vote) {
+            Some(signers) => signers.len(),
+            None => 0,
+        }
     }
 
     // The members that are known to have signed the vote, rising.
@@ -61,14 +67,13 @@ impl<H> Tally<H> {
             ≡ filter (rule.knows self.now.id (state_of self.now) vote.now)
             (members_in self.now.epochs (vote_epoch vote.now))) }
     {
-        let known = self
-            .committees
-            .members(vote.epoch())
-            .iter()
-            .copied()
-            .filter(|member| self.knows(vote, *member))
-            .collect(alloc)?;
-        Ok(known)
+        match self.signers(vote) {
+            Some(signers) => {
+                let known = signers.iter().copied().collect(alloc)?;
+                Ok(known)
+            }
+            None => Ok(Vec::new(alloc)),
+        }
     }
 
     // Whether no certificate of the vote is noted, and one came or a quorum is known.
@@ -162,7 +167,7 @@ impl<H: Hasher<Digest = Digest32>> Tally<H> {
     }
 
     // The same: they may sign the vote.
-    fn signers(&self, alloc: Global, vote: &Vote) -> Result<Items<u16>, NoMemory>
+    fn certifying(&self, alloc: Global, vote: &Vote) -> Result<Items<u16>, NoMemory>
         ensures value { IfOk result
             (λ signers. signers ≡ unwrap_or
             (option_map ballot_signers (find (is_cert_for vote.now) self.now.ballots))
@@ -195,7 +200,7 @@ impl<H: Hasher<Digest = Digest32>> Tally<H> {
     {
         match self.first_owing() {
             Some(vote) => {
-                let signers = self.signers(alloc, &vote)?;
+                let signers = self.certifying(alloc, &vote)?;
                 Ok(Some(Cert { vote, signers }))
             }
             None => Ok(None),

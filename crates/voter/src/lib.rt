@@ -1,15 +1,19 @@
 //! What a member knows of votes and certificates, and what it owes by it: the tally.
 //!
 //! Each call is a function of what the tally was told. `tally_stands` and `parent_stands` say how
-//! its answers are those of the cluster rules. The bodies scan plain lists.
+//! its answers are those of the cluster rules. Who signed a vote is one look-up; the other bodies
+//! scan plain lists.
 #![tactic(auto)]
 
 mod ballot;
 mod certs;
+mod index;
+mod key;
 mod laws;
 mod own;
 mod parents;
 mod proposals;
+mod signer_sets;
 mod tally;
 mod votes;
 

@@ -1,6 +1,6 @@
 //! The tally: what a member knows, and what it is told.
 
-ghost use Rattle.std.specs.Prelude.{◌≡◌, ◌<◌, IfOk, IsTrue, OnOk, OnErr, not};
+ghost use Rattle.std.specs.Prelude.{◌≡◌, ◌<◌, IfOk, IsTrue, OnOk, OnErr, not, option_map};
 ghost use Rattle.std.specs.List.{list_any};
 ghost use Rattle.cw_rules.specs.Accepted.{Many, Single, same_ballot};
 ghost use Rattle.cw_rules.specs.Notes as rule;
@@ -8,9 +8,11 @@ ghost use Rattle.cw_types.specs.Commit.{genesis_commitment};
 ghost use Rattle.cw_types.specs.Votes as votes;
 ghost use Rattle.note_scans.specs.Countable.{is_countable};
 ghost use Rattle.voter.specs.Known.{unknowing, with_ballot, with_note, with_own};
+ghost use Rattle.voter.specs.Signing.{counted_vote};
 ghost use Rattle.voter.specs.Standing.{are_signers};
 
 use crate::ballot::Ballot;
+use crate::index::Index;
 use crate::own::OwnChunk;
 use cw_base::{Digest32, Hasher, Items, NoMemory};
 use cw_types::{Cert, Commitment, Committees, Note, Vote, genesis_commitment};
@@ -40,24 +42,26 @@ use std::marker::{Model, PhantomData};
 pub struct Tally<H> {
     pub(crate) committees: Committees,
     pub(crate) id: u16,
-    // an index replaces the scans over these lists
     pub(crate) notes: Items<Note>,
     pub(crate) ballots: Items<Ballot>,
     pub(crate) own: Items<OwnChunk>,
+    // in place of searches for signers
+    pub(crate) index: Index,
     alloc: Global,
     hasher: PhantomData<H>,
 }
 
 impl<H> Model for Tally<H> {
     ghost use Rattle.voter.specs.Known.{Known};
-    ghost use Rattle.voter.specs.Standing.{AreCountable};
+    ghost use Rattle.voter.specs.Standing.{IsTally};
 
     ghost Value = { Known };
 
     ghost view = { λ t. record
         { epochs = t.committees; id = t.id; notes = t.notes; ballots = t.ballots; own = t.own } };
 
-    ghost invariant = { λ t. AreCountable t.committees t.notes t.ballots };
+    ghost invariant = { λ t. IsTally t.committees t.id t.notes t.ballots
+        t.index.came.by_vote.entries t.index.known.by_vote.entries };
 }
 
 impl<H: Hasher<Digest = Digest32>> Tally<H> {
@@ -72,6 +76,7 @@ impl<H: Hasher<Digest = Digest32>> Tally<H> {
             notes: Items::new(alloc),
             ballots: Items::new(alloc),
             own: Items::new(alloc),
+            index: Index::new(alloc),
             alloc,
             hasher: PhantomData,
         }
@@ -99,9 +104,32 @@ impl<H> Tally<H> {
         ensures ok { OnOk result (self.new ≡ with_note self.old note.now) }
         ensures err { OnErr result (self.new ≡ self.old) }
     {
+        let counted = self.counted_vote(note);
         let copy = note.copy(self.alloc)?;
+        let len = self.notes.len();
         self.notes.push(copy)?;
+        if let Err(NoMemory) = self.index.take_note(self.id, counted) {
+            self.notes.truncate(len);
+            return Err(NoMemory);
+        }
         Ok(())
+    }
+
+    // The vote of the member's own that a note is, where it is a member of the vote's epoch.
+    fn counted_vote<'a>(&self, note: &'a Note) -> Option<&'a Vote>
+        ensures { option_map (λ vote. vote.now) result
+            ≡ counted_vote self.now.epochs self.now.id note.now }
+    {
+        match note {
+            Note::Vote(vote) => {
+                if self.committees.is_member(vote.epoch(), self.id) {
+                    Some(vote)
+                } else {
+                    None
+                }
+            }
+            _ => None,
+        }
     }
 
     /// Takes a vote that member `signer` signed; true exactly where it wasn't there. Where memory
@@ -117,7 +145,13 @@ impl<H> Tally<H> {
         if self.has_voted_so(vote, signer) {
             return Ok(false);
         }
+        let counts = self.committees.is_member(vote.epoch(), signer);
+        let len = self.ballots.len();
         self.ballots.push(Ballot::single(signer, *vote))?;
+        if let Err(NoMemory) = self.index.take_vote(signer, vote, counts) {
+            self.ballots.truncate(len);
+            return Err(NoMemory);
+        }
         Ok(true)
     }
 

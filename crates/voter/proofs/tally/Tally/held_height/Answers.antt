@@ -1,4 +1,4 @@
-use Rattle.std.proofs.Common.{◌≡◌, false, ◌∙◌, ap, sym, option_map, Some}
+use Rattle.std.proofs.Common.{◌∙◌, ap, sym, option_map, Some}
 use Rattle.cw_types.specs.Block.{Block}
 use Rattle.cw_types.specs.Same.{same_commitment}
 use Rattle.voter.specs.Known.{vote_rules}

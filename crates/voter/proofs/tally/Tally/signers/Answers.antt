@@ -1,54 +1,39 @@
-use Rattle.std.proofs.Common.{◌≡◌, ◌≤◌, true, length, arith, ap, subst, sym, ◌∙◌}
-use Rattle.std.specs.List.{list_all}
+use Rattle.std.proofs.Common.{◌≡◌, ◌∙◌, ap, option_map, subst, sym, true}
 use Rattle.cw_types.specs.Epochs.{is_committee, members_in}
 use Rattle.cw_types.specs.Votes.{vote_epoch}
-use Rattle.cw_rules.specs.Owed.{knows}
-use Rattle.voter.specs.Known.{Known, state_of}
-use Rattle.voter.specs.Standing.{are_signers, is_signed}
-use Rattle.voter.proofs.Signers.{chosen_few, chosen_sign}
+use Rattle.voter.specs.Known.{Known}
+use Rattle.voter.specs.Signing.{HaveSigners}
+use Rattle.voter.proofs.KnownSigners.{known_found, known_missing}
 use Rattle.voter.proofs.tally.Tally.signers.Goals as goal
 
-pub returns-clause-signed : goal.returns-clause-signed
-returns-clause-signed g c =
+pub returns-in-Some : goal.returns-in-Some
+returns-in-Some g c =
+    let came = c.self.inside.index.came.by_vote.entries in
+    let known = c.self.inside.index.known.by_vote.entries in
+    let are : HaveSigners c.args.self.now.epochs c.args.self.now.id c.args.self.now.notes
+    c.args.self.now.ballots came known =
+    subst (λ (k : Known). HaveSigners k.epochs k.id k.notes k.ballots came known) c.self.view_is
+    c.self.invariant.signers in
     let at : c.members-members.result.now
     ≡ members_in c.args.self.now.epochs (vote_epoch c.args.vote.now) =
     c.members-members.ensures.value
     ∙ (ap (members_in c.self.inside.committees) c.epoch.ensures
     ∙ ap (λ (k : Known). members_in k.epochs (vote_epoch c.args.vote.now))
     c.self.view_is) in
-    let committee : is_committee c.self.inside.committees.total
-    (members_in c.args.self.now.epochs (vote_epoch c.args.vote.now))
-    ≡ true =
-    subst (λ xs. is_committee c.self.inside.committees.total xs ≡ true) at
-    c.members-members.ensures.committee in
-    let signed : list_all (is_signed c.args.self.now.epochs) c.args.self.now.ballots ≡ true =
-    subst (λ k. list_all (is_signed k.epochs) k.ballots ≡ true) c.self.view_is
-    c.self.invariant.signed in
-    subst (λ xs. are_signers c.args.self.now.epochs c.args.vote.now xs ≡ true)
-    (sym c.in_ok-signers.ensures)
-    (chosen_sign c.args.self.now.epochs c.args.vote.now c.self.inside.committees.total
-    c.args.self.now.ballots
-    (knows c.args.self.now.id (state_of c.args.self.now) c.args.vote.now) committee signed)
+    known_found c.args.self.now c.args.vote.now came known are c.self.inside.committees.total
+    c.in-Some.signers.now
+    (sym c.get.ensures ∙ ap (option_map (λ members. members.now)) c.in-Some.is)
+    c.len-count.ensures.ordered
+    (subst (λ xs. is_committee c.self.inside.committees.total xs ≡ true) at
+    c.members-members.ensures.committee)
 
-pub returns-clause-few : goal.returns-clause-few
-returns-clause-few g c =
-    let at : c.members-members.result.now
-    ≡ members_in c.args.self.now.epochs (vote_epoch c.args.vote.now) =
-    c.members-members.ensures.value
-    ∙ (ap (members_in c.self.inside.committees) c.epoch.ensures
-    ∙ ap (λ (k : Known). members_in k.epochs (vote_epoch c.args.vote.now))
-    c.self.view_is) in
-    let committee : is_committee c.self.inside.committees.total
-    (members_in c.args.self.now.epochs (vote_epoch c.args.vote.now))
-    ≡ true =
-    subst (λ xs. is_committee c.self.inside.committees.total xs ≡ true) at
-    c.members-members.ensures.committee in
-    let signed : list_all (is_signed c.args.self.now.epochs) c.args.self.now.ballots ≡ true =
-    subst (λ k. list_all (is_signed k.epochs) k.ballots ≡ true) c.self.view_is
-    c.self.invariant.signed in
-    let few = subst (λ xs. length xs ≤ c.self.inside.committees.total) (sym c.in_ok-signers.ensures)
-    (chosen_few c.args.self.now.epochs c.args.vote.now c.self.inside.committees.total
-    c.args.self.now.ballots
-    (knows c.args.self.now.id (state_of c.args.self.now) c.args.vote.now) committee signed) in
-    let fits = c.total-total.type_inv in
-    omega (arith, few, c.total-total.ensures)
+pub returns-in-None : goal.returns-in-None
+returns-in-None g c =
+    let came = c.self.inside.index.came.by_vote.entries in
+    let known = c.self.inside.index.known.by_vote.entries in
+    let are : HaveSigners c.args.self.now.epochs c.args.self.now.id c.args.self.now.notes
+    c.args.self.now.ballots came known =
+    subst (λ (k : Known). HaveSigners k.epochs k.id k.notes k.ballots came known) c.self.view_is
+    c.self.invariant.signers in
+    known_missing c.args.self.now c.args.vote.now came known are
+    (sym c.get.ensures ∙ ap (option_map (λ members. members.now)) c.in-None.is)

@@ -1,0 +1,26 @@
+use Rattle.std.proofs.Common.{◌≡◌, [], List, refl, subst, sym, true}
+use Rattle.std.specs.List.{list_all}
+use Rattle.cw_types.specs.declared.note.Note.{Note}
+use Rattle.cw_rules.specs.Accepted.{Ballot}
+use Rattle.note_scans.specs.Countable.{is_countable}
+use Rattle.voter.specs.Signing.{HaveSigners}
+use Rattle.voter.specs.Standing.{is_formed, is_signed}
+use Rattle.voter.proofs.tally.Tally.new.Goals as goal
+
+pub invariant_of-result : goal.invariant_of-result
+invariant_of-result g c =
+    let x = c.args.committees in
+    let came = c.new-4.result.came.by_vote.entries in
+    let known = c.new-4.result.known.by_vote.entries in
+    record {
+      countable =
+          subst (λ (ns : List Note). list_all is_countable ns ≡ true) (sym c.new.ensures) refl;
+      formed = subst (λ (bs : List Ballot). list_all is_formed bs ≡ true) (sym c.new-2.ensures) refl;
+      signed =
+          subst (λ (bs : List Ballot). list_all (is_signed x) bs ≡ true) (sym c.new-2.ensures) refl;
+      signers =
+          subst (λ (ns : List Note). HaveSigners x c.args.id ns c.new-2.result came known)
+          (sym c.new.ensures)
+          (subst (λ (bs : List Ballot). HaveSigners x c.args.id [] bs came known)
+          (sym c.new-2.ensures) (c.new-4.ensures x c.args.id));
+    }

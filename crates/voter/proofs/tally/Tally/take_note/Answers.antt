@@ -1,0 +1,53 @@
+use Rattle.std.proofs.Common.{◌≡◌, ◌++◌, ◌∙◌, ◌∷◌, [], List, ap, subst, sym, true}
+use Rattle.std.specs.List.{list_all}
+use Rattle.cw_types.specs.declared.note.Note.{Note}
+use Rattle.note_scans.specs.Countable.{is_countable}
+use Rattle.voter.specs.Known.{Known}
+use Rattle.voter.specs.Signing.{HaveSigners, counted_vote}
+use Rattle.voter.proofs.Taking.{all_more, taken_back}
+use Rattle.voter.proofs.tally.Tally.take_note.Goals as goal
+
+pub invariant_of-self-in-Err : goal.invariant_of-self-in-Err
+invariant_of-self-in-Err g c =
+    let x = c.self.inside.committees in
+    let id = c.self.inside.id in
+    let notes = c.self.inside.notes in
+    let ballots = c.self.inside.ballots in
+    let came = c.take_note.new.self.came.by_vote.entries in
+    let known = c.take_note.new.self.known.by_vote.entries in
+    let back : c.truncate.new.self ≡ notes =
+    taken_back notes c.push.new.self c.truncate.new.self c.in_ok-copy.copy c.len-len.result
+    c.in_ok-push.ensures.ok c.len-len.ensures c.truncate.ensures in
+    record {
+      countable =
+          subst (λ (ns : List Note). list_all is_countable ns ≡ true) (sym back)
+          c.self.invariant.countable;
+      formed = c.self.invariant.formed;
+      signed = c.self.invariant.signed;
+      signers =
+          subst (λ (ns : List Note). HaveSigners x id ns ballots came known) (sym back)
+          (c.in-Err.ensures.err x notes ballots c.self.invariant.signers);
+    }
+
+pub invariant_of-self-in_default : goal.invariant_of-self-in_default
+invariant_of-self-in_default g c =
+    let x = c.self.inside.committees in
+    let id = c.self.inside.id in
+    let notes = c.self.inside.notes in
+    let ballots = c.self.inside.ballots in
+    let came = c.take_note.new.self.came.by_vote.entries in
+    let known = c.take_note.new.self.known.by_vote.entries in
+    let more : c.push.new.self ≡ notes ++ c.args.note.now ∷ [] =
+    c.in_ok-push.ensures.ok ∙ ap (λ (n : Note). notes ++ n ∷ []) c.in_ok-copy.ensures in
+    record {
+      countable =
+          subst (λ (ns : List Note). list_all is_countable ns ≡ true) (sym more)
+          (all_more is_countable notes c.args.note.now c.self.invariant.countable c.requires);
+      formed = c.self.invariant.formed;
+      signed = c.self.invariant.signed;
+      signers =
+          subst (λ (ns : List Note). HaveSigners x id ns ballots came known) (sym more)
+          (c.in_default.ensures.ok x notes ballots c.args.note.now c.self.invariant.signers
+          (c.counted_vote-counted.ensures
+          ∙ sym (ap (λ (k : Known). counted_vote k.epochs k.id c.args.note.now) c.self.view_is)));
+    }

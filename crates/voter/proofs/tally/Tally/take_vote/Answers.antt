@@ -1,0 +1,64 @@
+use Rattle.std.proofs.Common.{◌≡◌, ◌++◌, ◌∙◌, ◌∷◌, ℕ, [], List, ap, refl, subst, sym, true}
+use Rattle.std.specs.List.{list_all, list_any}
+use Rattle.cw_types.specs.Epochs.{is_member}
+use Rattle.cw_rules.specs.Accepted.{Ballot, Single}
+use Rattle.cw_rules.specs.Owed.{is_single}
+use Rattle.voter.specs.Known.{Known}
+use Rattle.voter.specs.Signing.{HaveSigners}
+use Rattle.voter.specs.Standing.{is_formed, is_signed}
+use Rattle.voter.proofs.Taking.{all_more, taken_back}
+use Rattle.voter.proofs.tally.Tally.take_vote.Goals as goal
+
+pub invariant_of-self-in-Err : goal.invariant_of-self-in-Err
+invariant_of-self-in-Err g c =
+    let x = c.self.inside.committees in
+    let id = c.self.inside.id in
+    let notes = c.self.inside.notes in
+    let ballots = c.self.inside.ballots in
+    let came = c.take_vote.new.self.came.by_vote.entries in
+    let known = c.take_vote.new.self.known.by_vote.entries in
+    let back : c.truncate.new.self ≡ ballots =
+    taken_back ballots c.push.new.self c.truncate.new.self c.single.result c.len-len.result
+    c.in_ok-push.ensures.ok c.len-len.ensures c.truncate.ensures in
+    record {
+      countable = c.self.invariant.countable;
+      formed =
+          subst (λ (bs : List Ballot). list_all is_formed bs ≡ true) (sym back)
+          c.self.invariant.formed;
+      signed =
+          subst (λ (bs : List Ballot). list_all (is_signed x) bs ≡ true) (sym back)
+          c.self.invariant.signed;
+      signers =
+          subst (λ (bs : List Ballot). HaveSigners x id notes bs came known) (sym back)
+          (c.in-Err.ensures.err x id notes ballots c.self.invariant.signers
+          (ap (λ (k : Known). list_any (is_single c.args.signer c.args.vote.now) k.ballots)
+          c.self.view_is
+          ∙ (sym c.has_voted_so.ensures.vote ∙ c.if-has_voted_so.false)));
+    }
+
+pub invariant_of-self-in_default : goal.invariant_of-self-in_default
+invariant_of-self-in_default g c =
+    let x = c.self.inside.committees in
+    let id = c.self.inside.id in
+    let notes = c.self.inside.notes in
+    let ballots = c.self.inside.ballots in
+    let came = c.take_vote.new.self.came.by_vote.entries in
+    let known = c.take_vote.new.self.known.by_vote.entries in
+    let more : c.push.new.self ≡ ballots ++ Single c.args.signer c.args.vote.now ∷ [] =
+    c.in_ok-push.ensures.ok ∙ ap (λ (b : Ballot). ballots ++ b ∷ []) c.single.ensures in
+    record {
+      countable = c.self.invariant.countable;
+      formed =
+          subst (λ (bs : List Ballot). list_all is_formed bs ≡ true) (sym more)
+          (all_more is_formed ballots (Single c.args.signer c.args.vote.now)
+          c.self.invariant.formed c.requires);
+      signed =
+          subst (λ (bs : List Ballot). list_all (is_signed x) bs ≡ true) (sym more)
+          (all_more (is_signed x) ballots (Single c.args.signer c.args.vote.now)
+          c.self.invariant.signed refl);
+      signers =
+          subst (λ (bs : List Ballot). HaveSigners x id notes bs came known) (sym more)
+          (c.in_default.ensures.ok x id notes ballots c.self.invariant.signers
+          (c.is_member-counts.ensures
+          ∙ ap (λ (e : ℕ). is_member x e c.args.signer) c.epoch.ensures));
+    }

@@ -1,0 +1,90 @@
+//! Who signed what, by vote: what a tally looks up in place of searches.
+
+ghost use Rattle.std.specs.Prelude.{◌≡◌, ◌++◌, ◌∷◌, [], ℕ, List, OnErr, OnOk, false, option_map};
+ghost use Rattle.std.specs.List.{list_any};
+ghost use Rattle.cw_rules.specs.Accepted.{Ballot as BallotValue, Single};
+ghost use Rattle.cw_rules.specs.Owed.{is_single};
+ghost use Rattle.cw_types.specs.Epochs.{Epochs, is_member};
+ghost use Rattle.cw_types.specs.Votes.{vote_epoch};
+ghost use Rattle.cw_types.specs.declared.note.Note.{Note as NoteValue};
+ghost use Rattle.voter.specs.Signing.{HaveSigners, counted_vote};
+
+use crate::signer_sets::SignerSets;
+use cw_base::NoMemory;
+use cw_types::Vote;
+use std::alloc::Global;
+
+/// Who signed each vote that came, and the members that are known to have signed each vote. The two
+/// differ by the votes that the member noted, and by those of strangers.
+#[derive(Drop)]
+pub(crate) struct Index {
+    pub(crate) came: SignerSets,
+    pub(crate) known: SignerSets,
+}
+
+impl Index {
+    /// That of a tally that knows nothing.
+    pub(crate) fn new(alloc: Global) -> Index
+        ensures { (x : Epochs) (id : ℕ) → HaveSigners x id [] [] result.came.by_vote.entries
+            result.known.by_vote.entries }
+    {
+        Index {
+            came: SignerSets::new(alloc),
+            known: SignerSets::new(alloc),
+        }
+    }
+
+    /// A vote came that wasn't there; `counts` where its signer is a member of its epoch. Where
+    /// memory is short nothing changes.
+    pub(crate) fn take_vote(
+        &mut self,
+        signer: u16,
+        vote: &Vote,
+        counts: bool,
+    ) -> Result<(), NoMemory>
+        ensures ok { (x : Epochs) (id : ℕ) (notes : List NoteValue) (ballots : List BallotValue)
+            → HaveSigners x id notes ballots self.old.came.by_vote.entries
+            self.old.known.by_vote.entries
+            → counts ≡ is_member x (vote_epoch vote.now) signer
+            → OnOk result (HaveSigners x id notes (ballots ++ Single signer vote.now ∷ [])
+            self.new.came.by_vote.entries self.new.known.by_vote.entries) }
+        ensures err { (x : Epochs) (id : ℕ) (notes : List NoteValue) (ballots : List BallotValue)
+            → HaveSigners x id notes ballots self.old.came.by_vote.entries
+            self.old.known.by_vote.entries
+            → list_any (is_single signer vote.now) ballots ≡ false
+            → OnErr result (HaveSigners x id notes ballots self.new.came.by_vote.entries
+            self.new.known.by_vote.entries) }
+    {
+        self.came.add(vote, signer)?;
+        if !counts {
+            return Ok(());
+        }
+        if let Err(NoMemory) = self.known.add(vote, signer) {
+            self.came.remove(vote, signer);
+            return Err(NoMemory);
+        }
+        Ok(())
+    }
+
+    /// The member `id` noted something; `counted` is the vote, where it is one of an epoch of the
+    /// member's. Where memory is short nothing changes.
+    pub(crate) fn take_note(&mut self, id: u16, counted: Option<&Vote>) -> Result<(), NoMemory>
+        ensures ok { (x : Epochs) (notes : List NoteValue) (ballots : List BallotValue)
+            (note : NoteValue)
+            → HaveSigners x id notes ballots self.old.came.by_vote.entries
+            self.old.known.by_vote.entries
+            → option_map (λ vote. vote.now) counted.entry ≡ counted_vote x id note
+            → OnOk result (HaveSigners x id (notes ++ note ∷ []) ballots
+            self.new.came.by_vote.entries self.new.known.by_vote.entries) }
+        ensures err { (x : Epochs) (notes : List NoteValue) (ballots : List BallotValue)
+            → HaveSigners x id notes ballots self.old.came.by_vote.entries
+            self.old.known.by_vote.entries
+            → OnErr result (HaveSigners x id notes ballots self.new.came.by_vote.entries
+            self.new.known.by_vote.entries) }
+    {
+        match counted {
+            Some(vote) => self.known.add(vote, id),
+            None => Ok(()),
+        }
+    }
+}
