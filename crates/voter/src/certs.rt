@@ -12,7 +12,8 @@ ghost use Rattle.cw_types.specs.Numbers.{quorum};
 ghost use Rattle.cw_types.specs.Votes.{vote_epoch, well_formed};
 ghost use Rattle.cw_types.specs.declared.note.Note.{Note};
 ghost use Rattle.note_scans.specs.Countable.{is_countable};
-ghost use Rattle.voter.specs.Known.{ballot_signers, is_cert_for, known_signers, state_of, vote_rules};
+ghost use Rattle.voter.specs.Known.{ballot_signers, is_cert_for, known_signers, state_of};
+ghost use Rattle.voter.specs.Known.{vote_rules};
 ghost use Rattle.voter.specs.Owing as owing;
 ghost use Rattle.voter.specs.Standing.{are_signers};
 
@@ -24,8 +25,9 @@ use std::alloc::Global;
 use std::collections::BTreeSet;
 
 impl<H> Tally<H> {
-    /// The members of its epoch that are known to have signed a vote, rising: those whose vote came,
-    /// and the member itself where it noted its own. None where there is none. Takes no memory.
+    /// The members of its epoch that are known to have signed a vote, rising: those whose vote
+    /// came, and the member itself where it noted its own. None where there is none. Takes no
+    /// memory.
     pub fn signers(&self, vote: &Vote) -> Option<&BTreeSet<u16>>
         ensures { option_map (λ signers. signers.now.keys) result
             ≡ known_signers self.now vote.now }
