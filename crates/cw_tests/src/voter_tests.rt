@@ -145,7 +145,11 @@ fn have_nullified(
 fn the_signers_of_a_vote_are_the_members_that_are_known(rt: HostRuntime) -> Result<(), Fail> {
     let tally = with_votes(tally(rt.alloc(), 0)?, &[3, 9, 1])?;
     assert!(rt; have_nullified(rt.alloc(), &tally, 1, &[1, 3])?);
-    assert!(rt; tally.signers(&Vote::Nullify { epoch: 0, view: 2 }).is_none());
+    assert!(rt;
+        tally
+            .signers(&Vote::Nullify { epoch: 0, view: 2 })
+            .is_none()
+    );
     let tally = with_note(tally, Note::Vote(NULLIFY))?;
     assert!(rt; have_nullified(rt.alloc(), &tally, 1, &[0, 1, 3])?);
     Ok(())
