@@ -15,3 +15,4 @@ pub mod Same
 pub mod Cutting
 pub mod Committed
 pub mod Handoffs
+pub mod Ordered

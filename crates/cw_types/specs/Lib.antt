@@ -4,6 +4,8 @@ pub mod Encoding
 pub mod Epochs
 pub mod Handoff
 pub mod Numbers
+pub mod Order
+pub mod OrderLaws
 pub mod Reading
 pub mod Same
 pub mod Values

@@ -8,15 +8,75 @@ ghost use Rattle.cw_base.specs.Ends.{IsEnd};
 ghost use Rattle.cw_base.specs.Reading.{IsRead};
 
 use cw_base::{CodecError, Config, Digest, Digest32, NoMemory, Reader, put_bytes, undo_refused};
+use std::cmp::Ordering;
 
 /// What names a block: the digest of its bytes, the root of the shards that it is cut into, the
-/// digest of its context, and how it is cut. In bytes: 32, 32, 32 and 4.
-#[derive(Clone, Copy, Debug, PartialEq, Eq)]
+/// digest of its context, and how it is cut. In bytes: 32, 32, 32 and 4. Commitments are ordered
+/// field by field.
+#[derive(Clone, Copy, Debug)]
 pub struct Commitment {
     pub block: Digest32,
     pub root: Digest32,
     pub context: Digest32,
     pub config: Config,
+}
+
+// Two values of the type may differ in a config that no commitment has, with a zero, where a derive
+// would compare them equal: so the comparisons are written out, and tell all values apart.
+impl PartialEq for Commitment {
+    ghost use Rattle.cw_types.specs.OrderLaws.{commitments_are_told};
+    ghost use Rattle.std.specs.Cmp.{partial_equiv_from_equiv};
+
+    ghost eq = { same_commitment };
+
+    ghost laws = { partial_equiv_from_equiv commitments_are_told };
+
+    fn eq(&self, other: &Commitment) -> bool {
+        self.is_same(other)
+    }
+}
+
+impl Eq for Commitment {
+    ghost use Rattle.cw_types.specs.OrderLaws.{commitments_are_told};
+
+    ghost laws = { commitments_are_told };
+}
+
+impl PartialOrd for Commitment {
+    ghost use Rattle.cw_types.specs.Order.{commitment_cmp};
+    ghost use Rattle.cw_types.specs.OrderLaws.{commitments_are_partly_ordered};
+    ghost use Rattle.std.specs.Ordering.{as_partial_cmp};
+
+    ghost partial_cmp = { as_partial_cmp commitment_cmp };
+
+    ghost laws = { commitments_are_partly_ordered };
+
+    fn partial_cmp(&self, other: &Commitment) -> Option<Ordering> {
+        Some(self.cmp(other))
+    }
+}
+
+impl Ord for Commitment {
+    ghost use Rattle.cw_types.specs.Order.{commitment_cmp};
+    ghost use Rattle.cw_types.specs.OrderLaws.{commitments_are_ordered, commitments_tie};
+    ghost use Rattle.std.proofs.Common.{refl};
+
+    ghost cmp = { commitment_cmp };
+
+    ghost total = { commitments_are_ordered };
+
+    ghost matches_partial_cmp = { λ a b. refl };
+
+    ghost matches_eq = { commitments_tie };
+
+    fn cmp(&self, other: &Commitment) -> Ordering {
+        let minimum = self.config.minimum().cmp(&other.config.minimum());
+        let config = minimum.then(self.config.extra().cmp(&other.config.extra()));
+        let context = self.context.cmp(&other.context).then(config);
+        self.block
+            .cmp(&other.block)
+            .then(self.root.cmp(&other.root).then(context))
+    }
 }
 
 impl Commitment {
