@@ -10,6 +10,7 @@ mod direct;
 mod fits;
 mod holding;
 mod laws;
+mod leads;
 mod missing;
 mod node;
 mod owed;
