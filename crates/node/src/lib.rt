@@ -6,6 +6,7 @@ mod act;
 mod answers;
 mod arrival;
 mod blocks;
+mod came;
 mod direct;
 mod fits;
 mod holding;

@@ -12,6 +12,7 @@ ghost use Rattle.node.specs.Standing.{IsAwake, IsReady};
 ghost use Rattle.node.specs.State.{stepped};
 ghost use Rattle.node.specs.Store.{stored_notes};
 
+use crate::came::{Arrivals, ShownBlocks};
 use crate::holding::Holding;
 use crate::leads::LeadMap;
 use crate::store::Store;
@@ -82,8 +83,8 @@ impl<H: Hasher<Digest = Digest32>, D: Disk, A: Application + Drop> Holding<H, D,
             store,
             tally: Tally::new(alloc, lists.0, id),
             shards: Shards::new(alloc, lists.1),
-            arrivals: Items::new(alloc),
-            shown: Items::new(alloc),
+            arrivals: Arrivals::new(alloc),
+            shown: ShownBlocks::new(alloc),
             wishes: Items::new(alloc),
             alloc,
             disk: PhantomData,
