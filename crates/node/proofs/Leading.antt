@@ -66,6 +66,12 @@ among_kept f (y ∷ ys) x c (inr i) e = go (f y) (among_kept f ys x c i e)
     go (Some d) h =
         or_right (same_commitment c d) (list_any (same_commitment c) (filter_map f ys)) h
 
+pub taken_whole : {X : Type 0} (xs : List X) (n : ℕ) → length xs ≤ n → take n xs ≡ xs
+taken_whole [] zero past = refl
+taken_whole [] (suc n) past = refl
+taken_whole (x ∷ xs) zero past = absurd (omega arith)
+taken_whole (x ∷ xs) (suc n) past = ap (λ l. x ∷ l) (taken_whole xs n (omega arith))
+
 -- what a slice from a place on has
 pub rest_is : {X : Type 0} (xs : List X) (n : ℕ) → take (length xs - n) (drop n xs) ≡ drop n xs
 rest_is [] zero = refl

@@ -1,7 +1,10 @@
-use Rattle.std.proofs.Common.{◌∙◌, ap, sym}
-use Rattle.node.specs.Leading.{is_new}
-use Rattle.node.specs.Store.{stored_notes}
-use Rattle.node.proofs.Leading.{newly_low, newly_more, newly_old}
+use Rattle.std.proofs.Common.{◌∙◌, ◌≤◌, ap, arith, filter, length, sym}
+use Rattle.std.specs.List.{filter_map}
+use Rattle.cw_rules.specs.Held.{next}
+use Rattle.node.specs.Holding.{Holding}
+use Rattle.node.specs.Leading.{is_new, lead_at}
+use Rattle.node.specs.Store.{stored_notes, stored_state}
+use Rattle.node.proofs.Leading.{newly_low, newly_more, newly_old, taken_whole}
 use Rattle.node.proofs.holding.Holding.newly.Goals as goal
 use Rattle.node.proofs.holding.Holding.newly.Goals.{else-is_above, else-is_above-via-else-is_above, else-is_above-via-then-is_above+else-is_new, then-is_above+then-is_new+in_ok-push}
 
@@ -31,3 +34,17 @@ loop-lead-preserved g c =
                 (sym c.is_above.ensures ∙ v.if-is_above.false)
           ]
     ]
+
+pub returns : goal.returns
+returns g c =
+    let notes = stored_notes c.args.self.now.store in
+    let p = is_new notes c.args.map.now.led.entries c.args.height in
+    let xs = c.args.leads.now in
+    let past : length xs ≤ c.loop-lead.lead-index = omega (arith, c.loop-lead-test.false) in
+    let height =
+    c.next_height-next.ensures
+    ∙ ap (λ (k : Holding g.row.D.Denot g.row.A.Denot). next (stored_state k.store))
+    c.self.view_is in
+    c.loop-lead.invariant
+    ∙ (λ i. filter p
+    (filter_map (lead_at (height i)) (taken_whole xs c.loop-lead.lead-index past i)))
