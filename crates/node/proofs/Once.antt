@@ -1,10 +1,24 @@
 -- Commitments that are kept once.
-use Rattle.std.proofs.Common.{◌≡◌, Bool, true, false, ◌||◌, List, [], ◌∷◌, ◌++◌, refl, sym, ◌∙◌, ap, append_assoc, filter, ℕ, zero, suc, ◌+◌, ◌<◌, length, get_or, take, add-one, arith}
+use Rattle.std.proofs.Common.{◌≡◌, Bool, true, false, cond, not, ◌||◌, List, [], ◌∷◌, ◌++◌, refl, sym, ◌∙◌, ap, append_assoc, ℕ, suc, ◌+◌, ◌<◌, length, get_or, drop, drop-cons, add-one}
+use Rattle.std.specs.Bool.{OnFalse}
 use Rattle.std.specs.List.{list_any}
-use Rattle.std.proofs.lemmas.List.Folds.{list_any-append}
+use Rattle.std.specs.Ordering.{is_eq}
+use Rattle.std.proofs.lemmas.Bool.{false≢true}
+use Rattle.cw_types.specs.Order.{commitment_cmp}
+use Rattle.cw_types.specs.OrderLaws.{commitments_are_told, commitments_tie}
 use Rattle.cw_types.specs.Same.{same_commitment}
 use Rattle.cw_types.specs.declared.commitment.Commitment.{Commitment}
 use Rattle.cw_rules.specs.Sends.{once}
+
+-- a commitment is among the keys of a set
+abbrev pub is_seen : List Commitment → Commitment → Bool
+is_seen keys c = list_any (λ k. is_eq (commitment_cmp c k)) keys
+
+-- it is where one of them is the same
+seen_same : (keys : List Commitment) (c : Commitment)
+    → is_seen keys c ≡ list_any (same_commitment c) keys
+seen_same [] c = refl
+seen_same (k ∷ keys) c = λ i. sym (commitments_tie c k) i || seen_same keys c i
 
 -- what is kept once asks only whether a commitment was seen
 once_same : (s t : List Commitment)
@@ -20,59 +34,70 @@ once_same s t h (c ∷ cs) =
     go true e rest more = rw (e, sym (h c) ∙ e) rest
     go false e rest more = rw (e, sym (h c) ∙ e) (ap (λ l. c ∷ l) more)
 
-or_swap : (a b c : Bool) → (a || (b || c)) ≡ ((b || (a || false)) || c)
-or_swap true true c = refl
-or_swap true false c = refl
-or_swap false true c = refl
-or_swap false false c = refl
+-- a set with one key more
+abbrev pub SeesMore : List Commitment → List Commitment → Commitment → Type 0
+SeesMore old new x = (q : Commitment) → is_seen new q ≡ cond (is_eq (commitment_cmp x q)) true
+    (is_seen old q)
+
+seen_more : (old new : List Commitment) (x : Commitment) → SeesMore old new x → (c : Commitment)
+    → list_any (same_commitment c) (x ∷ old) ≡ list_any (same_commitment c) new
+seen_more old new x sees c =
+    sym
+    (sym (seen_same new c)
+    ∙ (sees c
+    ∙ ((λ i. cond ((sym (commitments_tie x c) ∙ commitments_are_told.symm x c) i) true
+    (seen_same old c i))
+    ∙ go (same_commitment c x) (list_any (same_commitment c) old))))
+  where
+    go : (a b : Bool) → cond a true b ≡ (a || b)
+    go true b = refl
+    go false b = refl
+
+-- no key is there at first
+pub first_seen : (new : List Commitment) (x : Commitment) → SeesMore [] new x
+    → (cs : List Commitment) → once new cs ≡ once (x ∷ []) cs
+first_seen new x sees cs = sym (once_same (x ∷ []) new (seen_more [] new x sees) cs)
+
+drop_item : {X : Type 0} (xs : List X) (i : ℕ) (x : X) → i < length xs → x ≡ get_or xs i x
+    → drop i xs ≡ x ∷ drop (i + 1) xs
+drop_item xs i x l e = rw (add-one, drop-cons xs i x) (ap (λ z. z ∷ drop (suc i) xs) (sym e))
 
 -- one that was seen is passed over
-pub once_skips : (g c : Commitment) (led rest : List Commitment)
-    → list_any (same_commitment c) (led ++ g ∷ []) ≡ true
-    → once (led ++ g ∷ []) (c ∷ rest) ≡ once (led ++ g ∷ []) rest
-once_skips g c led rest h = rw h refl
+once_skips : (keys : List Commitment) (cs : List Commitment) (i : ℕ) (x : Commitment)
+    → i < length cs → x ≡ get_or cs i x → is_seen keys x ≡ true
+    → once keys (drop i cs) ≡ once keys (drop (i + 1) cs)
+once_skips keys cs i x l e seen =
+    ap (once keys) (drop_item cs i x l e) ∙ rw (sym (seen_same keys x) ∙ seen) refl
 
--- one that wasn't is kept
-pub once_adds : (g c : Commitment) (led rest : List Commitment)
-    → list_any (same_commitment c) led ≡ false → same_commitment c g ≡ false
-    → led ++ once (led ++ g ∷ []) (c ∷ rest)
-    ≡ (led ++ c ∷ []) ++ once ((led ++ c ∷ []) ++ g ∷ []) rest
-once_adds g c led rest h k =
-    let no : list_any (same_commitment c) (led ++ g ∷ []) ≡ false =
-    list_any-append (same_commitment c) led (g ∷ []) ∙ rw (h, k) refl in
-    let same =
-    once_same (c ∷ (led ++ g ∷ [])) ((led ++ c ∷ []) ++ g ∷ [])
-    (λ d. ap (λ b. same_commitment d c || b)
-    (list_any-append (same_commitment d) led (g ∷ []))
-    ∙ (or_swap (same_commitment d c) (list_any (same_commitment d) led)
-    (same_commitment d g || false)
-    ∙ sym
-    (list_any-append (same_commitment d) (led ++ c ∷ []) (g ∷ [])
-    ∙ ap (λ b. b || (same_commitment d g || false))
-    (list_any-append (same_commitment d) led (c ∷ [])))))
-    rest in
-    rw no
-    (ap (λ l. led ++ c ∷ l) same
-    ∙ sym (append_assoc led (c ∷ []) (once ((led ++ c ∷ []) ++ g ∷ []) rest)))
+-- one that wasn't is kept, and is seen from then on
+once_adds : (keys new : List Commitment) (cs : List Commitment) (i : ℕ) (x : Commitment)
+    → i < length cs → x ≡ get_or cs i x → is_seen keys x ≡ false → SeesMore keys new x
+    → once keys (drop i cs) ≡ x ∷ once new (drop (i + 1) cs)
+once_adds keys new cs i x l e seen sees =
+    ap (once keys) (drop_item cs i x l e)
+    ∙ rw (sym (seen_same keys x) ∙ seen)
+    (ap (λ r. x ∷ r) (once_same (x ∷ keys) new (seen_more keys new x sees) (drop (i + 1) cs)))
 
-filter_behind : {X : Type 0} (p : X → Bool) (xs ys : List X)
-    → filter p (xs ++ ys) ≡ filter p xs ++ filter p ys
-filter_behind p [] ys = refl
-filter_behind p (x ∷ xs) ys = go (p x) refl (filter_behind p xs ys)
-  where
-    go : (b : Bool) → p x ≡ b → filter p (xs ++ ys) ≡ filter p xs ++ filter p ys
-        → filter p (x ∷ (xs ++ ys)) ≡ filter p (x ∷ xs) ++ filter p ys
-    go true e rest = rw e (ap (λ l. x ∷ l) rest)
-    go false e rest = rw e rest
+pub not_false : (b : Bool) → not b ≡ false → b ≡ true
+not_false true e = refl
+not_false false e = sym e
 
-taken_more : {X : Type 0} (xs : List X) (i : ℕ) (x : X) → i < length xs → x ≡ get_or xs i x
-    → take (suc i) xs ≡ take i xs ++ x ∷ []
-taken_more [] i x l e = absurd (omega arith)
-taken_more (y ∷ ys) zero x l e = ap (λ z. z ∷ []) (sym e)
-taken_more (y ∷ ys) (suc i) x l e = ap (λ l. y ∷ l) (taken_more ys i x (omega arith) e)
+pub on_false : {P : Type 0} (b : Bool) → OnFalse b P → b ≡ false → P
+on_false false p e = p
+on_false true p e = absurd (false≢true (sym e))
 
--- what passes of the first so many and one
-pub filter_taken : {X : Type 0} (p : X → Bool) (xs : List X) (i : ℕ) (x : X) → i < length xs
-    → x ≡ get_or xs i x → filter p (take (i + 1) xs) ≡ filter p (take i xs) ++ filter p (x ∷ [])
-filter_taken p xs i x l e =
-    rw (add-one i) (ap (filter p) (taken_more xs i x l e) ∙ filter_behind p (take i xs) (x ∷ []))
+module _ (old new cs : List Commitment) (i : ℕ) (x : Commitment) (less : i < length cs)
+    (at : x ≡ get_or cs i x) (each all : List Commitment)
+    (before : each ++ once old (drop i cs) ≡ all) where
+  pub kept_once : is_seen old x ≡ false → SeesMore old new x → (kept : List Commitment)
+      → kept ≡ each ++ x ∷ [] → kept ++ once new (drop (i + 1) cs) ≡ all
+  kept_once seen sees kept is =
+      ap (λ l. l ++ once new (drop (i + 1) cs)) is
+      ∙ (append_assoc each (x ∷ []) (once new (drop (i + 1) cs))
+      ∙ (ap (λ l. each ++ l) (sym (once_adds old new cs i x less at seen sees)) ∙ before))
+
+  pub passed_over : is_seen old x ≡ true → new ≡ old → (kept : List Commitment) → kept ≡ each
+      → kept ++ once new (drop (i + 1) cs) ≡ all
+  passed_over seen same kept is =
+      (λ k. is k ++ once (same k) (drop (i + 1) cs))
+      ∙ (ap (λ l. each ++ l) (sym (once_skips old cs i x less at seen)) ∙ before)

@@ -8,7 +8,7 @@ use Rattle.cw_types.specs.declared.commitment.Commitment.{Commitment}
 use Rattle.cw_types.specs.declared.event.Event.{Event}
 use Rattle.cw_types.specs.declared.event.Handed.{Handed}
 use Rattle.cw_types.specs.declared.note.Note.{Note}
-use Rattle.cw_rules.specs.Accepted.{State}
+use Rattle.cw_rules.specs.Accepted.{Came, State}
 use Rattle.cw_rules.specs.Direct.{direct, least}
 use Rattle.cw_rules.specs.Held.{at_height, greatest_floor, greatest_prune, held, last_ack, next, pending, resume}
 use Rattle.cw_rules.specs.Reached.{In}
@@ -42,7 +42,7 @@ quiet_direct r id s (Event.Prune h) none =
     (Note.Prune h ∷ []) refl
 quiet_direct r id s _ none = refl
 
-step_quiet : (r : Rules) (id : ℕ) (s : State) (e : Event) → s.given ≡ []
+pub step_quiet : (r : Rules) (id : ℕ) (s : State) (e : Event) → s.given ≡ []
     → acks (step_notes r id s e) ≡ []
 step_quiet r id s e none =
     let first = direct r id s e in
@@ -80,6 +80,23 @@ due_last : (g : ℕ) (heights : List ℕ) (due : ℕ)
     → due_after (g + 1) heights ≡ option_map_or (λ h. h + 1) (last_or (Some g) heights) due
 due_last g [] due = refl
 due_last g (height ∷ heights) due = due_last height heights due
+
+-- no height is handed out again with more notes, where they acknowledge nothing before something was
+-- handed out
+pub next_grows : (notes more : List Note) (came later : Came) (given : List ℕ)
+    → (given ≡ [] → acks more ≡ [])
+    → next (record { notes = notes; came = came; given = given })
+    ≤ next (record { notes = notes ++ more; came = later; given = given })
+next_grows notes more came later [] quiet =
+    let same : option_map_or (λ h. h + 1) (last_ack (notes ++ more)) 0
+    ≡ option_map_or (λ h. h + 1) (last_ack notes) 0 =
+    ap (λ l. option_map_or (λ h. h + 1) (last_or None l) 0)
+    (acks_behind notes more
+    ∙ (ap (λ l. acks notes ++ l) (quiet refl) ∙ append-nil (acks notes))) in
+    omega (arith, same, floor_grows notes more)
+next_grows notes more came later (g ∷ given) quiet =
+    let same = sym (due_last g given (resume notes)) ∙ due_last g given (resume (notes ++ more)) in
+    omega (arith, same, floor_grows notes more)
 
 next_more : (notes more : List Note) (due height : ℕ) → IsNext notes due height
     → IsNext (notes ++ more) due height

@@ -21,13 +21,15 @@ use Rattle.shards.specs.Kept as kept
 use Rattle.shards.specs.Standing as shards
 use Rattle.node.specs.Asking.{asks}
 use Rattle.node.specs.Holding.{Holding, begun, came_of, member_of, rules_of, state_of}
+use Rattle.node.specs.Leading.{GoesOnFrom, is_led}
 use Rattle.node.specs.Standing.{PartsStand}
 use Rattle.node.specs.State.{stepped}
 use Rattle.node.specs.Store.{Store, stored_notes}
+use Rattle.node.specs.declared.leads.Led.{Led}
 use Rattle.voter.specs.Known.{Known, unknowing, with_note}
 use Rattle.voter.specs.Standing as voter
 use Rattle.std.specs.Prelude.{nat_lt, ◌^◌}
-use Rattle.std.proofs.lemmas.Bool.{and_parts}
+use Rattle.std.proofs.lemmas.Bool.{and_parts, le-ltb}
 use Rattle.cw_types.specs.Values.{is_storable}
 use Rattle.cw_types.specs.Votes.{well_formed}
 use Rattle.note_scans.specs.Countable.{is_countable}
@@ -89,6 +91,22 @@ nothing_shown hash x c some =
     (block_of (kept.rules_of hash x) c.config l))
     (take_none c.config.minimum)
     ∙ rw no refl
+
+-- a member that knows nothing yet
+abbrev pub knows_nothing : State
+knows_nothing = record { notes = []; came = nothing_came; given = [] }
+
+-- a start goes on from there
+pub from_nothing : (r : Rules) (now : State) (entries : List (Commitment × Led)) → entries ≡ []
+    → GoesOnFrom r knows_nothing now entries
+from_nothing r now entries none = record {
+  more = now.notes;
+  notes = refl;
+  rises = omega arith;
+  led = λ c height low.
+      ap (λ (l : List (Commitment × Led)). is_led l height c) none
+      ∙ le-ltb height 0 (omega arith);
+}
 
 module _ {D A : Type 0} (hash : List ℕ → Digest32) (accepts : A → Block → Block → Bool) where
   pub stands_begun : (id : ℕ) (x : Epochs) (backlog : ℕ) (app : A) (t : Store) (log : LogState D)

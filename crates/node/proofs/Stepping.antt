@@ -3,24 +3,29 @@ use Rattle.std.proofs.Common.{◌≡◌, ℕ, Bool, true, ◌≤◌, arith, leng
 use Rattle.std.proofs.lemmas.List.{drop_at}
 use Rattle.cw_base.specs.declared.hash.Digest32.{Digest32}
 use Rattle.cw_types.specs.Block.{Block}
+use Rattle.cw_types.specs.declared.commitment.Commitment.{Commitment}
 use Rattle.cw_types.specs.declared.event.Event.{Event}
 use Rattle.cw_types.specs.declared.event.Handed.{Handed}
 use Rattle.cw_types.specs.declared.event.StepOut.{StepOut}
 use Rattle.cw_types.specs.declared.note.Note.{Note}
 use Rattle.cw_types.specs.declared.vote.Vote.{Vote}
 use Rattle.cw_rules.specs.Accepted.{State}
+use Rattle.cw_rules.specs.Held.{next}
 use Rattle.cw_rules.specs.Rules.{Rules}
 use Rattle.cw_rules.specs.Sends.{sends}
 use Rattle.cw_rules.specs.Step as rule
 use Rattle.cw_rules.specs.Step.{Tickets, add_frame, deliveries, served, step, step_notes, taken, ticket_given, ticketed, unserved, with_notes}
+use Rattle.node.proofs.Rising.{next_grows, step_quiet}
 use Rattle.node.proofs.Votes.{frame_added}
 use Rattle.node.specs.Acting.{HasActed, notes_of_event}
 use Rattle.node.specs.Answering.{HasAnswered}
 use Rattle.node.specs.Holding.{Holding, came_of, member_of, rules_of, state_of}
+use Rattle.node.specs.Leading.{GoesOnFrom, IsLedBy}
 use Rattle.node.specs.Noting.{committed}
 use Rattle.node.specs.Standing.{PartsStand}
 use Rattle.node.specs.State.{stepped}
 use Rattle.node.specs.Store.{Store, stored_notes}
+use Rattle.node.specs.declared.leads.Led.{Led}
 use Rattle.voter.specs.Standing as voter
 
 -- the notes of the frames with one more are those before with those that waited
@@ -112,6 +117,38 @@ module _ {D A : Type 0} (hash : List ℕ → Digest32) (accepts : A → Block �
       ∙ length-append (state_of old).notes
       (notes_of_event (rules_of hash accepts old) signed e old) in
       omega (arith, all, count)
+
+  -- and no height is handed out again
+  pub goes_on : (signed : ℕ → Vote → Bool) (e : Event) (old b c : Holding D A)
+      (entries : List (Commitment × Led))
+      → HasActed hash accepts signed e old b → rules_of hash accepts b ≡ rules_of hash accepts old
+      → c ≡ record b { store = committed b.store; log = c.log }
+      → IsLedBy (rules_of hash accepts old) (stored_notes old.store) entries
+      → GoesOnFrom (rules_of hash accepts c) (state_of old) (state_of c) entries
+  goes_on signed e old b c entries acted rules is led = record {
+    more = more;
+    notes = ap (λ (s : State). s.notes) state;
+    rises =
+        subst (λ (s : State). next (state_of old) ≤ next s) (sym state)
+        (next_grows (stored_notes old.store) more (came_of old) during.came old.store.given
+        (λ none. step_quiet r old.id during e none));
+    led =
+        subst (λ (x : Rules). IsLedBy x (stored_notes old.store) entries)
+        (sym (ap (λ (h : Holding D A). rules_of hash accepts h) is ∙ rules))
+        led;
+  }
+    where
+      r : Rules
+      r = rules_of hash accepts old
+
+      during : State
+      during = taken r signed (state_of old) e
+
+      more : List Note
+      more = notes_of_event r signed e old
+
+      state : state_of c ≡ with_notes during more
+      state = state_committed b c is ∙ acted.state
 
   module _ (signed : ℕ → Vote → Bool) (e : Event) (old b c d : Holding D A) (out : StepOut)
       (quiet : old.store.staged ≡ [])

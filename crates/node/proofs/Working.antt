@@ -2,13 +2,15 @@
 use Rattle.std.proofs.Common.{◌≡◌, ◌∙◌, Bool, false, true, inr, ⊎_elim, List, [], map, ℕ, refl, subst, sym}
 use Rattle.cw_base.specs.declared.hash.Digest32.{Digest32}
 use Rattle.cw_types.specs.Block.{Block}
+use Rattle.cw_types.specs.declared.commitment.Commitment.{Commitment}
 use Rattle.marshal.specs.Frames.{FindsAllOrNone, ReadBack, frame_bytes}
 use Rattle.node_disk.specs.Disk.{DiskState, LeavesOnly}
 use Rattle.node_disk.specs.Log.{HasSettled, LogState}
 use Rattle.node_disk.proofs.AtRest.{finds_at_rest}
 use Rattle.node.specs.Holding.{Holding, node_of}
-use Rattle.node.specs.Standing.{IsReady, PartsStand}
+use Rattle.node.specs.Standing.{IsAwake, PartsStand}
 use Rattle.node.specs.State.{IsAtWork}
+use Rattle.node.specs.declared.leads.Led.{Led}
 
 pub at_work : {D A : Type 0} (state : D → DiskState) (h : Holding D A) → h.store.failed ≡ false
     → h.log.failed ≡ h.store.failed
@@ -43,15 +45,19 @@ stands_logged hash accepts h log s = record {
   shown = s.shown;
 }
 
--- so it is ready with a stop on its disk, or without
-pub ready_logged : {D A : Type 0} (hash : List ℕ → Digest32) (accepts : A → Block → Block → Bool)
-    (stopped : Bool) (old new : Holding D A) (log : LogState D)
+-- so it is awake with a stop on its disk, or without
+pub awake_logged : {D A : Type 0} (hash : List ℕ → Digest32) (accepts : A → Block → Block → Bool)
+    (stopped : Bool) (old new : Holding D A) (entries : List (Commitment × Led)) (log : LogState D)
     → (stopped ≡ false → new ≡ record old { log = log }) → (stopped ≡ true → new ≡ old)
-    → IsReady hash accepts old → IsReady hash accepts new
-ready_logged hash accepts true old new log armed same ready =
-    subst (λ h. IsReady hash accepts h) (sym (same refl)) ready
-ready_logged hash accepts false old new log armed same ready =
-    subst (λ h. IsReady hash accepts h) (sym (armed refl)) (record {
-      stands = stands_logged hash accepts old log ready.stands;
-      quiet = ready.quiet;
+    → IsAwake hash accepts old entries → IsAwake hash accepts new entries
+awake_logged hash accepts true old new entries log armed same awake =
+    subst (λ h. IsAwake hash accepts h entries) (sym (same refl)) awake
+awake_logged hash accepts false old new entries log armed same awake =
+    subst (λ h. IsAwake hash accepts h entries) (sym (armed refl)) (record {
+      ready =
+          record {
+            stands = stands_logged hash accepts old log awake.ready.stands;
+            quiet = awake.ready.quiet;
+          };
+      led = awake.led;
     })

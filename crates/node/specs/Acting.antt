@@ -8,10 +8,10 @@ use Rattle.cw_types.specs.declared.vote.Vote.{Vote}
 use Rattle.cw_rules.specs.Accepted.{State}
 use Rattle.cw_rules.specs.Notes.{epoch_of}
 use Rattle.cw_rules.specs.Rules.{Rules}
-use Rattle.cw_rules.specs.Sends.{missing}
 use Rattle.cw_rules.specs.Step.{step_notes, taken, with_notes}
 use Rattle.node.specs.Accepting.{brings_row}
 use Rattle.node.specs.Holding.{Holding, rules_of, state_of}
+use Rattle.node.specs.Leading.{lead_height}
 use Rattle.node.specs.Noting.{with_all_staged}
 use Rattle.node.specs.Standing.{PartsStand}
 use Rattle.node.specs.declared.act.Before.{Before}
@@ -41,5 +41,5 @@ pub record HasActed {D A : Type 0} (hash : List ℕ → Digest32) (accepts : A �
 pub record IsBefore (r : Rules) (e : Event) (old : State) (before : Before) : Type 0 where
   pub notes : before.notes ≡ length old.notes
   pub epoch : before.epoch ≡ epoch_of old.notes
-  pub missing : before.missing ≡ missing r old
+  pub height : before.height ≡ lead_height old
   pub brought : before.brought ≡ brings_row r old.came e

@@ -2,6 +2,8 @@ pub mod Store
 pub mod Disks
 pub mod State
 pub mod Holding
+pub mod Arriving
+pub mod Leading
 pub mod Standing
 pub mod Accepting
 pub mod Noting

@@ -10,6 +10,9 @@ use Rattle.shards.specs.Kept as kept
 use Rattle.shards.specs.Standing as shards
 use Rattle.voter.specs.Standing as voter
 use Rattle.node.specs.Holding.{Holding, came_of, count_rows, rules_of, shown_under, state_of}
+use Rattle.node.specs.Leading.{IsLedBy}
+use Rattle.node.specs.Store.{stored_notes}
+use Rattle.node.specs.declared.leads.Led.{Led}
 
 -- The tally and the chunks that are kept stand for one member, whose notes are those of the store;
 -- each arrival has the commitment of its part, and as many chunks came as are kept; and what chunks
@@ -35,6 +38,12 @@ pub record IsReady {D A : Type 0} (hash : List ℕ → Digest32) (accepts : A �
     (h : Holding D A) : Type 0 where
   pub stands : PartsStand hash accepts h
   pub quiet : h.store.staged ≡ []
+
+-- what it holds then beside a map of what its notes lead to, which stands for them
+pub record IsAwake {D A : Type 0} (hash : List ℕ → Digest32) (accepts : A → Block → Block → Bool)
+    (h : Holding D A) (entries : List (Commitment × Led)) : Type 0 where
+  pub ready : IsReady hash accepts h
+  pub led : IsLedBy (rules_of hash accepts h) (stored_notes h.store) entries
 
 -- what else there is beside what came and how it is kept
 pub record IsSameBeside {D A : Type 0} (old new : Holding D A) : Type 0 where

@@ -13,7 +13,7 @@ ghost use Rattle.cw_types.specs.Votes.{vote_epoch, well_formed};
 ghost use Rattle.voter.specs.Standing.{are_signers};
 ghost use Rattle.node.specs.Accepting.{brings_row, is_acceptable, is_new_row, is_own_place};
 ghost use Rattle.node.specs.Accepting.{with_row};
-ghost use Rattle.node.specs.Holding.{came_of, is_whole, knowing, rules_of};
+ghost use Rattle.node.specs.Holding.{came_of, knowing, rules_of};
 ghost use Rattle.node.specs.Standing.{HasCome, PartsStand};
 
 use crate::arrival::{Arrival, Shown};
@@ -170,7 +170,7 @@ impl<H: Hasher<Digest = Digest32>, D: Disk, A: Application> Holding<H, D, A> {
         requires { PartsStand H.digest_of A.accepts self.now }
         ensures { result ≡ list_any (same_part (Whole block.now)) (came_of self.now).parts }
     {
-        has_whole(self.arrivals.as_slice(), block)
+        self.arrivals.has(block)
     }
 
     // Puts a block that came whole behind the others.
@@ -422,21 +422,4 @@ fn stands_in(lists: &[Items<u16>], member: u16, index: u16) -> bool
     lists
         .iter()
         .any(|members| stands_at(members.as_slice(), member, index))
-}
-
-// Whether one of them is that block, which came whole.
-fn has_whole(arrivals: &[Arrival], block: &ChainBlock) -> bool
-    ensures { result ≡ list_any (is_whole block.now) arrivals.now }
-{
-    arrivals.iter().any(|arrival| is_arrival_of(arrival, block))
-}
-
-// Whether it is that block, which came whole.
-fn is_arrival_of(arrival: &Arrival, block: &ChainBlock) -> bool
-    ensures { result ≡ is_whole block.now arrival.now }
-{
-    match &arrival.block {
-        Some(other) => block.is_same(other),
-        None => false,
-    }
 }

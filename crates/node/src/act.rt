@@ -11,13 +11,15 @@ ghost use Rattle.node.specs.Answering.{HasAnswered};
 ghost use Rattle.node.specs.Disks.{HasTried};
 ghost use Rattle.node.specs.Holding.{came_of, knowing, member_of, rules_of, state_of};
 ghost use Rattle.node.specs.Noting.{committed};
-ghost use Rattle.node.specs.Standing.{IsReady, PartsStand};
+ghost use Rattle.node.specs.Leading.{GoesOnFrom, IsLedBy};
+ghost use Rattle.node.specs.Standing.{IsAwake, IsReady, PartsStand};
 ghost use Rattle.node.specs.State.{stepped};
 ghost use Rattle.node.specs.Store.{stored_notes};
 
 use crate::holding::Holding;
+use crate::leads::LeadMap;
 use cw_base::{Digest32, Hasher, Items, NoMemory, Strategy};
-use cw_types::{Application, Commitment, Event, Handed, Out, StepOut, TicketOut, Verifier};
+use cw_types::{Application, Event, Handed, Out, StepOut, TicketOut, Verifier};
 use node_disk::{Disk, StoreError};
 use std::alloc::Global;
 use std::thread::Threads;
@@ -30,8 +32,8 @@ pub(crate) struct Before {
     pub notes: usize,
     /// The epoch that the member was in.
     pub epoch: u64,
-    /// The commitments that were missing.
-    pub missing: Items<Commitment>,
+    /// The height above which blocks led to their parents.
+    pub height: u64,
     /// The event brought a chunk that was accepted.
     pub brought: bool,
 }
@@ -101,12 +103,12 @@ impl<H: Hasher<Digest = Digest32>, D: Disk, A: Application> Holding<H, D, A> {
     {
         let notes = self.store.notes().len();
         let epoch = self.tally.epoch();
-        let missing = self.missing(alloc)?;
+        let height = self.lead_height();
         let brought = self.note(rt, alloc, event, verifier, strategy)?;
         Ok(Before {
             notes,
             epoch,
-            missing: Items::from_vec(missing),
+            height,
             brought,
         })
     }
@@ -119,21 +121,29 @@ impl<H: Hasher<Digest = Digest32>, D: Disk, A: Application> Holding<H, D, A> {
         event: &Event,
         before: &Before,
         strategy: &S,
+        leads: &mut LeadMap,
     ) -> Result<Vec<Out>, NoMemory>
         requires stands { PartsStand H.digest_of A.accepts self.now }
         requires notes { before.now.notes ≤ length (stored_notes self.now.store) }
-        ensures { (old : State) → IsBefore (rules_of H.digest_of A.accepts self.now) event.now old
-            before.now
+        ensures out { (old : State)
+            → IsBefore (rules_of H.digest_of A.accepts self.now) event.now old before.now
+            → GoesOnFrom (rules_of H.digest_of A.accepts self.now) old (state_of self.now)
+            leads.old.led.entries
             → IfOk result (λ out. out.items
             ≡ sends_rule.sends (rules_of H.digest_of A.accepts self.now) self.now.id old
             (state_of self.now) event.now
             (drop before.now.notes (stored_notes self.now.store))) }
+        ensures led { (old : State)
+            → IsBefore (rules_of H.digest_of A.accepts self.now) event.now old before.now
+            → GoesOnFrom (rules_of H.digest_of A.accepts self.now) old (state_of self.now)
+            leads.old.led.entries
+            → OnOk result (IsLedBy (rules_of H.digest_of A.accepts self.now)
+            (stored_notes self.now.store) leads.new.led.entries) }
     {
         let notes = &self.store.notes()[before.notes..];
         let mut out = self.notes_out(rt, alloc, notes, strategy)?;
         self.put_own(alloc, before.epoch, before.brought, event, &mut out)?;
-        let missing = self.missing(alloc)?;
-        self.put_asks(&missing, before.missing.as_slice(), &mut out)?;
+        self.put_missing(alloc, before.notes, before.height, leads, &mut out)?;
         self.put_answer(alloc, event, &mut out)?;
         Ok(out)
     }
@@ -234,18 +244,27 @@ impl<H: Hasher<Digest = Digest32>, D: Disk, A: Application> Holding<H, D, A> {
         event: &Event,
         before: &Before,
         strategy: &S,
+        leads: &mut LeadMap,
     ) -> Result<StepOut, NoMemory>
         requires stands { PartsStand H.digest_of A.accepts self.old }
         requires quiet { self.old.store.staged ≡ [] }
         requires notes { before.now.notes ≤ length (stored_notes self.old.store) }
         ensures answer { (was : State)
             → IsBefore (rules_of H.digest_of A.accepts self.old) event.now was before.now
+            → GoesOnFrom (rules_of H.digest_of A.accepts self.old) was (state_of self.old)
+            leads.old.led.entries
             → IfOk result (λ out. HasAnswered H.digest_of A.accepts event.now was self.old self.new
             out) }
+        ensures led { (was : State)
+            → IsBefore (rules_of H.digest_of A.accepts self.old) event.now was before.now
+            → GoesOnFrom (rules_of H.digest_of A.accepts self.old) was (state_of self.old)
+            leads.old.led.entries
+            → OnOk result (IsLedBy (rules_of H.digest_of A.accepts self.old)
+            (stored_notes self.old.store) leads.new.led.entries) }
         ensures stands { OnOk result (PartsStand H.digest_of A.accepts self.new) }
         ensures kept { self.new ≡ knowing self.old self.new }
     {
-        let sent = self.sends(rt, alloc, event, before, strategy)?;
+        let sent = self.sends(rt, alloc, event, before, strategy, leads)?;
         let handed = self.hand_out(alloc)?;
         let tickets = self.tickets(alloc, event)?;
         Ok(StepOut {
@@ -263,13 +282,15 @@ impl<H: Hasher<Digest = Digest32>, D: Disk, A: Application> Holding<H, D, A> {
         event: &Event,
         verifier: &V,
         strategy: &S,
+        leads: &mut LeadMap,
     ) -> Result<StepOut, StoreError>
-        requires { IsReady H.digest_of A.accepts self.old }
+        requires { IsAwake H.digest_of A.accepts self.old leads.old.led.entries }
         ensures step { IfOk result
             (λ out. stepped (member_of true self.new) out
             ≡ rule.step (rules_of H.digest_of A.accepts self.old) self.old.id (V.signs verifier.now)
             (member_of true self.old) event.now) }
-        ensures ready { OnOk result (IsReady H.digest_of A.accepts self.new) }
+        ensures awake { OnOk result
+            (IsAwake H.digest_of A.accepts self.new leads.new.led.entries) }
         ensures same { IsSameHolder self.old self.new }
         ensures not_failed { IsErrOf result StoreError.Failed → ⊥ }
         ensures not_foreign { (place : ℕ) → IsErrOf result (StoreError.Foreign place) → ⊥ }
@@ -281,7 +302,7 @@ impl<H: Hasher<Digest = Digest32>, D: Disk, A: Application> Holding<H, D, A> {
         self.rests();
         let before = self.prepare(rt, alloc, event, verifier, strategy)?;
         self.commit()?;
-        let out = self.answer(rt, alloc, event, &before, strategy)?;
+        let out = self.answer(rt, alloc, event, &before, strategy, leads)?;
         Ok(out)
     }
 }

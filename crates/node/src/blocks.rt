@@ -8,11 +8,11 @@ ghost use Rattle.cw_rules.specs.Accepted.{first_some};
 ghost use Rattle.cw_rules.specs.Held as held_rule;
 ghost use Rattle.cw_rules.specs.Owed as rule;
 ghost use Rattle.node.specs.Noting.{arrival_owed};
-ghost use Rattle.node.specs.Holding.{came_of, rules_of, shown_under, state_of, whole_under};
+ghost use Rattle.node.specs.Holding.{came_of, rules_of, state_of};
 ghost use Rattle.node.specs.Standing.{PartsStand};
 ghost use Rattle.node.specs.Store.{stored_notes};
 
-use crate::arrival::{Arrival, Shown};
+use crate::arrival::Arrival;
 use crate::holding::Holding;
 use cw_base::{Digest32, Hasher, NoMemory};
 use cw_types::laws::commitment_fits;
@@ -29,7 +29,7 @@ impl<H: Hasher<Digest = Digest32>, D: Disk, A: Application> Holding<H, D, A> {
             ≡ first_some (held_rule.whole_of (rules_of H.digest_of A.accepts self.now)
             commitment.now) (came_of self.now).parts }
     {
-        whole_in(self.arrivals.as_slice(), commitment)
+        self.arrivals.whole(commitment)
     }
 
     // The block as which a commitment is shown.
@@ -43,7 +43,7 @@ impl<H: Hasher<Digest = Digest32>, D: Disk, A: Application> Holding<H, D, A> {
         commitment_fits(*commitment);
         match self.whole(commitment) {
             Some(block) => Some(block),
-            None => shown_in(self.shown.as_slice(), commitment),
+            None => self.shown.under(commitment),
         }
     }
 
@@ -106,46 +106,4 @@ impl<H: Hasher<Digest = Digest32>, D: Disk, A: Application> Holding<H, D, A> {
             None => Ok(None),
         }
     }
-}
-
-// The block of an arrival, where it came whole under that commitment.
-fn whole_of<'a>(arrival: &'a Arrival, commitment: &Commitment) -> Option<&'a ChainBlock>
-    ensures { option_map (λ block. block.now) result ≡ whole_under commitment.now arrival.now }
-{
-    match &arrival.block {
-        Some(block) => {
-            if arrival.commitment.is_same(commitment) {
-                Some(block)
-            } else {
-                None
-            }
-        }
-        None => None,
-    }
-}
-
-// The first of these that came whole under a commitment.
-fn whole_in<'a>(arrivals: &'a [Arrival], commitment: &Commitment) -> Option<&'a ChainBlock>
-    ensures { option_map (λ block. block.now) result
-        ≡ first_some (whole_under commitment.now) arrivals.now }
-{
-    for arrival in arrivals {
-        if let Some(block) = whole_of(arrival, commitment) {
-            return Some(block);
-        }
-    }
-    None
-}
-
-// The first of these that was shown under a commitment.
-fn shown_in<'a>(shown: &'a [Shown], commitment: &Commitment) -> Option<&'a ChainBlock>
-    ensures { option_map (λ block. block.now) result
-        ≡ first_some (shown_under commitment.now) shown.now }
-{
-    for one in shown {
-        if commitment.is_same(&one.commitment) {
-            return Some(&one.block);
-        }
-    }
-    None
 }

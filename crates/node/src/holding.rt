@@ -8,7 +8,7 @@ ghost use Rattle.node_disk.specs.Disk.{LeavesOnly};
 ghost use Rattle.node_disk.specs.Log.{HasSettled};
 ghost use Rattle.node.specs.Store.{store_of};
 
-use crate::arrival::{Arrival, Shown};
+use crate::came::{Arrivals, ShownBlocks};
 use crate::store::Store;
 use cw_base::{Digest32, Hasher, Items};
 use cw_types::{Application, Commitment, Committees};
@@ -29,8 +29,8 @@ pub(crate) struct Holding<H: Hasher<Digest = Digest32>, D: Disk, A> {
     pub store: Store<H, D>,
     pub tally: Tally<H>,
     pub shards: Shards<H>,
-    pub arrivals: Items<Arrival>,
-    pub shown: Items<Shown>,
+    pub arrivals: Arrivals,
+    pub shown: ShownBlocks,
     pub wishes: Items<Commitment>,
     pub alloc: Global,
     pub disk: PhantomData<D>,

@@ -10,6 +10,7 @@ ghost use Rattle.node.specs.State.{IsAtWork, IsMarshalOf, IsNodeOf, IsSameNode, 
 ghost use Rattle.node.specs.State.{rules_of, stepped};
 
 use crate::holding::Holding;
+use crate::leads::LeadMap;
 use crate::start::Setup;
 use crate::store::Store;
 use cw_base::{Digest32, Hasher, NoMemory, Strategy};
@@ -39,6 +40,8 @@ pub type NodeError = StoreError;
 #[derive(Drop)]
 pub struct Node<H: Hasher<Digest = Digest32>, D: Disk, A: Application + Drop> {
     holding: Holding<H, D, A>,
+    // What its notes lead to.
+    leads: LeadMap,
     // A step was refused, by the disk or for memory.
     failed: bool,
 }
@@ -47,13 +50,14 @@ impl<H: Hasher<Digest = Digest32>, D: Disk, A: Application + Drop> Model for Nod
     ghost use Rattle.std.specs.Prelude.{◌≡◌, false, not};
     ghost use Rattle.node.specs.State.{NodeState};
     ghost use Rattle.node.specs.Holding.{node_of};
-    ghost use Rattle.node.specs.Standing.{IsReady};
+    ghost use Rattle.node.specs.Standing.{IsAwake};
 
     ghost Value = { NodeState D A };
 
     ghost view = { λ n. node_of (not n.failed) n.holding };
 
-    ghost invariant = { λ n. n.failed ≡ false → IsReady H.digest_of A.accepts n.holding };
+    ghost invariant = { λ n. n.failed ≡ false
+        → IsAwake H.digest_of A.accepts n.holding n.leads.led.entries };
 }
 
 // Three copies of the committees.
@@ -122,12 +126,14 @@ impl<H: Hasher<Digest = Digest32>, D: Disk, A: Application + Drop> Node<H, D, A>
             Ok(holding) => holding,
             Err(refused) => return Err(refused),
         };
-        match holding.open(rt, alloc, strategy) {
+        let mut leads = LeadMap::new(alloc);
+        match holding.open(rt, alloc, strategy, &mut leads) {
             Ok(out) => {
                 holding.rests();
                 Ok((
                     Node {
                         holding,
+                        leads,
                         failed: false,
                     },
                     out,
@@ -177,7 +183,10 @@ impl<H: Hasher<Digest = Digest32>, D: Disk, A: Application + Drop> Node<H, D, A>
             return Err(StoreError::Failed);
         }
         self.failed = true;
-        match self.holding.act(rt, alloc, event, verifier, strategy) {
+        match self
+            .holding
+            .act(rt, alloc, event, verifier, strategy, &mut self.leads)
+        {
             Ok(out) => {
                 self.holding.rests();
                 self.failed = false;
@@ -235,7 +244,11 @@ impl<H: Hasher<Digest = Digest32>, D: Disk, A: Application + Drop> Node<H, D, A>
     pub fn into_disk(self) -> D
         ensures { result ≡ self.log.disk }
     {
-        let Node { holding, failed: _ } = self;
+        let Node {
+            holding,
+            leads: _,
+            failed: _,
+        } = self;
         holding.into_disk()
     }
 }

@@ -8,11 +8,13 @@ ghost use Rattle.cw_rules.specs.Step as rule;
 ghost use Rattle.marshal.specs.Stored.{log_of};
 ghost use Rattle.node.specs.Store.{store_of};
 ghost use Rattle.node.specs.Holding.{begun, came_of, knowing, member_of, rules_of};
-ghost use Rattle.node.specs.Standing.{IsReady};
+ghost use Rattle.node.specs.Standing.{IsAwake, IsReady};
 ghost use Rattle.node.specs.State.{stepped};
 ghost use Rattle.node.specs.Store.{stored_notes};
 
+use crate::came::{Arrivals, ShownBlocks};
 use crate::holding::Holding;
+use crate::leads::LeadMap;
 use crate::store::Store;
 use cw_base::{Digest32, Hasher, Items, NoMemory, Strategy};
 use cw_types::{Application, Committees, Note, StepOut};
@@ -81,8 +83,8 @@ impl<H: Hasher<Digest = Digest32>, D: Disk, A: Application + Drop> Holding<H, D,
             store,
             tally: Tally::new(alloc, lists.0, id),
             shards: Shards::new(alloc, lists.1),
-            arrivals: Items::new(alloc),
-            shown: Items::new(alloc),
+            arrivals: Arrivals::new(alloc),
+            shown: ShownBlocks::new(alloc),
             wishes: Items::new(alloc),
             alloc,
             disk: PhantomData,
@@ -159,22 +161,24 @@ impl<H: Hasher<Digest = Digest32>, D: Disk, A: Application + Drop> Holding<H, D,
         rt: &R,
         alloc: Global,
         strategy: &S,
+        leads: &mut LeadMap,
     ) -> Result<StepOut, NoMemory>
         requires ready { IsReady H.digest_of A.accepts self.old }
         requires came { came_of self.old ≡ rule.nothing_came }
         requires given { self.old.store.given ≡ [] }
         requires tickets { self.old.store.tickets ≡ rule.no_tickets }
+        requires nothing { leads.old.led.entries ≡ [] }
         ensures start { IfOk result
             (λ out. stepped (member_of true self.new) out
             ≡ rule.start (rules_of H.digest_of A.accepts self.old) self.old.id
             self.old.store.frames) }
-        ensures ready { OnOk result (IsReady H.digest_of A.accepts self.new) }
+        ensures awake { OnOk result
+            (IsAwake H.digest_of A.accepts self.new leads.new.led.entries) }
         ensures frames { OnOk result (self.new.store.frames ≡ self.old.store.frames) }
         ensures kept { self.new ≡ knowing self.old self.new }
     {
         let mut sent = self.notes_out(rt, alloc, self.store.last_frame(), strategy)?;
-        let missing = self.missing(alloc)?;
-        self.put_asks(&missing, &[], &mut sent)?;
+        self.put_missing(alloc, 0, 0, leads, &mut sent)?;
         let handed = self.hand_out(alloc)?;
         Ok(StepOut {
             sent: Items::from_vec(sent),

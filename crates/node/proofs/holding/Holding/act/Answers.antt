@@ -3,10 +3,12 @@ use Rattle.cw_rules.specs.Rules.{Rules}
 use Rattle.cw_types.specs.declared.event.StepOut.{StepOut}
 use Rattle.node_disk.specs.declared.log.StoreError.{StoreError}
 use Rattle.node.specs.Disks.{HasTried}
-use Rattle.node.proofs.Stepping.{no_fewer, stands_committed, whole_step}
+use Rattle.node.proofs.Stepping.{goes_on, no_fewer, stands_committed, whole_step}
 use Rattle.node.proofs.Tried.{err_is, tried_none}
 use Rattle.node.specs.Acting.{IsBefore, notes_of_event}
 use Rattle.node.specs.Holding.{Holding, rules_of, state_of}
+use Rattle.node.specs.Leading.{IsLedBy}
+use Rattle.node.specs.Store.{stored_notes}
 use Rattle.node.proofs.holding.Holding.act.Goals as goal
 
 pub returns-in_err-before-clause-disk : goal.returns-in_err-before-clause-disk
@@ -22,7 +24,7 @@ returns-in_err-before-clause-disk g c =
     h.store.frames notes x h.log c.prepare.new.self.log)
     (sym (err_is c.from_residual.result c.from_residual.ensures.1))
     (tried_none g.D.Disk.state g.D.Disk.continues laws.continues_itself {X = StepOut} h.store.frames
-    notes h.log c.prepare.new.self.log (c.rests.ensures.still c.requires.stands.running notes)
+    notes h.log c.prepare.new.self.log (c.rests.ensures.still c.requires.ready.stands.running notes)
     log)
 
 pub answer-requires-clause-stands : goal.answer-requires-clause-stands
@@ -72,12 +74,16 @@ returns-clause-step g c =
     let before =
     subst (λ (r : Rules). IsBefore r ev (state_of h) c.in_ok-before.before) (sym later)
     c.in_ok-before.ensures.before in
-    whole_step hash accepts signed ev h b m c.answer.new.self c.in_ok-out.out c.requires.quiet acted
+    let on =
+    goes_on hash accepts signed ev h b m c.args.leads.now.led.entries acted rules is
+    c.requires.led in
+    whole_step hash accepts signed ev h b m c.answer.new.self c.in_ok-out.out
+    c.requires.ready.quiet acted
     rules (ap (λ (k : Holding g.row.D.Denot g.row.A.Denot). k.id) kept) is
-    (c.in_ok-out.ensures.answer (state_of h) before)
+    (c.in_ok-out.ensures.answer (state_of h) before on)
 
-pub returns-clause-ready : goal.returns-clause-ready
-returns-clause-ready g c =
+pub returns-clause-awake : goal.returns-clause-awake
+returns-clause-awake g c =
     let h = c.args.self.now in
     let hash = g.H.Hasher.digest_of in
     let accepts = g.A.Application.accepts in
@@ -94,10 +100,22 @@ returns-clause-ready g c =
     let before =
     subst (λ (r : Rules). IsBefore r ev (state_of h) c.in_ok-before.before) (sym later)
     c.in_ok-before.ensures.before in
-    let left = (c.in_ok-out.ensures.answer (state_of h) before).left in
+    let on =
+    goes_on hash accepts signed ev h b m c.args.leads.now.led.entries acted rules is
+    c.requires.led in
+    let left = (c.in_ok-out.ensures.answer (state_of h) before on).left in
     record {
-      stands = c.in_ok-out.ensures.stands;
-      quiet =
-          ap (λ (k : Holding g.row.D.Denot g.row.A.Denot). k.store.staged) left
-          ∙ ap (λ (k : Holding g.row.D.Denot g.row.A.Denot). k.store.staged) is;
+      ready =
+          record {
+            stands = c.in_ok-out.ensures.stands;
+            quiet =
+                ap (λ (k : Holding g.row.D.Denot g.row.A.Denot). k.store.staged) left
+                ∙ ap (λ (k : Holding g.row.D.Denot g.row.A.Denot). k.store.staged) is;
+          };
+      led =
+          subst
+          (λ (k : Holding g.row.D.Denot g.row.A.Denot). IsLedBy (rules_of hash accepts k)
+          (stored_notes k.store) c.answer.new.leads.led.entries)
+          (sym left)
+          (c.in_ok-out.ensures.led (state_of h) before on);
     }

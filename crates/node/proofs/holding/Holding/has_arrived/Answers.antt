@@ -13,5 +13,4 @@ returns g c =
     (λ (k : Holding g.row.D.Denot g.row.A.Denot). list_any (is_whole c.args.block.now)
     k.arrivals)
     c.self.view_is in
-    c.has_whole.ensures
-    ∙ (ap (list_any (is_whole c.args.block.now)) c.as_slice.ensures ∙ (same ∙ sym all))
+    c.has.ensures ∙ (same ∙ sym all)

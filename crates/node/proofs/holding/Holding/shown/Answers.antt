@@ -16,7 +16,5 @@ returns-in-None g c =
     let same =
     ap (λ (k : Holding g.row.D.Denot g.row.A.Denot). first_some (shown_under m) k.shown)
     c.self.view_is in
-    c.shown_in.ensures
-    ∙ (ap (first_some (shown_under m)) c.as_slice.ensures
-    ∙ (same
-    ∙ (sym (c.requires.shown m (c.commitment_fits.ensures.config.minimum.0)) ∙ sym law)))
+    c.under.ensures
+    ∙ (same ∙ (sym (c.requires.shown m (c.commitment_fits.ensures.config.minimum.0)) ∙ sym law))

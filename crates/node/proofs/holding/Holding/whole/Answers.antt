@@ -15,5 +15,4 @@ returns g c =
     (λ (k : Holding g.row.D.Denot g.row.A.Denot). first_some
     (whole_under c.args.commitment.now) k.arrivals)
     c.self.view_is in
-    c.whole_in.ensures
-    ∙ (ap (first_some (whole_under c.args.commitment.now)) c.as_slice.ensures ∙ (same ∙ sym all))
+    c.whole.ensures ∙ (same ∙ sym all)

@@ -1,12 +1,12 @@
 use Rattle.std.proofs.Common.{None}
 use Rattle.node_disk.specs.Memory.{is_stopped}
-use Rattle.node.proofs.Working.{ready_logged}
+use Rattle.node.proofs.Working.{awake_logged}
 use Rattle.node.proofs.node.Node+H+MemoryDisk+A.disarm.Goals as goal
 
 pub invariant_of-self : goal.invariant_of-self
 invariant_of-self g c = λ works.
     let h = c.self.inside.holding in
     let disk = h.log.disk in
-    ready_logged g.H.Hasher.digest_of g.A.Application.accepts (is_stopped disk) h c.disarm.new.self
+    awake_logged g.H.Hasher.digest_of g.A.Application.accepts (is_stopped disk) h c.disarm.new.self c.self.inside.leads.led.entries
     (record h.log { disk = record disk { stop = None } }) c.disarm.ensures.dropped
     c.disarm.ensures.stopped (c.self.invariant works)

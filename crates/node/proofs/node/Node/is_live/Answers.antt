@@ -11,7 +11,7 @@ returns-clause-at_work g c alive =
     let h = c.self.inside.holding in
     let live : not c.self.inside.failed ≡ true =
     ap (λ (n : NodeState g.row.D.Denot g.row.A.Denot). n.member.live) c.self.view_is ∙ alive in
-    let running = (c.self.invariant (not-true c.self.inside.failed live)).stands.running in
+    let running = (c.self.invariant (not-true c.self.inside.failed live)).ready.stands.running in
     let now = (λ i. node_of (sym live i) h) ∙ c.self.view_is in
     subst (λ (n : NodeState g.row.D.Denot g.row.A.Denot). IsAtWork g.D.Disk.state n) now
     (at_work g.D.Disk.state h running c.rests.ensures.running c.rests.ensures.frames

@@ -17,7 +17,7 @@ returns g c =
       value = λ alive.
           let live : not c.self.inside.failed ≡ true =
           ap (λ (n : NodeState g.row.D.Denot g.row.A.Denot). n.member.live) e ∙ alive in
-          let ready = c.self.invariant (not-true c.self.inside.failed live) in
+          let ready = (c.self.invariant (not-true c.self.inside.failed live)).ready in
           record {
             epochs =
                 ap (λ (s : Store). s.epochs) store

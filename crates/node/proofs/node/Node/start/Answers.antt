@@ -18,7 +18,7 @@ returns-in-Ok-open-clause-start g c =
 pub returns-in-Ok-open-clause-at_work : goal.returns-in-Ok-open-clause-at_work
 returns-in-Ok-open-clause-at_work g c =
     let h = c.open.new.self in
-    let running = c.in-Ok-open.ensures.ready.stands.running in
+    let running = c.in-Ok-open.ensures.awake.ready.stands.running in
     at_work g.D.Disk.state h running c.rests.ensures.running c.rests.ensures.frames
     c.rests.ensures.readable
     (c.rests.ensures.settled running) (c.rests.ensures.still running [])

@@ -29,7 +29,7 @@ returns-in-Ok-clause-step g c =
 
 pub returns-in-Ok-clause-at_work : goal.returns-in-Ok-clause-at_work
 returns-in-Ok-clause-at_work g c =
-    let running = c.in-Ok.ensures.ready.stands.running in
+    let running = c.in-Ok.ensures.awake.ready.stands.running in
     at_work g.D.Disk.state c.act.new.self running c.rests.ensures.running c.rests.ensures.frames
     c.rests.ensures.readable
     (c.rests.ensures.settled running) (c.rests.ensures.still running [])
@@ -41,7 +41,7 @@ returns-in-Err-clause-disk g c alive =
     let signed = g.V.Verifier.signs c.args.verifier.now in
     let h = c.self.inside.holding in
     let r = holding.rules_of hash accepts h in
-    let ready = c.self.invariant c.if-self.false in
+    let ready = (c.self.invariant c.if-self.false).ready in
     let error : Result StepOut StoreError = Err c.in-Err.error in
     let first =
     subst
