@@ -203,4 +203,13 @@ watch_commitment 3: 2
 verify 1: true
 certify 3 3: true
 tickets: [(0, 1), (2, 3)]
+== noted_block_has_its_place
+3 chain 1 2
+places: []
+verify 1: true
+places: [(1, 0)]
+verify 1: true
+places: [(1, 0)]
+restart: None
+places: [(1, 0)]
 ";
