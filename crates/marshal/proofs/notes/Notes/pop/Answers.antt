@@ -1,4 +1,4 @@
-use Rattle.std.proofs.Common.{◌≡◌, ◌++◌, ◌∷◌, [], List, subst}
+use Rattle.std.proofs.Common.{◌≡◌, ◌++◌, ◌∷◌, [], List, length, rules, subst}
 use Rattle.cw_types.specs.Values.{IsNote}
 use Rattle.cw_types.specs.declared.note.Note.{Note}
 use Rattle.std.specs.List.{AllByRecursion}
@@ -12,6 +12,7 @@ invariant_of-self g c =
     let less = c.pop.new.self.items in
     let note = c.in-Some.note in
     let split : c.self.inside.notes.items ≡ less ++ note ∷ [] = c.in-Some.ensures.items in
+    let at : c.len.result ≡ length less = search rules in
     record {
       forms =
           all_less IsNote less (note ∷ [])
@@ -25,7 +26,7 @@ invariant_of-self g c =
           c.take_place.ensures less
           (subst (λ (ns : List Note). HasPlaces c.self.inside.places.entries ns) split
           c.self.invariant.placed)
-          c.len.ensures;
+          at;
       first_block = c.self.invariant.first_block;
       first_commitment = c.self.invariant.first_commitment;
     }
