@@ -1,7 +1,6 @@
 //! Noted blocks, with their digests.
 
-ghost use Rattle.std.specs.Prelude.{◌≡◌, IfSome, List, map, option_map};
-ghost use Rattle.cw_rules.specs.Accepted.{first_some};
+ghost use Rattle.std.specs.Prelude.{◌≡◌, IfSome, map, option_and_then, option_map, slice_get};
 ghost use Rattle.cw_rules.specs.Held as held;
 ghost use Rattle.cw_types.specs.Encoding.{block_bytes};
 ghost use Rattle.marshal.specs.Kept.{note_digest};
@@ -17,24 +16,26 @@ pub(crate) struct Held<'a> {
     pub digest: Digest32,
 }
 
-/// The block of the first Block note of a commitment.
-pub(crate) fn noted_in<'a, H: Hasher<Digest = Digest32>>(
+/// The block of the note at a place, where it is a Block note of that commitment.
+pub(crate) fn block_at<'a, H: Hasher<Digest = Digest32>>(
     notes: &'a [Note],
     digests: &[Option<Digest32>],
+    place: usize,
     commitment: &Commitment,
 ) -> Option<Held<'a>>
     requires { digests.now ≡ map (note_digest H.digest_of) notes.now }
-    ensures block { option_map (λ h. h.block.now) result ≡ first_some
-        (held.noted_block_of commitment.now) notes.now }
+    ensures block { option_map (λ h. h.block.now) result ≡ option_and_then
+        (held.noted_block_of commitment.now) (slice_get notes.now place) }
     ensures digest { IfSome result (λ h. h.digest ≡ H.digest_of (block_bytes h.block.now)) }
 {
-    for (index, note) in notes.iter().enumerate() {
-        if let Some(block) = noted_block_of(note, commitment) {
-            match digests[index] {
-                Some(digest) => return Some(Held { block, digest }),
+    match notes.get(place) {
+        Some(note) => match noted_block_of(note, commitment) {
+            Some(block) => match digests[place] {
+                Some(digest) => Some(Held { block, digest }),
                 None => unreachable!(),
-            }
-        }
+            },
+            None => None,
+        },
+        None => None,
     }
-    None
 }

@@ -62,6 +62,8 @@ pub(crate) enum StoreCall {
     Of(usize),
     /// Whether a block is found by its commitment and by its digest.
     Has(usize),
+    /// The blocks that are noted, each with the place of the first such note.
+    Places,
     /// How many of the blocks are at their heights.
     Final,
     /// The view of the finalization of a height.
@@ -155,6 +157,7 @@ fn asking(call: Call) -> Result<StoreCall, Fail> {
         "count_at" => StoreCall::CountAt(first, second),
         "of" => StoreCall::Of(place),
         "has" => StoreCall::Has(place),
+        "places" => StoreCall::Places,
         "final" => StoreCall::Final,
         "finalization" => StoreCall::Finalization(first),
         "floor" => StoreCall::Floor,
@@ -239,6 +242,7 @@ fn known(alloc: Global, store: &Store, blocks: &[Made], call: StoreCall) -> Resu
             text(alloc, block_found(store, blocks, id)?)
         }
         StoreCall::Has(place) => text(alloc, store.has(at(blocks, place)?)),
+        StoreCall::Places => text(alloc, places(alloc, store, blocks)?),
         StoreCall::Final => text(alloc, count_final(store, blocks)),
         StoreCall::Finalization(height) => text(alloc, store.finalized_in(height)),
         StoreCall::Floor => text(alloc, store.floor()),
@@ -316,6 +320,14 @@ fn served(alloc: Global, store: &mut Store, blocks: &[Made]) -> Result<Vec<(u64,
         served.push((*ticket, named(blocks, commitment)?))?;
     }
     Ok(served)
+}
+
+fn places(alloc: Global, store: &Store, blocks: &[Made]) -> Result<Vec<(usize, u64)>, Fail> {
+    let mut places = Vec::new(alloc);
+    for (commitment, place) in store.get().places() {
+        places.push((named(blocks, commitment)?, *place))?;
+    }
+    Ok(places)
 }
 
 // The place of a block under its commitment.

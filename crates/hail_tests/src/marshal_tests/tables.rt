@@ -290,4 +290,13 @@ tickets: []
 verify 5: true
 tickets: [(4, 5)]
 tickets: []
+== noted_block_has_its_place
+3 chain 1 2
+places: []
+verify 1: true
+places: [(1, 0)]
+verify 1: true
+places: [(1, 0)]
+restart: None
+places: [(1, 0)]
 ";

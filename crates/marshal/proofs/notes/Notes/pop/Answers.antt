@@ -1,0 +1,32 @@
+use Rattle.std.proofs.Common.{◌≡◌, ◌++◌, ◌∷◌, [], List, length, rules, subst}
+use Rattle.cw_types.specs.Values.{IsNote}
+use Rattle.cw_types.specs.declared.note.Note.{Note}
+use Rattle.std.specs.List.{AllByRecursion}
+use Rattle.marshal.specs.Kept.{note_digest}
+use Rattle.marshal.specs.Placed.{HasPlaces}
+use Rattle.marshal.proofs.Truncating.{all_less, maps_less}
+use Rattle.marshal.proofs.notes.Notes.pop.Goals as goal
+
+pub invariant_of-self : goal.invariant_of-self
+invariant_of-self g c =
+    let less = c.pop.new.self.items in
+    let note = c.in-Some.note in
+    let split : c.self.inside.notes.items ≡ less ++ note ∷ [] = c.in-Some.ensures.items in
+    let at : c.len.result ≡ length less = search rules in
+    record {
+      forms =
+          all_less IsNote less (note ∷ [])
+          (subst (λ (ns : List Note). AllByRecursion IsNote ns) split c.self.invariant.forms);
+      digested =
+          maps_less (note_digest g.H.Hasher.digest_of) c.self.inside.notes.items less note _ _ _
+          c.pop-in-Some.result c.self.inside.digests.items c.pop-in-Some.new.self.items split
+          c.self.invariant.digested c.pop-in-Some.ensures.items c.pop-in-Some.ensures.rest
+          c.pop-in-Some.ensures.cases;
+      placed =
+          c.take_place.ensures less
+          (subst (λ (ns : List Note). HasPlaces c.self.inside.places.entries ns) split
+          c.self.invariant.placed)
+          at;
+      first_block = c.self.invariant.first_block;
+      first_commitment = c.self.invariant.first_commitment;
+    }

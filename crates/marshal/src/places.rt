@@ -1,0 +1,69 @@
+//! Where the first Block note of each commitment stands.
+
+ghost use Rattle.std.specs.Prelude.{◌≡◌, ◌++◌, ◌∷◌, [], List, OnErr, OnOk, length};
+ghost use Rattle.cw_types.specs.declared.note.Note.{Note as NoteValue};
+ghost use Rattle.marshal.specs.Placed.{HasPlaces, KeepsFirst, LetsGo};
+
+use cw_base::NoMemory;
+use cw_types::{Commitment, Note};
+use std::collections::BTreeMap;
+
+/// Keeps the place of a note that goes to the end. Where memory is short nothing changes.
+pub(crate) fn put_place(
+    places: &mut BTreeMap<Commitment, u64>,
+    note: &Note,
+    place: u64,
+) -> Result<(), NoMemory>
+    ensures ok { (notes : List NoteValue) → HasPlaces places.old.entries notes
+        → place ≡ length notes
+        → OnOk result (HasPlaces places.new.entries (notes ++ note.now ∷ [])) }
+    ensures err { OnErr result (places.new.entries ≡ places.old.entries) }
+{
+    match note {
+        Note::Block(commitment, _) => {
+            put_first(places, commitment, place)?;
+            Ok(())
+        }
+        _ => Ok(()),
+    }
+}
+
+// Keeps a place at a commitment that has none.
+fn put_first(
+    places: &mut BTreeMap<Commitment, u64>,
+    commitment: &Commitment,
+    place: u64,
+) -> Result<(), NoMemory>
+    ensures ok { OnOk result (KeepsFirst commitment.now place places.old.entries
+        places.new.entries) }
+    ensures err { OnErr result (places.new.entries ≡ places.old.entries) }
+{
+    if places.contains_key(commitment) {
+        return Ok(());
+    }
+    places.insert(*commitment, place)?;
+    Ok(())
+}
+
+/// Lets the place of the last note go.
+pub(crate) fn take_place(places: &mut BTreeMap<Commitment, u64>, note: &Note, place: u64)
+    ensures { (notes : List NoteValue) → HasPlaces places.old.entries (notes ++ note.now ∷ [])
+        → place ≡ length notes → HasPlaces places.new.entries notes }
+{
+    if let Note::Block(commitment, _) = note {
+        take_last(places, commitment, place);
+    }
+}
+
+// Lets a place go, where it is the one at that commitment.
+fn take_last(places: &mut BTreeMap<Commitment, u64>, commitment: &Commitment, place: u64)
+    ensures { LetsGo commitment.now place places.old.entries places.new.entries }
+{
+    let is_last = match places.get(commitment) {
+        Some(found) => *found == place,
+        None => false,
+    };
+    if is_last {
+        let _ = places.remove(commitment);
+    }
+}
