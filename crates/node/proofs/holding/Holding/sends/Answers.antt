@@ -1,7 +1,6 @@
-use Rattle.std.proofs.Common.{◌∙◌, ◌++◌, List, ap, append_assoc, drop}
+use Rattle.std.proofs.Common.{◌∙◌, ◌++◌, List, ap, drop}
 use Rattle.std.specs.List.{flat_map}
 use Rattle.cw_types.specs.declared.event.Out.{Out}
-use Rattle.cw_rules.specs.Notes.{epoch_of}
 use Rattle.cw_rules.specs.Sends.{answer, missing, note_sends, own_chunk}
 use Rattle.node.specs.Asking.{asks}
 use Rattle.node.specs.Holding.{Holding, rules_of, state_of}
@@ -17,7 +16,6 @@ returns-clause-out g c = λ old is on.
     let ev = c.args.event.now in
     let n = c.args.before.now.notes in
     let each = flat_map (note_sends r h.id all) in
-    let own = own_chunk r h.id (epoch_of old.notes) old.came ev in
     let asked = asks h.id (missing r (state_of h)) (missing r old) in
     let last = answer r h.id all ev in
     let notes =
@@ -31,7 +29,4 @@ returns-clause-out g c = λ old is on.
     let third =
     c.in_ok-put_missing.ensures.asked old on is.notes is.height
     ∙ ap (λ (l : List Out). l ++ asked) second in
-    c.in_ok-put_answer.ensures
-    ∙ (ap (λ (l : List Out). l ++ last) third
-    ∙ (append_assoc (each (drop n all) ++ own) asked last
-    ∙ append_assoc (each (drop n all)) own (asked ++ last)))
+    c.in_ok-put_answer.ensures ∙ ap (λ (l : List Out). l ++ last) third
