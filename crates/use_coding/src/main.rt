@@ -24,7 +24,7 @@ fn main(rt: HostRuntime) -> Result<()> {
 
     // Lose the first three. Each that comes is checked at its index, under the root.
     let mut checked = Vec::new(alloc);
-    for chunk in &chunks[3..] {
+    for chunk in chunks.iter().skip(3) {
         let one = Code::check(alloc, &config, &root, chunk.index(), chunk, &Sequential)?;
         checked.push(one)?;
     }
@@ -34,10 +34,12 @@ fn main(rt: HostRuntime) -> Result<()> {
     println!(rt; "restored: {}", back.as_slice() == TEXT)?;
 
     // Three chunks are not enough, and no chunk stands at another's index.
-    if let Err(error) = Code::decode(&rt, alloc, &config, &root, checked[1..].iter(), &Sequential) {
+    let few = checked.iter().skip(1);
+    if let Err(error) = Code::decode(&rt, alloc, &config, &root, few, &Sequential) {
         println!(rt; "of three chunks: {error}")?;
     }
-    if let Err(error) = Code::check(alloc, &config, &root, 2, &chunks[3], &Sequential) {
+    let fourth = chunks.get(3).context("the chunk of index 3")?;
+    if let Err(error) = Code::check(alloc, &config, &root, 2, fourth, &Sequential) {
         println!(rt; "chunk 3 as chunk 2: {error}")?;
     }
     Ok(())
