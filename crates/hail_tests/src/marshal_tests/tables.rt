@@ -102,9 +102,10 @@ finalization 5: Some(5)
 finalization 6: None
 == a_height_is_delivered_once_in_a_start
 3 chain 1 2
-anchor: Some((0, 0))
+anchor: None
 deliver: [0]
 acknowledge: Some(0)
+anchor: Some((0, 0))
 verify_to 2: 2
 report_to 2: 2
 deliver: [1, 2]
