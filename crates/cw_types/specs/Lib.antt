@@ -6,7 +6,6 @@ pub mod Handoff
 pub mod Numbers
 pub mod Order
 pub mod OrderLaws
-pub mod Payload
 pub mod Reading
 pub mod Same
 pub mod Values
