@@ -6,6 +6,7 @@ pub mod Handoff
 pub mod Numbers
 pub mod Order
 pub mod OrderLaws
+pub mod Payload
 pub mod Reading
 pub mod Same
 pub mod Values

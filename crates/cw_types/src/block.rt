@@ -1,14 +1,14 @@
-//! Blocks of the chain, their payloads, and where they were proposed.
+//! Blocks of the chain, and where they were proposed.
 
-ghost use Rattle.std.specs.Prelude.{◌≡◌, ◌↔◌, ◌-◌, ◌^◌, ◌<◌, ◌≤◌, [], ◌++◌, IsErr, IfOk, IfErr};
-ghost use Rattle.std.specs.Prelude.{OnOk, OnErr, take, length};
+ghost use Rattle.std.specs.Prelude.{◌≡◌, ◌-◌, ◌^◌, ◌<◌, ◌++◌, IfOk, OnOk, OnErr, take, length};
 ghost use Rattle.cw_types.specs.Encoding.{context_bytes, block_bytes};
 ghost use Rattle.cw_types.specs.Same.{same_context, same_block};
-ghost use Rattle.cw_types.specs.Reading.{context_at, height_at, payload_at, block_at};
+ghost use Rattle.cw_types.specs.Reading.{context_at, height_at, block_at};
 ghost use Rattle.cw_base.specs.Ends.{IsEnd};
 ghost use Rattle.cw_base.specs.Reading.{IsRead, Gives};
 
 use crate::commitment::{Commitment, put_at, read_digest};
+use crate::payload::{Payload, read_payload};
 use cw_base::{
     CodecError, Digest32, NoMemory, Reader, put_be16, put_be64, put_bytes, put_varint, undo_refused,
 };
@@ -107,86 +107,6 @@ impl Context {
     }
 }
 
-/// What a block carries: at most 1,048,576 bytes.
-#[derive(Debug, Drop)]
-pub struct Payload {
-    bytes: Vec<u8>,
-}
-
-impl Model for Payload {
-    ghost use Rattle.std.specs.Prelude.{List, ℕ, ◌≤◌, length};
-
-    ghost Value = { List ℕ };
-
-    ghost view = { λ p. p.bytes.items };
-
-    ghost invariant = { λ p. length p.bytes.items ≤ 1048576 };
-}
-
-impl Payload {
-    /// The most bytes of a payload.
-    pub const MAX: usize = 1_048_576;
-
-    /// A payload of these bytes; hands them back where there are too many. Takes no memory.
-    pub fn new(bytes: Vec<u8>) -> Result<Payload, Vec<u8>>
-        ensures ok { IfOk result (λ payload. payload ≡ bytes.items) }
-        ensures err { IfErr result (λ back. back ≡ bytes) }
-        ensures exact { IsErr result ↔ (1048576 < length bytes.items) }
-    {
-        if bytes.len() > Payload::MAX {
-            return Err(bytes);
-        }
-        Ok(Payload { bytes })
-    }
-
-    /// The payload without bytes. Takes no memory.
-    pub fn empty(alloc: Global) -> Payload
-        ensures { result ≡ [] }
-    {
-        Payload {
-            bytes: Vec::new(alloc),
-        }
-    }
-
-    pub fn bytes(&self) -> &[u8]
-        ensures value { result.now ≡ self.now }
-        ensures bound { length self.now ≤ 1048576 }
-    {
-        &self.bytes
-    }
-
-    /// An equal payload.
-    pub fn copy(&self, alloc: Global) -> Result<Payload, NoMemory>
-        ensures { IfOk result (λ copy. copy ≡ self.now) }
-    {
-        Ok(Payload {
-            bytes: Vec::from_slice(alloc, &self.bytes)?,
-        })
-    }
-}
-
-impl PartialEq for Payload {
-    ghost use Rattle.std.specs.Prelude.{◌==◌};
-    ghost use Rattle.std.specs.Cmp.Lexicographic.{pointwise};
-    ghost use Rattle.std.specs.Cmp.Rules.{comparing};
-    ghost use Rattle.std.proofs.Common.{rules};
-
-    ghost eq = { λ a b. pointwise ◌==◌ a b };
-
-    ghost laws = { Prim.search (comparing, rules) };
-
-    fn eq(&self, other: &Payload) -> bool {
-        self.bytes.as_slice() == other.bytes.as_slice()
-    }
-}
-
-impl Eq for Payload {
-    ghost use Rattle.std.specs.Cmp.Rules.{comparing};
-    ghost use Rattle.std.proofs.Common.{rules};
-
-    ghost laws = { Prim.search (comparing, rules) };
-}
-
 // The most bytes of a block: 126 of its context, 32 of its parent's digest, 8 of its height, 3 of
 // its payload's length, and the payload.
 pub(crate) const MAX_BLOCK: usize = 1_048_745;
@@ -279,7 +199,7 @@ impl ChainBlock {
             && self.payload().bytes() == other.payload().bytes()
     }
 
-    /// An equal block.
+    /// An equal block, whose payload is a copy as [`Payload::copy`] makes it.
     pub fn copy(&self, alloc: Global) -> Result<ChainBlock, NoMemory>
         ensures { IfOk result (λ copy. copy ≡ self.now) }
     {
@@ -352,23 +272,4 @@ pub(crate) fn read_height(reader: &mut Reader) -> Result<u64, CodecError>
         return Err(CodecError::Invalid);
     }
     Ok(height)
-}
-
-// A payload behind the number of its bytes.
-#[tactic(auto, using(cw_base::proofs::Ends::end_of_end), unfolding(crate::specs::Reading::payload_at))]
-fn read_payload(alloc: Global, reader: &mut Reader) -> Result<Payload, CodecError>
-    ensures value { Gives (λ payload. payload) result reader.new (payload_at reader.old) }
-    ensures place { IsEnd reader.old reader.new }
-{
-    let count = reader.varint()? as usize;
-    if count > Payload::MAX {
-        return Err(CodecError::TooLong);
-    }
-    let bytes = match reader.take(count) {
-        Ok(bytes) => bytes,
-        Err(error) => return Err(error),
-    };
-    Ok(Payload {
-        bytes: Vec::from_slice(alloc, bytes)?,
-    })
 }

@@ -3,8 +3,9 @@
 ghost use Rattle.std.specs.Prelude.{◌≡◌};
 ghost use Rattle.cw_types.specs.Commit as spec;
 
-use crate::block::{ChainBlock, Context, Payload};
+use crate::block::{ChainBlock, Context};
 use crate::commitment::Commitment;
+use crate::payload::Payload;
 use cw_base::{Config, Digest, Digest32, Hasher};
 use std::alloc::Global;
 use std::num::NonZeroU16;
@@ -44,8 +45,8 @@ fn first_context() -> Context
     }
 }
 
-/// The first block: no view, no payload, and the hash of the empty text as its parent's digest. It
-/// keeps `alloc` for its empty payload, and takes no memory.
+/// The first block: no view, no payload, and the hash of the empty text as its parent's digest.
+/// Takes no memory.
 pub fn genesis<H: Hasher<Digest = Digest32>>(alloc: Global) -> ChainBlock
     ensures { result ≡ spec.genesis H.digest_of }
 {

@@ -2,9 +2,9 @@
 
 ghost use Rattle.std.specs.Prelude.{◌≡◌, IfOk};
 
-use crate::block::Payload;
 use crate::commitment::Commitment;
 use crate::message::Message;
+use crate::payload::Payload;
 use crate::vote::Cert;
 use cw_base::{Digest32, Items, NoMemory};
 use std::alloc::Global;
