@@ -19,7 +19,7 @@ use Rattle.cw_rules.specs.Keeps.{AllKeep, AreAlong, IsClosed, IsRising, IsSound,
 use Rattle.cw_rules.specs.Notes.{has_vote, is_vote}
 use Rattle.cw_rules.specs.Reached.{IsCluster, IsMemberKept, IsSigned, Reaches, members_of}
 use Rattle.cw_rules.specs.Rules.{Rules}
-use Rattle.cw_rules.specs.Stands.{AreLawful, is_faulty_at}
+use Rattle.cw_rules.specs.Stands.{AreLawful, Stands, is_faulty_at}
 use Rattle.cw_rules.specs.Step.{Member, Stepped, cut_step, member_notes, start, state_of, step, step_notes, stopped, taken, taken_came, with_notes}
 use Rattle.cw_rules.specs.World.{Cut, Do, Faulty, Line, Restart, World, done_by, event_of, fault_sends, faults, happens, is_sent_vote, line_member, member_at, opening, run, sent_now, signed, turned, with_done, with_sends}
 use Rattle.std.proofs.lemmas.Option.{same_Some}
@@ -28,7 +28,7 @@ use Rattle.std.proofs.lemmas.List.FromFn.{length-range_with_len}
 use Rattle.cw_rules.proofs.Lists.{and_then_some}
 use Rattle.cw_rules.proofs.NoteLemmas.{any_back}
 use Rattle.cw_rules.proofs.StepKeeps.{step_keeps}
-use Rattle.cw_rules.proofs.Grows.{Grows, count_more, Grows_sound, Grows_sound_one, meaning_closed}
+use Rattle.cw_rules.proofs.Grows.{Grows, count_more, Grows_sound, Grows_sound_one, holds_stands, meaning_closed}
 use Rattle.cw_rules.proofs.Sends.{any_cases, votes, sends_voted, start_voted}
 use Rattle.cw_rules.proofs.Worlds.{IsWorldKept, Turns, world_done, grows_done, grows_at, at_own, at_notes, means_at, get-set_same, get-map, get-map_from, get-range, length-mapped, signed_backs, frames_join, member_there, sent_other, signs_more, signed_sends, kept_keep, kept_lawful}
 
@@ -571,3 +571,13 @@ reached_keep r script w c reach = kept_keep r script w (reached_kept r script w 
 pub reached_lawful : (r : Rules) (script : List Line) (w : World) → IsCluster r script
     → Reaches r script w → AreLawful r.epochs (block_fits r) (members_of w)
 reached_lawful r script w c reach = kept_lawful r script w c (reached_kept r script w c reach)
+
+-- what a quorum of its epoch's members signed stands, whether it was ever sent or noted or not
+pub valid_stands : (r : Rules) (script : List Line) (w : World) → IsCluster r script
+    → Reaches r script w → (s : Cert) → IsTrue (is_valid r (signed w) s)
+    → Stands r.epochs (members_of w) s.vote
+valid_stands r script w c reach s h =
+    holds_stands r.epochs (members_of w) s.vote
+    (valid_holds (meaning r.epochs (members_of w)) r (signed w)
+    (meaning_closed r (members_of w) c.rising)
+    (signed_backs r script w c (reached_kept r script w c reach)) s h)

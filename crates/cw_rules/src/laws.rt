@@ -8,11 +8,12 @@ ghost use Rattle.cw_types.specs.declared.commitment.Commitment.{Commitment};
 ghost use Rattle.cw_types.specs.declared.event.Event.{Event};
 ghost use Rattle.cw_types.specs.declared.event.Handed.{Handed};
 ghost use Rattle.cw_types.specs.declared.note.Note.{Note};
+ghost use Rattle.cw_types.specs.declared.vote.Cert.{Cert};
 ghost use Rattle.cw_types.specs.declared.vote.Proposal.{Proposal};
 ghost use Rattle.cw_types.specs.declared.vote.Vote.{Vote};
 ghost use Rattle.cw_types.specs.Epochs.{Epochs, is_last, is_within, leader, members_in, single};
 ghost use Rattle.cw_types.specs.Epochs.{size};
-ghost use Rattle.cw_rules.specs.Accepted.{Came, State, first_some};
+ghost use Rattle.cw_rules.specs.Accepted.{Came, State, first_some, is_valid};
 ghost use Rattle.cw_rules.specs.Chains.{Clashes, Ends, outcome};
 ghost use Rattle.cw_rules.specs.Fits.{block_fits};
 ghost use Rattle.cw_rules.specs.Held.{at_height, held, next, pending, row_of, shown, whole_of};
@@ -32,7 +33,7 @@ ghost use Rattle.cw_rules.specs.Step.{Member, Wanted, deliveries, delivery, foun
 ghost use Rattle.cw_rules.specs.Step.{marks, settle, step_notes, taken_came, with_given};
 ghost use Rattle.cw_rules.specs.Step.{with_handed, with_notes};
 ghost use Rattle.cw_rules.specs.Telling.{FitsLine, TellsBlocks};
-ghost use Rattle.cw_rules.specs.World.{Line, World, happens, opening};
+ghost use Rattle.cw_rules.specs.World.{Line, World, happens, opening, signed};
 ghost use Rattle.cw_rules.specs.Coding.{AreApart, AreByteChunks, IsCoder, IsCodeword, first_chunks};
 ghost use Rattle.cw_types.specs.Block.{Block};
 
@@ -129,6 +130,10 @@ pub fn cluster_laws()
         → IsCluster r script → Reaches r script w
         → (p q : Proposal) → Stands r.epochs (members_of w) (Vote.Finalize p)
         → Descends r.epochs (members_of w) p q → IsCertifiedIn (members_of w) q }
+    // the vote of each valid certificate stands, whether anybody noted or received it or not
+    ensures valid { (r : Rules) (script : List Line) (w : World)
+        → IsCluster r script → Reaches r script w
+        → (s : Cert) → IsTrue (is_valid r (signed w) s) → Stands r.epochs (members_of w) s.vote }
     // each honest member keeps what it must: its notes rest on those before them, what came was
     // signed, what it sent is noted
     ensures kept { (r : Rules) (script : List Line) (w : World)

@@ -3,7 +3,7 @@ use Rattle.cw_rules.specs.Reached.{members_of}
 use Rattle.cw_rules.proofs.Changes.{reached_named}
 use Rattle.cw_rules.proofs.Certified.{ancestors_in}
 use Rattle.cw_rules.proofs.Chain.{one_notarized, not_both_stand, finalized_descent}
-use Rattle.cw_rules.proofs.Reach.{reached_keep, reached_kept, reached_lawful}
+use Rattle.cw_rules.proofs.Reach.{reached_keep, reached_kept, reached_lawful, valid_stands}
 use Rattle.cw_rules.proofs.laws.cluster_laws.Goals as goal
 
 pub returns-clause-lawful : goal.returns-clause-lawful
@@ -32,3 +32,6 @@ returns-clause-kept c r script w cluster reach = (reached_kept r script w cluste
 
 pub returns-clause-named : goal.returns-clause-named
 returns-clause-named c = reached_named
+
+pub returns-clause-valid : goal.returns-clause-valid
+returns-clause-valid c = valid_stands
