@@ -1,11 +1,11 @@
 -- What a member knows, and what it accepts.
-use Rattle.std.specs.Prelude.{[], ℕ, ◌&&◌, ◌++◌, ◌==◌, ◌∷◌, Bool, List, None, Option, false, if◌then◌else◌, length, nat_le, not, true}
-use Rattle.std.specs.List.{list_all, list_any}
+use Rattle.std.specs.Prelude.{[], ℕ, ◌&&◌, ◌++◌, ◌==◌, ◌∷◌, Bool, List, None, Option, false, if◌then◌else◌, length, not, true}
+use Rattle.std.specs.List.{list_any}
 use Rattle.std.specs.Option.{option_map_or, option_or}
 use Rattle.cw_base.specs.Config.{same_counts}
 use Rattle.cw_types.specs.Block.{Block}
-use Rattle.cw_types.specs.Epochs.{is_member, rises_from, size}
-use Rattle.cw_types.specs.Numbers.{quorum}
+use Rattle.cw_types.specs.Epochs.{is_member}
+use Rattle.cw_types.specs.Valid as valid
 use Rattle.cw_types.specs.Same.{same_block, same_cert, same_commitment, same_vote}
 use Rattle.cw_types.specs.Votes.{finalized, vote_epoch, well_formed}
 use Rattle.cw_types.specs.declared.commitment.Commitment.{Commitment}
@@ -46,12 +46,9 @@ pub record State : Type 0 where
   pub came : Came
   pub given : List ℕ
 
--- a certificate is valid where a quorum of the members of its epoch signed its well-formed vote
+-- a quorum of the members of its epoch signed the certificate's well-formed vote
 abbrev pub is_valid : Rules → (ℕ → Vote → Bool) → Cert → Bool
-is_valid r signed s =
-    well_formed s.vote && rises_from 0 s.signers
-    && list_all (λ i. is_member r.epochs (vote_epoch s.vote) i && signed i s.vote) s.signers
-    && nat_le (quorum (size r.epochs (vote_epoch s.vote))) (length s.signers)
+is_valid r signed s = valid.is_valid r.epochs signed s
 
 -- the same vote of the same signer, or the same certificate
 abbrev pub same_ballot : Ballot → Ballot → Bool

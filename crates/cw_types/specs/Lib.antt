@@ -9,5 +9,6 @@ pub mod OrderLaws
 pub mod Payload
 pub mod Reading
 pub mod Same
+pub mod Valid
 pub mod Values
 pub mod Votes

@@ -21,6 +21,7 @@ mod note;
 mod numbers;
 mod payload;
 mod round;
+mod validity;
 mod vote;
 
 pub use application::{AcceptAll, Application, Verifier};
@@ -39,4 +40,5 @@ pub use note::Note;
 pub use numbers::{config_for, max_faults, quorum};
 pub use payload::Payload;
 pub use round::{Epoch, Epochable, Height, Heightable, Round, Roundable, View, Viewable};
+pub use validity::is_valid;
 pub use vote::{Cert, Proposal, Vote, well_formed};
