@@ -10,7 +10,8 @@ ghost use Rattle.cw_base.specs.Reading.{IsRead, Gives};
 use crate::commitment::{Commitment, put_at, read_digest};
 use crate::payload::{Payload, read_payload};
 use cw_base::{
-    CodecError, Digest32, NoMemory, Reader, put_be16, put_be64, put_bytes, put_varint, undo_refused,
+    CodecError, Digest32, Hasher, NoMemory, Reader, put_be16, put_be64, put_bytes, put_varint,
+    undo_refused,
 };
 use std::alloc::Global;
 use std::marker::Model;
@@ -219,6 +220,15 @@ impl ChainBlock {
         let start = out.len();
         let written = self.write_parts(out);
         undo_refused(out, start, written)
+    }
+
+    /// The digest of its bytes. Takes memory for them.
+    pub fn digest<H: Hasher<Digest = Digest32>>(&self, alloc: Global) -> Result<Digest32, NoMemory>
+        ensures { IfOk result (λ digest. digest ≡ H.digest_of (block_bytes self.now)) }
+    {
+        let mut bytes = Vec::new(alloc);
+        self.write(&mut bytes)?;
+        Ok(H::hash(&bytes))
     }
 
     // What was written before memory ran short stays.

@@ -100,10 +100,9 @@ impl<H: Hasher<Digest = Digest32>> Digested<H> {
     pub fn new(alloc: Global, block: ChainBlock) -> Result<Digested<H>, NoMemory>
         ensures { IfOk result (λ digested. digested ≡ block) }
     {
-        let mut bytes = Vec::new(alloc);
-        block.write(&mut bytes)?;
+        let digest = block.digest::<H>(alloc)?;
         Ok(Digested {
-            digest: H::hash(&bytes),
+            digest,
             block,
             hasher: PhantomData,
         })

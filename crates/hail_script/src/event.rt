@@ -1,5 +1,8 @@
 //! The event lines of a script.
 
+ghost use Rattle.std.specs.Prelude.{◌≡◌};
+ghost use Rattle.hail_script.specs.Admission as admission;
+
 use cw_base::Items;
 
 /// What a line asks of a member. A message is named by its number: messages are counted from 0 as
@@ -59,4 +62,16 @@ pub struct Stop {
     pub call: u64,
     pub cut: u64,
     pub fill: u8,
+}
+
+/// The member that a line names.
+pub fn member_of(line: &EventLine) -> u64
+    ensures { result ≡ admission.member_of line.now }
+{
+    match line {
+        EventLine::Do(member, _) => *member,
+        EventLine::Cut(_, member, _) => *member,
+        EventLine::Restart(member) => *member,
+        EventLine::Faulty(member, _) => *member,
+    }
 }

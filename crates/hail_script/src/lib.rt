@@ -12,7 +12,7 @@ mod pieces;
 mod script;
 
 pub use error::RunError;
-pub use event::{Ask, EventLine, Fault, Stop};
+pub use event::{Ask, EventLine, Fault, Stop, member_of};
 pub use headers::Header;
 pub use lanes::LaneScript;
 pub use laws::script_laws;

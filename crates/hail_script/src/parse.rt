@@ -10,7 +10,7 @@ ghost use Rattle.hail_script.specs.Grammar as grammar;
 ghost use Rattle.hail_script.specs.declared.error.RunError.TheVariants as error;
 
 use crate::error::RunError;
-use crate::event::{Ask, EventLine, Fault};
+use crate::event::{Ask, EventLine, Fault, member_of};
 use crate::lines::event_of;
 use cw_base::{Items, NoMemory};
 use cw_types::{Committees, Payload};
@@ -39,18 +39,6 @@ pub(crate) fn events_of(
         }
     }
     Ok(events)
-}
-
-/// The member that a line names.
-fn member_of(line: &EventLine) -> u64
-    ensures { result ≡ admission.member_of line.now }
-{
-    match line {
-        EventLine::Do(member, _) => *member,
-        EventLine::Cut(_, member, _) => *member,
-        EventLine::Restart(member) => *member,
-        EventLine::Faulty(member, _) => *member,
-    }
 }
 
 /// The first event line that names a member past the last.

@@ -17,5 +17,5 @@ pub use disk::{Disk, DiskError};
 pub use laws::{law_of_a_stop, law_of_calm, law_of_moments, law_of_reads, law_of_rest};
 pub use log::{Log, StoreError};
 pub use memory::MemoryDisk;
-pub use reading::read_log;
+pub use reading::{place_behind, read_log};
 pub use record::{Outcome, Stop};

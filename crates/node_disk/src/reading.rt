@@ -31,6 +31,20 @@ pub fn read_log(alloc: Global, bytes: &[u8]) -> Result<Items<Items<u8>>, StoreEr
     }
 }
 
+/// The place of the gate behind a frame whose own gate stands at this place: the gate, eight bytes
+/// of length and the frame lie between. No memory holds the frames of a longer file.
+pub fn place_behind(place: u64, frame: &[u8]) -> Result<u64, NoMemory>
+    ensures { IfOk result (λ next. next ≡ place + 9 + length frame.now) }
+{
+    match place.checked_add(9) {
+        None => Err(NoMemory),
+        Some(start) => match start.checked_add(frame.len() as u64) {
+            None => Err(NoMemory),
+            Some(next) => Ok(next),
+        },
+    }
+}
+
 // The same frames, as lists that contracts see as their bytes.
 fn items_of(alloc: Global, frames: Vec<Vec<u8>>) -> Result<Items<Items<u8>>, NoMemory>
     ensures { IfOk result (λ items. items ≡ all_items frames.items) }
