@@ -1,6 +1,8 @@
 // Refuses one request for memory of the program that it is loaded into: the one of the number in
-// FAIL_ALLOC, from 1 on. Writes how many there were to the file that FAIL_ALLOC_COUNT names.
+// FAIL_ALLOC, from 1 on. Writes how many there were, and the most bytes that were held at once, to
+// the file that FAIL_ALLOC_COUNT names.
 #include <errno.h>
+#include <malloc.h>
 #include <stdatomic.h>
 #include <stdio.h>
 #include <stdlib.h>
@@ -11,8 +13,11 @@ void *__libc_malloc(size_t);
 void *__libc_calloc(size_t, size_t);
 void *__libc_realloc(void *, size_t);
 void *__libc_memalign(size_t, size_t);
+void __libc_free(void *);
 
 static atomic_ulong asked;
+static atomic_ulong held;
+static atomic_ulong most;
 static unsigned long refused;
 
 __attribute__((constructor)) static void begin(void) {
@@ -27,7 +32,7 @@ __attribute__((destructor)) static void end(void) {
   refused = 0;
   FILE *file = name ? fopen(name, "w") : NULL;
   if (file) {
-    fprintf(file, "%lu\n", count);
+    fprintf(file, "%lu %lu\n", count, atomic_load(&most));
     fclose(file);
   }
 }
@@ -45,16 +50,37 @@ static int is_refused(void) {
   return 1;
 }
 
-void *malloc(size_t size) { return is_refused() ? NULL : __libc_malloc(size); }
-
-void *calloc(size_t count, size_t size) {
-  return is_refused() ? NULL : __libc_calloc(count, size);
+static void *given(void *place) {
+  unsigned long now = atomic_fetch_add(&held, malloc_usable_size(place)) + malloc_usable_size(place);
+  unsigned long before = atomic_load(&most);
+  while (before < now && !atomic_compare_exchange_weak(&most, &before, now)) {
+  }
+  return place;
 }
 
-void *realloc(void *old, size_t size) { return is_refused() ? NULL : __libc_realloc(old, size); }
+static void taken_back(void *place) { atomic_fetch_sub(&held, malloc_usable_size(place)); }
+
+void *malloc(size_t size) { return is_refused() ? NULL : given(__libc_malloc(size)); }
+
+void *calloc(size_t count, size_t size) {
+  return is_refused() ? NULL : given(__libc_calloc(count, size));
+}
+
+void *realloc(void *old, size_t size) {
+  if (is_refused()) return NULL;
+  size_t before = malloc_usable_size(old);
+  void *place = __libc_realloc(old, size);
+  if (place || !size) atomic_fetch_sub(&held, before);
+  return given(place);
+}
+
+void free(void *place) {
+  taken_back(place);
+  __libc_free(place);
+}
 
 void *memalign(size_t align, size_t size) {
-  return is_refused() ? NULL : __libc_memalign(align, size);
+  return is_refused() ? NULL : given(__libc_memalign(align, size));
 }
 
 void *aligned_alloc(size_t align, size_t size) { return memalign(align, size); }
