@@ -1,6 +1,6 @@
 //! Payloads as the frames of a log, and read back from them.
 
-ghost use Rattle.std.specs.Prelude.{◌≡◌, ◌+◌, ◌<◌, ◌^◌, ◌++◌, ℕ, length, IfOk, OnOk, Err, IsErrOf};
+ghost use Rattle.std.specs.Prelude.{◌≡◌, ◌<◌, ℕ, IfOk, OnOk, Err, IsErrOf};
 ghost use Rattle.std.specs.Prelude.{option_map};
 ghost use Rattle.cw_base.specs.ReadsBack.{IsBytes};
 ghost use Rattle.cw_ledger.specs.Frames.{payload_in, payloads_from};
@@ -12,7 +12,7 @@ ghost use Rattle.node_disk.specs.LogWords.{log_frames};
 use crate::balances::Balances;
 use crate::transfer::transfers_of;
 use cw_base::{NoMemory, Reader, put_be64, put_bytes};
-use node_disk::{Disk, Log, StoreError};
+use node_disk::{Disk, Log, StoreError, place_behind};
 use std::alloc::Global;
 
 /// The frame of a block of this height.
@@ -41,19 +41,6 @@ fn are_bytes(bytes: &[u8])
     ensures { IsBytes bytes.now }
 {
     let _bytes = bytes;
-}
-
-// The place of the gate byte behind a frame. No memory holds the frames of a longer file.
-fn place_behind(place: u64, frame: &[u8]) -> Result<u64, NoMemory>
-    ensures { IfOk result (λ next. next ≡ place + 9 + length frame.now) }
-{
-    match place.checked_add(9) {
-        None => Err(NoMemory),
-        Some(start) => match start.checked_add(frame.len() as u64) {
-            None => Err(NoMemory),
-            Some(next) => Ok(next),
-        },
-    }
 }
 
 /// The balances that the frames of a log leave.
