@@ -7,14 +7,13 @@ use Rattle.std.proofs.lemmas.List.{take_more, take_at, map-append, get_or-take, 
 use Rattle.std.proofs.lemmas.List.Elements.{All-append}
 use Rattle.cw_base.specs.Bytes.{be32}
 use Rattle.rs_code.specs.Rows.{joined, code_row, row_through, AreRows, OriginalsComeFirst}
-use Rattle.cw_base.specs.Rows.{row_of, row_hashes}
+use Rattle.cw_base.specs.Rows.{row_of}
 use Rattle.rs_code.specs.Plans.{Shape}
 use Rattle.rs_code.proofs.RowBytes.{joined_same, length-joined, length-symbol_bytes}
 use Rattle.rs_code.proofs.RowLaws.{joined_rows}
 use Rattle.cw_coding.specs.Checked.{Checked}
 use Rattle.cw_tree.specs.Widths.{shard_len}
-use Rattle.cw_coding.specs.Layout.{layout, row_at, row_digests}
-use Rattle.cw_tree.specs.Tree.{root_of}
+use Rattle.cw_coding.specs.Layout.{layout, row_at}
 use Rattle.rs_code.proofs.IndexLaws.{AreSound-push}
 use Rattle.cw_base.specs.Counts.{Counts}
 use Rattle.cw_coding.specs.declared.error.RsError.TheVariants.{InvalidShardSize}
@@ -23,7 +22,7 @@ use Rattle.cw_coding.specs.declared.error.ReedSolomonError.TheVariants.{ReedSolo
 use Rattle.cw_coding.specs.Totals.{total_of, IsWidth}
 use Rattle.cw_coding.specs.Decoding.{FitTogether, IsFirstMisfit, IsChunkRefusal, AreDecodable, indices_of, width_of, Fits}
 use Rattle.cw_tree.proofs.WidthLaws.{shard_len-covers, shard_len-even, shard_len-some}
-use Rattle.cw_coding.proofs.LayoutLaws.{length-layout, row_of-text, length-row_at, bytes_layout, text_hashes}
+use Rattle.cw_coding.proofs.LayoutLaws.{length-layout, row_of-text, length-row_at, bytes_layout}
 
 All-one : {X : Type 0} (P : X → Type 0) (x : X) → P x → All P (x ∷ [])
 All-one P x h zero d l = h
@@ -136,10 +135,6 @@ rebuilt_value shape k m indices rows used width ts out originals is enough long 
     ∙ ap (λ (n : ℕ). joined n (λ i. code_row k originals width (get_or ts i 0))) count
     ∙ joined_same k _ _ (λ s l. ap (code_row k originals width) (each s l))
 
-pub front_of : (rows : List ℕ) (n k width : ℕ) → n ≡ k
-    → take (n * width) rows ≡ take (k * width) rows
-front_of rows n k width h = ap (λ (i : ℕ). take (i * width) rows) h
-
 -- a layout read back is laid out again
 pub laid_again : (k : ℕ) (text os read : List ℕ) (count : ℕ) → layout k text ≡ os
     → count ≡ length text →
@@ -222,16 +217,6 @@ same_text k first second os a b e f =
     sym (layout_count k first os a e) ∙ layout_count k second os b f in
     sym (layout_text k first os e) ∙ ap (λ (n : ℕ). take n (drop 4 os)) count
     ∙ layout_text k second os f
-
-pub root_is : {D : Type 0} (hash : List ℕ → D) (content : D → List ℕ) (k m : ℕ) (text rows : List ℕ)
-    (width : ℕ) (tree : List D) (found : D)
-    → 1 ≤ k →
-    width ≡ shard_len (length text) k → rows ≡ joined (k + m) (row_at k text)
-    → tree ≡ row_hashes hash width rows →
-    root_of hash content tree ≡ Some found
-    → root_of hash content (row_digests hash k m text) ≡ Some found
-root_is hash content k m text rows width tree found some w r t is =
-    ap (root_of hash content) (sym (t ∙ text_hashes hash k m text rows width some w r)) ∙ is
 
 -- no text fits rows of no width, or of an odd one
 pub no_width : {D : Type 0} (hash : List ℕ → D) (content : D → List ℕ) (k m : ℕ) (root : D)

@@ -117,21 +117,6 @@ row_of-text k m text rows width i w r l =
     ap (λ xs. row_of xs width i) r
     ∙ row_of-joined (k + m) width (row_at k text) (λ j h. length-row_at k text j ∙ sym w) i l
 
-pub rows_long : (k m : ℕ) (text out rows recovery : List ℕ) (width : ℕ) → 1 ≤ k → width % 2 ≡ 0
-    → width ≡ shard_len (length text) k →
-    rows ≡ layout k text → recovery ≡ joined m (λ i. code_row k rows width (k + i))
-    → out ≡ rows ++ recovery →
-    length out ≡ (k + m) * shard_len (length text) k
-rows_long k m text out rows recovery width some even w laid r o =
-    let first : length rows ≡ k * shard_len (length text) k =
-    ap length laid ∙ length-layout k text some in
-    let last : length recovery ≡ m * width =
-    ap length r ∙ length-joined m width _ (λ i l. length-code_row k rows width (k + i) even) in
-    let both : length out ≡ length rows + length recovery =
-    ap length o ∙ length-append rows recovery in
-    let wide : m * width ≡ m * shard_len (length text) k = ap (λ n. m * n) w in
-    omega arith
-
 pub row_is : (rows part : List ℕ) (i w : ℕ) → part ≡ take (i * w + w - i * w) (drop (i * w) rows)
     → part ≡ row_of rows w i
 unfolding row_of
@@ -189,3 +174,17 @@ pub bytes_layout : (k : ℕ) (text : List ℕ) → ((i : ℕ) → get_or text i 
 unfolding layout
 bytes_layout k text b =
     bytes_append _ _ (bytes_append _ _ (bytes_be32 (length text)) b) (bytes_zeros _)
+
+-- the rows of a text: those that its layout is cut into, and the recoveries behind them
+pub codeword_rows : OriginalsComeFirst → (k m : ℕ) (text laid rows : List ℕ) (width : ℕ) → 1 ≤ k
+    → k + m ≤ 65535 → ((i : ℕ) → get_or text i 0 < 256) → width ≡ shard_len (length text) k
+    → laid ≡ layout k text → rows ≡ laid ++ joined m (λ i. code_row k laid width (k + i))
+    → rows ≡ joined (k + m) (row_at k text)
+codeword_rows law k m text laid rows width some small bytes w l r =
+    rows_are law k m text rows _ some small (bytes_layout k text bytes) refl (rw (l, w) at r)
+
+-- how long they are
+pub rows_long : (k m : ℕ) (text rows : List ℕ) → rows ≡ joined (k + m) (row_at k text)
+    → length rows ≡ (k + m) * shard_len (length text) k
+rows_long k m text rows r =
+    ap length r ∙ length-joined (k + m) _ (row_at k text) (λ i l. length-row_at k text i)

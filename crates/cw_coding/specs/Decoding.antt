@@ -1,5 +1,5 @@
 -- What chunks are decoded, and to what.
-use Rattle.std.specs.Prelude.{◌≡◌, ◌≢◌, ℕ, ◌-◌, ◌^◌, ◌<◌, ◌≤◌, ◌==◌, nat_lt, not, if◌then◌else◌, ◌⊎◌, List, [], ◌∷◌, ◌++◌, length, take, map, filter, All, Contains, Some, slice_get, slice_index}
+use Rattle.std.specs.Prelude.{◌≡◌, ◌≢◌, ℕ, ◌-◌, ◌*◌, ◌^◌, ◌<◌, ◌≤◌, ◌==◌, nat_lt, not, if◌then◌else◌, ◌⊎◌, List, [], ◌∷◌, ◌++◌, length, take, map, filter, All, Contains, Some, slice_get, slice_index}
 use Rattle.cw_base.specs.Counts.{Counts}
 use Rattle.cw_base.specs.Rows.{row_of}
 use Rattle.rs_code.specs.Indices.{AreSound}
@@ -102,6 +102,16 @@ pub record Fits {D : Type 0} (hash : List ℕ → D) (content : D → List ℕ) 
   pub bytes : (i : ℕ) → slice_index text i < 256
   pub same : (s : ℕ) → s < n → row_of rows width s ≡ row_at k text (slice_index indices s)
   pub rooted : root_of hash content (row_digests hash k m text) ≡ Some root
+
+-- enough rows of one codeword, by their different indices, of which the first n are compared
+pub record AreRecoverable (c : Counts) (width : ℕ) (indices rows : List ℕ) (n : ℕ) : Type 0 where
+  pub some : 1 ≤ c.minimum
+  pub total : total_of c ≤ 65535
+  pub narrow : width ≤ 2 ^ 32 - 1
+  pub within : n ≤ length indices
+  pub used : c.minimum ≤ n
+  pub long : length rows ≡ length indices * width
+  pub sound : AreSound (total_of c) indices
 
 -- why chunks are refused: the first cause
 abbrev pub IsDecodeRefusal : {D : Type 0}

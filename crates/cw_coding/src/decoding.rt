@@ -1,16 +1,42 @@
 //! From chunks to the text that they come of.
 
-ghost use Rattle.std.specs.Prelude.{◌≡◌, ◌⊎◌, map, IfOk, IfErr};
+ghost use Rattle.std.specs.Prelude.{◌≡◌, ◌⊎◌, ◌↔◌, ℕ, List, map, IfOk, IfErr};
 ghost use Rattle.std.specs.Iterator.{IsFinite, Drains};
-ghost use Rattle.cw_coding.specs.Decoding.{AreDecodable, IsDecoding, IsDecodeRefusal};
+ghost use Rattle.cw_coding.specs.Decoding.{AreDecodable, AreRecoverable, Fits, IsDecoding};
+ghost use Rattle.cw_coding.specs.Decoding.{IsDecodeRefusal};
 
 use crate::checking::CheckedChunk;
 use crate::error::ReedSolomonError;
-use crate::gathering::{decodable, gathered, ordered};
-use crate::recovering::recovered;
+use crate::gathering::{Given, decodable, gathered, ordered};
+use crate::recovering::{recovered, recovered_here};
 use cw_base::{Config, Hasher, Strategy};
 use std::alloc::Global;
 use std::thread::Threads;
+
+// Chunks that can be decoded, in the order in which they are used.
+fn prepared<H: Hasher>(
+    alloc: Global,
+    config: &Config,
+    commitment: &H::Digest,
+    shards: &[CheckedChunk<H>],
+) -> Result<Given, ReedSolomonError>
+    ensures decodable { IfOk result (λ _. AreDecodable config.now commitment.now shards.now) }
+    ensures recoverable { IfOk result (λ given. AreRecoverable config.now given.width
+        given.indices.items given.rows.items given.compared) }
+    ensures same { IfOk result (λ given. (text : List ℕ)
+        → Fits H.digest_of H.Digest.content config.now.minimum config.now.extra commitment.now
+        given.width given.indices.items given.rows.items given.compared text
+        ↔ IsDecoding H.digest_of H.Digest.content config.now commitment.now shards.now text) }
+    ensures refused { IfErr result
+        (λ e. IsDecodeRefusal H.digest_of H.Digest.content config.now commitment.now shards.now e) }
+{
+    let width = match decodable::<H>(alloc, config, commitment, shards) {
+        Ok(width) => width,
+        Err(error) => return Err(error),
+    };
+    let given = ordered::<H>(alloc, config.minimum(), width, shards)?;
+    Ok(given)
+}
 
 // The text that chunks come of.
 fn decode_chunks<H: Hasher, R: Threads + Sync, S: Strategy>(
@@ -26,14 +52,33 @@ fn decode_chunks<H: Hasher, R: Threads + Sync, S: Strategy>(
     ensures refused { IfErr result
         (λ e. IsDecodeRefusal H.digest_of H.Digest.content config.now commitment.now shards.now e) }
 {
-    let width = match decodable::<H>(alloc, config, commitment, shards) {
-        Ok(width) => width,
+    let given = match prepared::<H>(alloc, config, commitment, shards) {
+        Ok(given) => given,
         Err(error) => return Err(error),
     };
-    let k = config.minimum();
-    let m = config.extra();
-    let given = ordered::<H>(alloc, k, shards)?;
-    match recovered::<H, R, S>(rt, alloc, k, m, commitment, width, &given, strategy)? {
+    match recovered::<H, R, S>(rt, alloc, config, commitment, &given, strategy)? {
+        Some(text) => Ok(text),
+        None => Err(ReedSolomonError::Inconsistent),
+    }
+}
+
+// The same on the caller's thread.
+pub(crate) fn decode_chunks_here<H: Hasher>(
+    alloc: Global,
+    config: &Config,
+    commitment: &H::Digest,
+    shards: &[CheckedChunk<H>],
+) -> Result<Vec<u8>, ReedSolomonError>
+    ensures decoded { IfOk result (λ text. AreDecodable config.now commitment.now shards.now
+        × IsDecoding H.digest_of H.Digest.content config.now commitment.now shards.now text.items) }
+    ensures refused { IfErr result
+        (λ e. IsDecodeRefusal H.digest_of H.Digest.content config.now commitment.now shards.now e) }
+{
+    let given = match prepared::<H>(alloc, config, commitment, shards) {
+        Ok(given) => given,
+        Err(error) => return Err(error),
+    };
+    match recovered_here::<H>(alloc, config, commitment, &given)? {
         Some(text) => Ok(text),
         None => Err(ReedSolomonError::Inconsistent),
     }

@@ -1,7 +1,7 @@
 //! From data to chunks.
 
 ghost use Rattle.std.specs.Prelude.{◌≡◌, ℕ, ◌+◌, ◌-◌, ◌*◌, ◌^◌, ◌<◌, ◌≤◌, ◌↔◌, List, length, IfOk};
-ghost use Rattle.std.specs.Prelude.{IfErr, IsTrue, MatchResult};
+ghost use Rattle.std.specs.Prelude.{slice_index, IfErr, IsTrue, MatchResult};
 ghost use Rattle.cw_base.specs.Rows.{row_of};
 ghost use Rattle.cw_base.specs.Rows.{listed, row_hashes};
 ghost use Rattle.rs_code.specs.Rows.{joined};
@@ -13,7 +13,8 @@ ghost use Rattle.cw_coding.specs.Encoding.{IsCodable, IsEncodable, IsEncodeRefus
 ghost use Rattle.cw_coding.specs.Encoding.{IsEncodingRoot};
 
 use crate::error::ReedSolomonError;
-use crate::layout::rows_of_text;
+use crate::hashing::hash_each;
+use crate::layout::{rows_of_text, rows_of_text_here};
 use bytes::Bytes;
 use cw_base::{Config, Hasher, Items, NoMemory, Strategy};
 use cw_tree::bmt::{Builder, Tree};
@@ -31,26 +32,6 @@ pub(crate) fn is_codable(config: &Config, length: usize) -> bool
     }
     let width = canonical_shard_len(length, config.minimum());
     width <= 0xffff_ffff && config.total_shards() as usize * width <= isize::MAX as usize
-}
-
-// The tree over the digests of so many rows of one width.
-pub(crate) fn tree_of_rows<H: Hasher, R: Threads + Sync, S: Strategy>(
-    rt: &R,
-    alloc: Global,
-    rows: &[u8],
-    width: usize,
-    count: u16,
-    strategy: &S,
-) -> Result<Tree<H>, NoMemory>
-    requires positive { 0 < width }
-    requires some { 1 ≤ count }
-    requires rows { length rows.now ≡ count * width }
-    ensures digests { IfOk result (λ tree. tree ≡ row_hashes H.digest_of width rows.now) }
-    ensures leaves { IfOk result (λ tree. length tree ≡ count) }
-{
-    let digests = H::hash_many(rt, alloc, rows, width, strategy)?;
-    let tree = Builder::<H>::of(Items::from_vec(digests)).build(alloc)?;
-    Ok(tree)
 }
 
 // The chunk of one row.
@@ -126,75 +107,98 @@ fn cut_rows<H: Hasher>(
     Ok(chunks)
 }
 
-// The rows of a text, end to end, each of one width, and the tree over their digests.
+// The rows of a text, end to end, and the tree over their digests.
 #[derive(Drop)]
-struct CodedText<H: Hasher> {
-    width: usize,
-    rows: Vec<u8>,
-    tree: Tree<H>,
+pub(crate) struct CodedText<H: Hasher> {
+    pub(crate) rows: Vec<u8>,
+    pub(crate) tree: Tree<H>,
 }
 
-fn coded_text<H: Hasher, R: Threads + Sync, S: Strategy>(
+// A text's rows with the tree over the digests of them.
+fn with_tree<H: Hasher>(
+    alloc: Global,
+    config: &Config,
+    text: &[u8],
+    rows: Vec<u8>,
+    digests: Vec<H::Digest>,
+) -> Result<CodedText<H>, NoMemory>
+    requires total { total_of config.now ≤ 65535 }
+    requires some { 1 ≤ config.now.minimum }
+    requires rows { rows.items ≡ joined (total_of config.now) (row_at config.now.minimum text.now) }
+    requires digests { digests.items
+        ≡ row_hashes H.digest_of (shard_len (length text.now) config.now.minimum) rows.items }
+    ensures rows { IfOk result (λ coded. coded.rows.items ≡ rows.items) }
+    ensures digests { IfOk result (λ coded. coded.tree
+        ≡ row_digests H.digest_of config.now.minimum config.now.extra text.now) }
+{
+    let tree = Builder::<H>::of(Items::from_vec(digests)).build(alloc)?;
+    Ok(CodedText { rows, tree })
+}
+
+pub(crate) fn coded_text<H: Hasher, R: Threads + Sync, S: Strategy>(
     rt: &R,
     alloc: Global,
     config: &Config,
-    input: &[u8],
+    text: &[u8],
     strategy: &S,
 ) -> Result<CodedText<H>, NoMemory>
     requires total { total_of config.now ≤ 65535 }
-    requires short { length input.now ≤ 2 ^ 32 - 1 }
-    ensures width { IfOk result
-        (λ made. made.width ≡ shard_len (length input.now) config.now.minimum) }
-    ensures rows { IfOk result (λ made. made.rows.items
-        ≡ joined (total_of config.now) (row_at config.now.minimum input.now)) }
-    ensures long { IfOk result
-        (λ made. length made.rows.items ≡ total_of config.now * made.width) }
-    ensures digests { IfOk result (λ made. made.tree
-        ≡ row_digests H.digest_of config.now.minimum config.now.extra input.now) }
-    ensures leaves { IfOk result (λ made. length made.tree ≡ total_of config.now) }
+    requires short { length text.now ≤ 2 ^ 32 - 1 }
+    ensures rows { IfOk result (λ coded. coded.rows.items
+        ≡ joined (total_of config.now) (row_at config.now.minimum text.now)) }
+    ensures digests { IfOk result (λ coded. coded.tree
+        ≡ row_digests H.digest_of config.now.minimum config.now.extra text.now) }
+    ensures bytes { (i : ℕ) → slice_index text.now i < 256 }
 {
     let k = config.minimum();
-    let m = config.extra();
-    let rows = rows_of_text(rt, alloc, k, m, input, strategy)?;
-    let width = canonical_shard_len(input.len(), k);
-    let tree = tree_of_rows::<H, R, S>(rt, alloc, &rows, width, k + m, strategy)?;
-    Ok(CodedText { width, rows, tree })
+    let rows = rows_of_text(rt, alloc, k, config.extra(), text, strategy)?;
+    let width = canonical_shard_len(text.len(), k);
+    let digests = H::hash_many(rt, alloc, &rows, width, strategy)?;
+    with_tree::<H>(alloc, config, text, rows, digests)
 }
 
-// The root of a text that is encoded, and its chunks in the order of their indices.
-fn encoded<H: Hasher, R: Threads + Sync, S: Strategy>(
-    rt: &R,
+// The same on the caller's thread.
+pub(crate) fn coded_text_here<H: Hasher>(
     alloc: Global,
     config: &Config,
-    input: &[u8],
-    strategy: &S,
+    text: &[u8],
+) -> Result<CodedText<H>, NoMemory>
+    requires total { total_of config.now ≤ 65535 }
+    requires short { length text.now ≤ 2 ^ 32 - 1 }
+    ensures rows { IfOk result (λ coded. coded.rows.items
+        ≡ joined (total_of config.now) (row_at config.now.minimum text.now)) }
+    ensures digests { IfOk result (λ coded. coded.tree
+        ≡ row_digests H.digest_of config.now.minimum config.now.extra text.now) }
+    ensures bytes { (i : ℕ) → slice_index text.now i < 256 }
+{
+    let k = config.minimum();
+    let rows = rows_of_text_here(alloc, k, config.extra(), text)?;
+    let width = canonical_shard_len(text.len(), k);
+    let digests = hash_each::<H>(alloc, &rows, width)?;
+    with_tree::<H>(alloc, config, text, rows, digests)
+}
+
+// The root of a text that is coded, and its chunks in the order of their indices.
+fn encoded<H: Hasher>(
+    alloc: Global,
+    config: &Config,
+    text: &[u8],
+    coded: CodedText<H>,
 ) -> Result<(H::Digest, Vec<Chunk<H::Digest>>), NoMemory>
-    requires { IsEncodable config.now (length input.now) }
+    requires encodable { IsEncodable config.now (length text.now) }
+    requires rows { coded.rows.items
+        ≡ joined (total_of config.now) (row_at config.now.minimum text.now) }
+    requires digests { coded.tree
+        ≡ row_digests H.digest_of config.now.minimum config.now.extra text.now }
     ensures encoded { IfOk result
-        (λ r. IsEncoding H.digest_of H.Digest.content config.now input.now r.0 r.1.items) }
+        (λ r. IsEncoding H.digest_of H.Digest.content config.now text.now r.0 r.1.items) }
     ensures some { IfOk result (λ _. 1 ≤ config.now.minimum) }
 {
-    let count = config.minimum() + config.extra();
-    let coded = coded_text::<H, R, S>(rt, alloc, config, input, strategy)?;
+    let k = config.minimum();
+    let width = canonical_shard_len(text.len(), k);
     let root = coded.tree.root();
-    let chunks = cut_rows::<H>(alloc, coded.tree, coded.rows, coded.width, count)?;
+    let chunks = cut_rows::<H>(alloc, coded.tree, coded.rows, width, k + config.extra())?;
     Ok((root, chunks))
-}
-
-// The root of a text that is encoded.
-fn rooted<H: Hasher, R: Threads + Sync, S: Strategy>(
-    rt: &R,
-    alloc: Global,
-    config: &Config,
-    input: &[u8],
-    strategy: &S,
-) -> Result<H::Digest, NoMemory>
-    requires { IsEncodable config.now (length input.now) }
-    ensures { IfOk result
-        (λ root. IsEncodingRoot H.digest_of H.Digest.content config.now input.now root) }
-{
-    let coded = coded_text::<H, R, S>(rt, alloc, config, input, strategy)?;
-    Ok(coded.tree.root())
 }
 
 // Refuses data of so many bytes where it isn't encoded.
@@ -229,7 +233,28 @@ pub(crate) fn encode_text<H: Hasher, R: Threads + Sync, S: Strategy>(
     if let Err(error) = encodable(config, input.len()) {
         return Err(error);
     }
-    match encoded::<H, R, S>(rt, alloc, config, input, strategy) {
+    let coded = coded_text::<H, R, S>(rt, alloc, config, input, strategy)?;
+    match encoded::<H>(alloc, config, input, coded) {
+        Ok(encoded) => Ok(encoded),
+        Err(_) => Err(ReedSolomonError::NoMemory),
+    }
+}
+
+// The same on the caller's thread.
+pub(crate) fn encode_text_here<H: Hasher>(
+    alloc: Global,
+    config: &Config,
+    input: &[u8],
+) -> Result<(H::Digest, Vec<Chunk<H::Digest>>), ReedSolomonError>
+    ensures encoded { IfOk result
+        (λ r. IsEncoding H.digest_of H.Digest.content config.now input.now r.0 r.1.items) }
+    ensures refused { IfErr result (λ e. IsEncodeRefusal config.now (length input.now) e) }
+{
+    if let Err(error) = encodable(config, input.len()) {
+        return Err(error);
+    }
+    let coded = coded_text_here::<H>(alloc, config, input)?;
+    match encoded::<H>(alloc, config, input, coded) {
         Ok(encoded) => Ok(encoded),
         Err(_) => Err(ReedSolomonError::NoMemory),
     }
@@ -250,8 +275,6 @@ pub(crate) fn commit_text<H: Hasher, R: Threads + Sync, S: Strategy>(
     if let Err(error) = encodable(config, input.len()) {
         return Err(error);
     }
-    match rooted::<H, R, S>(rt, alloc, config, input, strategy) {
-        Ok(root) => Ok(root),
-        Err(_) => Err(ReedSolomonError::NoMemory),
-    }
+    let coded = coded_text::<H, R, S>(rt, alloc, config, input, strategy)?;
+    Ok(coded.tree.root())
 }

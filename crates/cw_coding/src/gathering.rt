@@ -196,9 +196,10 @@ fn put_recoveries<H: Hasher>(
     Ok(())
 }
 
-// Chunks in the order in which they are used.
+// Chunks of one width in the order in which they are used.
 #[derive(Drop)]
 pub(crate) struct Given {
+    pub(crate) width: usize,
     pub(crate) indices: Vec<u16>,
     pub(crate) rows: Vec<u8>,
     pub(crate) compared: usize,
@@ -207,8 +208,10 @@ pub(crate) struct Given {
 pub(crate) fn ordered<H: Hasher>(
     alloc: Global,
     k: u16,
+    width: usize,
     shards: &[CheckedChunk<H>],
 ) -> Result<Given, NoMemory>
+    ensures width { IfOk result (λ given. given.width ≡ width) }
     ensures indices { IfOk result
         (λ given. given.indices.items ≡ indices_of (in_order k shards.now)) }
     ensures rows { IfOk result
@@ -221,6 +224,7 @@ pub(crate) fn ordered<H: Hasher>(
     let compared = compared_of(indices.len(), shards.len(), k);
     put_recoveries::<H>(k, &mut indices, &mut rows, shards)?;
     Ok(Given {
+        width,
         indices,
         rows,
         compared,

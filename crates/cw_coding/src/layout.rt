@@ -8,8 +8,8 @@ ghost use Rattle.cw_coding.specs.Layout.{layout, row_at};
 
 use cw_base::{NoMemory, Strategy, put_be32, put_bytes};
 use cw_tree::canonical_shard_len;
-use rs_code::add_recoveries;
 use rs_code::laws::prove_rows;
+use rs_code::{add_recoveries, add_recoveries_here};
 use std::alloc::Global;
 use std::thread::Threads;
 
@@ -47,6 +47,29 @@ pub(crate) fn lay_out(
     Ok(out)
 }
 
+// A text laid out in `k` rows of one width, with room for `m` more.
+#[derive(Drop)]
+struct Originals {
+    width: usize,
+    rows: Vec<u8>,
+}
+
+fn lay_originals(alloc: Global, k: u16, m: u16, text: &[u8]) -> Result<Originals, NoMemory>
+    requires short { length text.now ≤ 2 ^ 32 - 1 }
+    requires some { 1 ≤ k }
+    requires total { k + m ≤ 65535 }
+    ensures width { IfOk result (λ laid. laid.width ≡ shard_len (length text.now) k) }
+    ensures some_width { IfOk result (λ laid. 0 < laid.width) }
+    ensures even { IfOk result (λ laid. laid.width % 2 ≡ 0) }
+    ensures rows { IfOk result (λ laid. laid.rows.items ≡ layout k text.now) }
+    ensures long { IfOk result (λ laid. length laid.rows.items ≡ k * laid.width) }
+    ensures room { IfOk result (λ laid. (k + m) * laid.width < 2 ^ 63) }
+{
+    let width = canonical_shard_len(text.len(), k);
+    let rows = lay_out(alloc, k, k + m, width, text)?;
+    Ok(Originals { width, rows })
+}
+
 // All rows of the text's codeword, end to end.
 pub(crate) fn rows_of_text<R: Threads + Sync, S: Strategy>(
     rt: &R,
@@ -63,9 +86,30 @@ pub(crate) fn rows_of_text<R: Threads + Sync, S: Strategy>(
     ensures value { IfOk result (λ v. v.items ≡ joined (k + m) (row_at k text.now)) }
     ensures long { IfOk result (λ v. length v.items ≡ (k + m) * shard_len (length text.now) k) }
 {
-    let width = canonical_shard_len(text.len(), k);
-    let mut rows = lay_out(alloc, k, k + m, width, text)?;
-    add_recoveries(rt, alloc, k, m, &mut rows, width, strategy)?;
+    let laid = lay_originals(alloc, k, m, text)?;
+    let mut rows = laid.rows;
+    add_recoveries(rt, alloc, k, m, &mut rows, laid.width, strategy)?;
+    prove_rows();
+    Ok(rows)
+}
+
+// The same on the caller's thread.
+pub(crate) fn rows_of_text_here(
+    alloc: Global,
+    k: u16,
+    m: u16,
+    text: &[u8],
+) -> Result<Vec<u8>, NoMemory>
+    requires short { length text.now ≤ 2 ^ 32 - 1 }
+    requires some { 1 ≤ k }
+    requires more { 1 ≤ m }
+    requires total { k + m ≤ 65535 }
+    ensures value { IfOk result (λ v. v.items ≡ joined (k + m) (row_at k text.now)) }
+    ensures long { IfOk result (λ v. length v.items ≡ (k + m) * shard_len (length text.now) k) }
+{
+    let laid = lay_originals(alloc, k, m, text)?;
+    let mut rows = laid.rows;
+    add_recoveries_here(alloc, k, m, &mut rows, laid.width)?;
     prove_rows();
     Ok(rows)
 }

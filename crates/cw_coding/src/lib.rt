@@ -8,6 +8,7 @@ mod decoding;
 mod encoding;
 mod error;
 mod gathering;
+mod hashing;
 mod laws;
 mod layout;
 mod recovering;

@@ -1,19 +1,19 @@
 //! From rows to the text that they come of.
 
 ghost use Rattle.std.specs.Prelude.{◌≡◌, ℕ, ◌+◌, ◌-◌, ◌*◌, ◌%◌, ◌^◌, ◌<◌, ◌≤◌, ◌↔◌, List, length};
-ghost use Rattle.std.specs.Prelude.{slice_index, take, IfOk, IsTrue, Some, MatchOption};
+ghost use Rattle.std.specs.Prelude.{slice_index, take, IfOk, IsTrue, MatchOption};
 ghost use Rattle.rs_code.specs.Rows.{joined, code_row};
-ghost use Rattle.cw_base.specs.Rows.{row_of, row_hashes};
+ghost use Rattle.cw_base.specs.Rows.{row_of};
 ghost use Rattle.rs_code.specs.Indices.{AreSound};
-ghost use Rattle.cw_tree.specs.Tree.{root_of};
 ghost use Rattle.cw_tree.specs.Widths.{shard_len};
 ghost use Rattle.cw_coding.specs.Layout.{layout, row_at, row_digests};
-ghost use Rattle.cw_coding.specs.Decoding.{Fits};
+ghost use Rattle.cw_coding.specs.Decoding.{AreRecoverable, Fits};
+ghost use Rattle.cw_coding.specs.Totals.{total_of};
 
-use crate::encoding::tree_of_rows;
+use crate::encoding::{CodedText, coded_text, coded_text_here};
 use crate::gathering::Given;
-use crate::layout::{lay_out, rows_of_text};
-use cw_base::{Digest, Hasher, NoMemory, Strategy};
+use crate::layout::lay_out;
+use cw_base::{Config, Digest, Hasher, NoMemory, Strategy};
 use cw_tree::canonical_shard_len;
 use rs_code::laws::prove_rows;
 use rs_code::{Plan, PlanError};
@@ -111,35 +111,91 @@ fn plan_of(alloc: Global, k: u16, m: u16, indices: &[u16]) -> Result<Plan, NoMem
     }
 }
 
-// The originals, rebuilt from the first k rows given.
+// What the originals are rebuilt by: a plan, and their indices.
+#[derive(Drop)]
+struct Rebuilding {
+    plan: Plan,
+    targets: Vec<u16>,
+}
+
+fn plan_rebuilding(alloc: Global, config: &Config, given: &Given) -> Result<Rebuilding, NoMemory>
+    requires { AreRecoverable config.now given.now.width given.now.indices.items
+        given.now.rows.items given.now.compared }
+    ensures plan { IfOk result (λ by. by.plan ≡ record {
+      k = config.now.minimum;
+      m = config.now.extra;
+      points = take config.now.minimum given.now.indices.items;
+    }) }
+    ensures count { IfOk result (λ by. length by.targets.items ≡ config.now.minimum) }
+    ensures each { IfOk result
+        (λ by. (s : ℕ) → s < config.now.minimum → slice_index by.targets.items s ≡ s) }
+{
+    let k = config.minimum();
+    let plan = plan_of(alloc, k, config.extra(), &given.indices)?;
+    let targets = first_indices(alloc, k)?;
+    Ok(Rebuilding { plan, targets })
+}
+
+// The rows that are used: as many as there are originals.
+fn used_rows<'a>(config: &Config, given: &'a Given) -> &'a [u8]
+    requires { AreRecoverable config.now given.now.width given.now.indices.items
+        given.now.rows.items given.now.compared }
+    ensures value { result.now
+        ≡ take (config.now.minimum * given.now.width) given.now.rows.items }
+    ensures long { length result.now ≡ config.now.minimum * given.now.width }
+    ensures fits { config.now.minimum * given.now.width < 2 ^ 63 }
+{
+    &given.rows[..usize::from(config.minimum()) * given.width]
+}
+
+// The originals, rebuilt from the first rows given.
 fn rebuilt<R: Threads + Sync, S: Strategy>(
     rt: &R,
     alloc: Global,
-    k: u16,
-    m: u16,
-    width: usize,
-    indices: &[u16],
-    rows: &[u8],
+    config: &Config,
+    given: &Given,
     strategy: &S,
 ) -> Result<Vec<u8>, NoMemory>
-    requires some { 1 ≤ k }
-    requires total { k + m ≤ 65535 }
-    requires positive { 0 < width }
-    requires even { width % 2 ≡ 0 }
-    requires narrow { width ≤ 2 ^ 32 - 1 }
-    requires rows { length rows.now ≡ length indices.now * width }
-    requires enough { k ≤ length indices.now }
-    requires sound { AreSound (k + m) indices.now }
-    ensures long { IfOk result (λ v. length v.items ≡ k * width) }
+    requires given { AreRecoverable config.now given.now.width given.now.indices.items
+        given.now.rows.items given.now.compared }
+    requires positive { 0 < given.now.width }
+    requires even { given.now.width % 2 ≡ 0 }
+    ensures long { IfOk result (λ v. length v.items ≡ config.now.minimum * given.now.width) }
     ensures value { (originals : List ℕ) →
-        ((s : ℕ) → s < k
-        → row_of rows.now width s ≡ code_row k originals width (slice_index indices.now s)) →
-        IfOk result (λ v. v.items ≡ joined k (λ i. code_row k originals width i)) }
+        ((s : ℕ) → s < config.now.minimum → row_of given.now.rows.items given.now.width s
+        ≡ code_row config.now.minimum originals given.now.width
+        (slice_index given.now.indices.items s)) →
+        IfOk result (λ v. v.items ≡ joined config.now.minimum
+        (λ i. code_row config.now.minimum originals given.now.width i)) }
 {
-    let plan = plan_of(alloc, k, m, indices)?;
-    let targets = first_indices(alloc, k)?;
-    let used = &rows[..usize::from(k) * width];
-    match plan.rebuild(rt, alloc, used, width, &targets, strategy) {
+    let by = plan_rebuilding(alloc, config, given)?;
+    let used = used_rows(config, given);
+    match by
+        .plan
+        .rebuild(rt, alloc, used, given.width, &by.targets, strategy)
+    {
+        Ok(originals) => Ok(originals),
+        Err(_) => Err(NoMemory),
+    }
+}
+
+// The same on the caller's thread.
+fn rebuilt_here(alloc: Global, config: &Config, given: &Given) -> Result<Vec<u8>, NoMemory>
+    requires given { AreRecoverable config.now given.now.width given.now.indices.items
+        given.now.rows.items given.now.compared }
+    requires positive { 0 < given.now.width }
+    requires even { given.now.width % 2 ≡ 0 }
+    ensures long { IfOk result (λ v. length v.items ≡ config.now.minimum * given.now.width) }
+    ensures value { (originals : List ℕ) →
+        ((s : ℕ) → s < config.now.minimum → row_of given.now.rows.items given.now.width s
+        ≡ code_row config.now.minimum originals given.now.width
+        (slice_index given.now.indices.items s)) →
+        IfOk result (λ v. v.items ≡ joined config.now.minimum
+        (λ i. code_row config.now.minimum originals given.now.width i)) }
+{
+    let by = plan_rebuilding(alloc, config, given)?;
+    let used = used_rows(config, given);
+    match by.plan.rebuild_here(alloc, used, given.width, &by.targets) {
         Ok(originals) => Ok(originals),
         Err(_) => Err(NoMemory),
     }
@@ -157,68 +213,84 @@ fn first_indices(alloc: Global, count: u16) -> Result<Vec<u16>, NoMemory>
     Ok(values)
 }
 
-// The root over the digests of so many rows of one width.
-fn root_of_rows<H: Hasher, R: Threads + Sync, S: Strategy>(
-    rt: &R,
+// The only text that the rows given can come of, by the originals that were rebuilt from them.
+fn candidate<H: Hasher>(
     alloc: Global,
-    rows: &[u8],
-    width: usize,
-    count: u16,
-    strategy: &S,
-) -> Result<H::Digest, NoMemory>
-    requires positive { 0 < width }
-    requires some { 1 ≤ count }
-    requires rows { length rows.now ≡ count * width }
-    ensures { IfOk result (λ root. root_of H.digest_of H.Digest.content
-        (row_hashes H.digest_of width rows.now) ≡ Some root) }
+    config: &Config,
+    given: &Given,
+    originals: Vec<u8>,
+) -> Result<Option<Vec<u8>>, NoMemory>
+    requires given { AreRecoverable config.now given.now.width given.now.indices.items
+        given.now.rows.items given.now.compared }
+    requires long { length originals.items ≡ config.now.minimum * given.now.width }
+    requires value { (xs : List ℕ) →
+        ((s : ℕ) → s < config.now.minimum → row_of given.now.rows.items given.now.width s
+        ≡ code_row config.now.minimum xs given.now.width (slice_index given.now.indices.items s)) →
+        originals.items ≡ joined config.now.minimum
+        (λ i. code_row config.now.minimum xs given.now.width i) }
+    ensures { IfOk result (λ found. MatchOption found
+        ((root : H.Digest) (text : List ℕ)
+        → Fits H.digest_of H.Digest.content config.now.minimum config.now.extra root
+        given.now.width given.now.indices.items given.now.rows.items given.now.compared text → ⊥)
+        (λ text. (length text.items ≤ 2 ^ 32 - 1)
+        × (shard_len (length text.items) config.now.minimum ≡ given.now.width)
+        × ((root : H.Digest) (other : List ℕ)
+        → Fits H.digest_of H.Digest.content config.now.minimum config.now.extra root
+        given.now.width given.now.indices.items given.now.rows.items given.now.compared other
+        → other ≡ text.items))) }
 {
-    let tree = tree_of_rows::<H, R, S>(rt, alloc, rows, width, count, strategy)?;
-    Ok(tree.root())
+    prove_rows();
+    let found = text_of(alloc, config.minimum(), given.width, &originals)?;
+    match found {
+        Some(text) => Ok(Some(text)),
+        None => Ok(None),
+    }
 }
 
-// Whether a text is the one that these rows come of.
-fn confirmed<H: Hasher, R: Threads + Sync, S: Strategy>(
-    rt: &R,
-    alloc: Global,
-    k: u16,
-    m: u16,
+// The only text that the rows given can come of, if they do come of it and it has this root.
+fn kept<H: Hasher>(
+    config: &Config,
     root: &H::Digest,
-    width: usize,
     given: &Given,
-    text: &[u8],
-    strategy: &S,
-) -> Result<bool, NoMemory>
-    requires positive { 0 < width }
-    requires some { 1 ≤ k }
-    requires more { 1 ≤ m }
-    requires total { k + m ≤ 65535 }
-    requires short { length text.now ≤ 2 ^ 32 - 1 }
-    requires width { width ≡ shard_len (length text.now) k }
-    requires compared { given.now.compared ≤ length given.now.indices.items }
-    requires rows { length given.now.rows.items ≡ length given.now.indices.items * width }
-    requires range { (s : ℕ) → s < length given.now.indices.items
-        → slice_index given.now.indices.items s < k + m }
-    ensures bytes { IfOk result (λ _. (i : ℕ) → slice_index text.now i < 256) }
-    ensures value { IfOk result (λ yes. IsTrue yes ↔ (
-        ((s : ℕ) → s < given.now.compared
-        → row_of given.now.rows.items width s ≡ row_at k text.now
-        (slice_index given.now.indices.items s))
-        × (root_of H.digest_of H.Digest.content (row_digests H.digest_of k m text.now)
-        ≡ Some root.now))) }
+    text: Vec<u8>,
+    coded: CodedText<H>,
+) -> Option<Vec<u8>>
+    requires given { AreRecoverable config.now given.now.width given.now.indices.items
+        given.now.rows.items given.now.compared }
+    requires short { length text.items ≤ 2 ^ 32 - 1 }
+    requires bytes { (i : ℕ) → slice_index text.items i < 256 }
+    requires width { shard_len (length text.items) config.now.minimum ≡ given.now.width }
+    requires only { (other : List ℕ)
+        → Fits H.digest_of H.Digest.content config.now.minimum config.now.extra root.now
+        given.now.width given.now.indices.items given.now.rows.items given.now.compared other
+        → other ≡ text.items }
+    requires rows { coded.rows.items
+        ≡ joined (total_of config.now) (row_at config.now.minimum text.items) }
+    requires digests { coded.tree
+        ≡ row_digests H.digest_of config.now.minimum config.now.extra text.items }
+    ensures { MatchOption result
+        ((other : List ℕ)
+        → Fits H.digest_of H.Digest.content config.now.minimum config.now.extra root.now
+        given.now.width given.now.indices.items given.now.rows.items given.now.compared other → ⊥)
+        (λ found. Fits H.digest_of H.Digest.content config.now.minimum config.now.extra root.now
+        given.now.width given.now.indices.items given.now.rows.items given.now.compared
+        found.items) }
 {
-    let rows = rows_of_text(rt, alloc, k, m, text, strategy)?;
-    let total = k + m;
-    let found = root_of_rows::<H, R, S>(rt, alloc, &rows, width, total, strategy)?;
     let same = same_rows(
-        &rows,
-        width,
-        total,
+        &coded.rows,
+        given.width,
+        config.minimum() + config.extra(),
         &given.indices,
         &given.rows,
         given.compared,
     );
-    let rooted = found.is_same(root);
-    Ok(both(same, rooted))
+    let rooted = coded.tree.root().is_same(root);
+    let yes = both(same, rooted);
+    drop(coded);
+    if !yes {
+        return None;
+    }
+    Some(text)
 }
 
 fn both(first: bool, second: bool) -> bool
@@ -227,54 +299,73 @@ fn both(first: bool, second: bool) -> bool
     first && second
 }
 
+// Whether rows of codewords have this width.
+fn is_row_width(width: usize) -> bool
+    ensures { IsTrue result ↔ ((0 < width) × (width % 2 ≡ 0)) }
+{
+    width != 0 && width % 2 == 0
+}
+
 // The text that the rows given come of, and that has this root.
 pub(crate) fn recovered<H: Hasher, R: Threads + Sync, S: Strategy>(
     rt: &R,
     alloc: Global,
-    k: u16,
-    m: u16,
+    config: &Config,
     root: &H::Digest,
-    width: usize,
     given: &Given,
     strategy: &S,
 ) -> Result<Option<Vec<u8>>, NoMemory>
-    requires some { 1 ≤ k }
-    requires more { 1 ≤ m }
-    requires total { k + m ≤ 65535 }
-    requires narrow { width ≤ 2 ^ 32 - 1 }
-    requires compared { given.now.compared ≤ length given.now.indices.items }
-    requires used { k ≤ given.now.compared }
-    requires rows { length given.now.rows.items ≡ length given.now.indices.items * width }
-    requires sound { AreSound (k + m) given.now.indices.items }
+    requires { AreRecoverable config.now given.now.width given.now.indices.items
+        given.now.rows.items given.now.compared }
     ensures { IfOk result (λ found. MatchOption found
         ((text : List ℕ)
-        → Fits H.digest_of H.Digest.content k m root.now width given.now.indices.items
-        given.now.rows.items given.now.compared text → ⊥)
-        (λ text. Fits H.digest_of H.Digest.content k m root.now width given.now.indices.items
-        given.now.rows.items given.now.compared text.items)) }
+        → Fits H.digest_of H.Digest.content config.now.minimum config.now.extra root.now
+        given.now.width given.now.indices.items given.now.rows.items given.now.compared text → ⊥)
+        (λ text. Fits H.digest_of H.Digest.content config.now.minimum config.now.extra root.now
+        given.now.width given.now.indices.items given.now.rows.items given.now.compared
+        text.items)) }
 {
-    if width == 0 || width % 2 != 0 {
+    if !is_row_width(given.width) {
         return Ok(None);
     }
-    let originals = rebuilt(
-        rt,
-        alloc,
-        k,
-        m,
-        width,
-        &given.indices,
-        &given.rows,
-        strategy,
-    )?;
-    prove_rows();
-    let found = text_of(alloc, k, width, &originals)?;
-    let text = match found {
-        Some(text) => text,
-        None => return Ok(None),
-    };
-    let yes = confirmed::<H, R, S>(rt, alloc, k, m, root, width, given, &text, strategy)?;
-    if !yes {
+    let originals = rebuilt(rt, alloc, config, given, strategy)?;
+    let found = candidate::<H>(alloc, config, given, originals)?;
+    match found {
+        Some(text) => {
+            let coded = coded_text::<H, R, S>(rt, alloc, config, &text, strategy)?;
+            Ok(kept::<H>(config, root, given, text, coded))
+        }
+        None => Ok(None),
+    }
+}
+
+// The same on the caller's thread.
+pub(crate) fn recovered_here<H: Hasher>(
+    alloc: Global,
+    config: &Config,
+    root: &H::Digest,
+    given: &Given,
+) -> Result<Option<Vec<u8>>, NoMemory>
+    requires { AreRecoverable config.now given.now.width given.now.indices.items
+        given.now.rows.items given.now.compared }
+    ensures { IfOk result (λ found. MatchOption found
+        ((text : List ℕ)
+        → Fits H.digest_of H.Digest.content config.now.minimum config.now.extra root.now
+        given.now.width given.now.indices.items given.now.rows.items given.now.compared text → ⊥)
+        (λ text. Fits H.digest_of H.Digest.content config.now.minimum config.now.extra root.now
+        given.now.width given.now.indices.items given.now.rows.items given.now.compared
+        text.items)) }
+{
+    if !is_row_width(given.width) {
         return Ok(None);
     }
-    Ok(Some(text))
+    let originals = rebuilt_here(alloc, config, given)?;
+    let found = candidate::<H>(alloc, config, given, originals)?;
+    match found {
+        Some(text) => {
+            let coded = coded_text_here::<H>(alloc, config, &text)?;
+            Ok(kept::<H>(config, root, given, text, coded))
+        }
+        None => Ok(None),
+    }
 }

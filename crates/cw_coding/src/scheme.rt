@@ -12,8 +12,8 @@ ghost use Rattle.cw_coding.specs.Checking.{Checks, AllCheck};
 ghost use Rattle.cw_coding.specs.Decoding.{AreDecodable, IsDecoding, IsDecodeRefusal};
 
 use crate::checking::{CheckedChunk, check_all, check_chunk};
-use crate::decoding::decode_text;
-use crate::encoding::{commit_text, encode_text};
+use crate::decoding::{decode_chunks_here, decode_text};
+use crate::encoding::{commit_text, encode_text, encode_text_here};
 use crate::error::ReedSolomonError;
 use crate::sizes::height_of;
 use cw_base::{Config, Digest, Hasher, Strategy};
@@ -80,6 +80,26 @@ pub trait Scheme {
         ensures refused { IfErr result (λ e. IsEncodeRefusal config.now (length input.now) e) }
     {
         encode_text::<Self::Hasher, R, S>(rt, alloc, config, input, strategy)
+    }
+
+    /// What [`Scheme::encode`] answers, by the caller's thread alone: it takes no runtime.
+    final fn encode_here(
+        alloc: Global,
+        config: &Config,
+        input: &[u8],
+    ) -> Result<
+        (
+            <Self::Hasher as Hasher>::Digest,
+            Vec<Chunk<<Self::Hasher as Hasher>::Digest>>,
+        ),
+        ReedSolomonError,
+    >
+        ensures encoded { IfOk result
+            (λ r. IsEncoding Self.Hasher.digest_of Self.Hasher.Digest.content config.now input.now
+            r.0 r.1.items) }
+        ensures refused { IfErr result (λ e. IsEncodeRefusal config.now (length input.now) e) }
+    {
+        encode_text_here::<Self::Hasher>(alloc, config, input)
     }
 
     /// The commitment that [`Scheme::encode`] gives `input`; its chunks and their proofs are not
@@ -181,6 +201,23 @@ pub trait Scheme {
             commitment.now (map (λ chunk. chunk.now) given) e)) }
     {
         decode_text::<Self::Hasher, I, R, S>(rt, alloc, config, commitment, shards, strategy)
+    }
+
+    /// What [`Scheme::decode`] answers, by the caller's thread alone: it takes no runtime.
+    final fn decode_here(
+        alloc: Global,
+        config: &Config,
+        commitment: &<Self::Hasher as Hasher>::Digest,
+        shards: &[CheckedChunk<Self::Hasher>],
+    ) -> Result<Vec<u8>, ReedSolomonError>
+        ensures decoded { IfOk result (λ text. AreDecodable config.now commitment.now shards.now
+            × IsDecoding Self.Hasher.digest_of Self.Hasher.Digest.content config.now commitment.now
+            shards.now text.items) }
+        ensures refused { IfErr result
+            (λ e. IsDecodeRefusal Self.Hasher.digest_of Self.Hasher.Digest.content config.now
+            commitment.now shards.now e) }
+    {
+        decode_chunks_here::<Self::Hasher>(alloc, config, commitment, shards)
     }
 }
 

@@ -46,8 +46,7 @@ pub fn rows_at<R: Threads + Sync, S: Strategy>(
     let count = stripe_count(width, strategy.pieces());
     if count == 1 {
         strategy.arrive(0);
-        let whole = stripe_rows(alloc, basis, rows, width, targets, 1, 0)?;
-        return Ok(whole);
+        return whole_rows_at(alloc, basis, rows, width, targets);
     }
     let size = targets.len() * width;
     let (room, done) = thread::join(
@@ -71,9 +70,27 @@ pub fn rows_at<R: Threads + Sync, S: Strategy>(
     Ok(out)
 }
 
-/// Appends the rows at the targets to the rows at the points of a basis.
-///
-/// A width of one stripe is worked on where the rows stay.
+/// What [`rows_at`] gives, on the caller's thread, all columns in one piece.
+pub fn whole_rows_at(
+    alloc: Global,
+    basis: &Basis,
+    rows: &[u8],
+    width: usize,
+    targets: &[u16],
+) -> Result<Vec<u8>, NoMemory>
+    requires rows { length rows.now ≡ length basis.now * width }
+    requires even { width % 2 ≡ 0 }
+    requires room { length targets.now * width < 2 ^ 63 }
+    ensures { IfOk result (λ v. v.items ≡ joined (length targets.now)
+        (λ i. row_through (length basis.now) (λ s. slice_index basis.now s) rows.now width
+        (slice_index targets.now i))) }
+{
+    let whole = stripe_rows(alloc, basis, rows, width, targets, 1, 0)?;
+    Ok(whole)
+}
+
+/// Appends the rows at the targets to the rows at the points of a basis, as a strategy does `count`
+/// stripes of them.
 pub fn put_rows_at<R: Threads + Sync, S: Strategy>(
     rt: &R,
     alloc: Global,
@@ -81,21 +98,19 @@ pub fn put_rows_at<R: Threads + Sync, S: Strategy>(
     rows: &mut Vec<u8>,
     width: usize,
     targets: &[u16],
+    count: usize,
     strategy: &S,
 ) -> Result<(), NoMemory>
     requires rows { length rows.old.items ≡ length basis.now * width }
+    requires some_width { 1 ≤ width }
     requires even { width % 2 ≡ 0 }
+    requires some_stripes { 1 ≤ count }
     requires room { length rows.old.items + length targets.now * width < 2 ^ 63 }
     ensures ok { OnOk result (rows.new.items ≡ rows.old.items ++ joined (length targets.now)
         (λ i. row_through (length basis.now) (λ s. slice_index basis.now s) rows.old.items width
         (slice_index targets.now i))) }
     ensures err { OnErr result (take (length rows.old.items) rows.new.items ≡ rows.old.items) }
 {
-    let count = stripe_count(width, strategy.pieces());
-    if count == 1 {
-        strategy.arrive(0);
-        return put_whole_rows(alloc, basis, rows, width, targets);
-    }
     let stripes = run_stripes(rt, alloc, basis, rows, width, targets, count, strategy)?;
     let size = rows.len();
     rows.resize(size + targets.len() * width, 0)?;
@@ -104,8 +119,8 @@ pub fn put_rows_at<R: Threads + Sync, S: Strategy>(
     Ok(())
 }
 
-// The same for a width of one stripe.
-fn put_whole_rows(
+/// What [`put_rows_at`] does, on the caller's thread: all columns in one piece, where the rows stay.
+pub fn put_whole_rows(
     alloc: Global,
     basis: &Basis,
     rows: &mut Vec<u8>,

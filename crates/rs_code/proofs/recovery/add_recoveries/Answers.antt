@@ -1,8 +1,17 @@
-use Rattle.std.proofs.Common.{◌++◌, ap, ◌∙◌}
+use Rattle.std.proofs.Common.{◌++◌, ap, ◌∙◌, arith}
 use Rattle.std.proofs.lemmas.Result.{on_ok_weaker}
 use Rattle.rs_code.proofs.RowBytes.{recovery_rows}
 use Rattle.rs_code.proofs.RowFronts.{unchanged}
+use Rattle.rs_code.proofs.StripeCuts.{stripes_some}
 use Rattle.rs_code.proofs.recovery.add_recoveries.Goals as goal
+
+pub put_rows_at-done-requires-clause-some_stripes : goal.put_rows_at-done-requires-clause-some_stripes
+put_rows_at-done-requires-clause-some_stripes g c = λ κs h.
+    omega (
+      arith,
+      c.stripe_count-count.ensures,
+      stripes_some c.args.width c.pieces.result c.pieces.ensures.positive,
+    )
 
 pub returns-in_err-recoveries-clause-err : goal.returns-in_err-recoveries-clause-err
 returns-in_err-recoveries-clause-err g c =

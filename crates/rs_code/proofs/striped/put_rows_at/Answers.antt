@@ -5,7 +5,7 @@ use Rattle.rs_code.specs.Rows.{joined, row_through}
 use Rattle.rs_code.specs.Stripes.{HaveRows, row_of_stripes}
 use Rattle.rs_code.proofs.RowBytes.{joined_same}
 use Rattle.rs_code.proofs.RowFronts.{front, unchanged}
-use Rattle.rs_code.proofs.StripeCuts.{stripes_some, several_are_wide, stripes_have, row_of_all}
+use Rattle.rs_code.proofs.StripeCuts.{stripes_have, row_of_all}
 use Rattle.rs_code.proofs.striped.put_rows_at.Goals as goal
 
 pub put_rows-requires-clause-some : goal.put_rows-requires-clause-some
@@ -14,25 +14,14 @@ put_rows-requires-clause-some g c κs within =
       arith,
       ap length c.deref-2.ensures.value,
       c.in_ok-stripes.ensures.count,
-      c.stripe_count-count.ensures,
-      stripes_some c.args.width c.pieces.result c.pieces.ensures.positive,
+      c.requires.some_stripes,
     )
-
-pub put_rows-requires-clause-wide : goal.put_rows-requires-clause-wide
-put_rows-requires-clause-wide g c κs within =
-    several_are_wide c.args.width c.pieces.result c.stripe_count-count.result
-    c.stripe_count-count.ensures c.pieces.ensures.positive c.if-count-eq1.false
 
 pub put_rows-requires-clause-rows : goal.put_rows-requires-clause-rows
 put_rows-requires-clause-rows g c κs within =
     let stripes : List (Vec ℕ Global) = c.in_ok-stripes.stripes.items in
     let some : 0 < length stripes =
-    omega (
-      arith,
-      c.in_ok-stripes.ensures.count,
-      c.stripe_count-count.ensures,
-      stripes_some c.args.width c.pieces.result c.pieces.ensures.positive,
-    ) in
+    omega (arith, c.in_ok-stripes.ensures.count, c.requires.some_stripes) in
     subst (HaveRows c.args.width (length c.args.targets.now)) (sym c.deref-2.ensures.value)
     (stripes_have c.args.width (length c.args.targets.now) _ stripes some c.requires.even
     c.in_ok-stripes.ensures.stripes)
@@ -51,12 +40,7 @@ returns-clause-ok g c =
     let stripes : List (Vec ℕ Global) = c.in_ok-stripes.stripes.items in
     let size : ℕ = c.len-size.result in
     let some : 0 < length stripes =
-    omega (
-      arith,
-      c.in_ok-stripes.ensures.count,
-      c.stripe_count-count.ensures,
-      stripes_some width c.pieces.result c.pieces.ensures.positive,
-    ) in
+    omega (arith, c.in_ok-stripes.ensures.count, c.requires.some_stripes) in
     let same : given ≡ old =
     front old _ c.resize.new.self.items c.deref_mut.result.now given size (size + n * width)
     (omega (arith, c.len-size.ensures)) (omega arith)

@@ -1,0 +1,11 @@
+use Rattle.std.proofs.Common.{sym, refl}
+use Rattle.rs_code.proofs.RowBytes.{rebuilt_rows}
+use Rattle.rs_code.proofs.plan.Plan.rebuild_here.Goals as goal
+
+pub returns-clause-codeword : goal.returns-clause-codeword
+returns-clause-codeword c = λ originals h.
+    rebuilt_rows c.args.self.now c.self.inside.k c.self.inside.m c.self.inside.basis
+    c.self.inside.basis _ c.args.targets.now
+    c.args.rows.now originals c.args.width (sym c.self.view_is) c.self.invariant.0
+    c.self.invariant.1 c.self.invariant.2
+    refl c.requires.even c.in_ok-rebuilt.ensures h
