@@ -38,6 +38,12 @@ module _ (hash : List ℕ → Digest32) (c : Commitment) where
       let p = and_parts (nat_le (total_of c.config) 65535) (is_under_root hash c x) h in
       (leb-true (total_of c.config) 65535 p.0, p.1)
 
+  -- a config by which some chunk checks has few enough
+  pub few_chunks : (xs : List Chunk) → 1 ≤ length xs → AreChecked hash c xs
+      → total_of c.config ≤ 65535
+  few_chunks [] some h = absurd (omega arith)
+  few_chunks (x ∷ xs) some h = (check_parts x h.0).0
+
   -- a chunk that checks is of an index that its config has
   pub check_within : (x : Chunk) → checks hash c x ≡ true → x.index < total_of c.config
   check_within x h = let p = check_parts x h in (stands_under hash no_committees c x p.0 p.1).within

@@ -6,7 +6,7 @@ use Rattle.cw_types.specs.Block.{Block}
 use Rattle.cw_types.specs.Encoding.{block_bytes}
 use Rattle.cw_types.specs.Reading.{block_in}
 use Rattle.cw_types.specs.declared.commitment.Commitment.{Commitment}
-use Rattle.cw_rules.specs.Coding.{AreApart, AreRowsOf, IsText}
+use Rattle.cw_rules.specs.Coding.{AreApart, AreBytes, AreRowsOf, IsText}
 use Rattle.cw_rules.specs.Rules.{Chunk}
 use Rattle.shards.specs.Enough.{AreOfText, no_committees}
 use Rattle.shards.specs.Kept.{rules_of}
@@ -26,12 +26,13 @@ pub record AreSufficient (hash : List ℕ → Digest32) (c : Commitment)
   pub apart : AreApart chunks
 
 -- what an archive holds true of what it keeps: the bytes of all shards are counted and are within
--- the limit, and each chunk checks under its commitment
+-- the limit, and each chunk checks under its commitment and has bytes
 pub record IsWithin (hash : List ℕ → Digest32) (limit used : ℕ)
     (kept : List KeptChunk) : Type 0 where
   pub counted : used ≡ used_of kept
   pub within : used ≤ limit
   pub check : AllByRecursion (λ k. IsTrue (checks hash k.commitment k.chunk)) kept
+  pub bytes : AllByRecursion (λ k. AreBytes k.chunk.shard) kept
 
 -- the chunks are k rows, at their places, of the codeword of the bytes of a block, which are read
 -- as that block and which the commitment names

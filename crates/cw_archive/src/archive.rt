@@ -1,15 +1,17 @@
 //! The archive.
 
-ghost use Rattle.std.specs.Prelude.{◌≡◌, ◌≤◌, ◌+◌, [], IfOk, OnErr, OnOk, length};
-ghost use Rattle.cw_archive.specs.Archived.{after_put, given_back, put_answer, used_of};
-ghost use Rattle.cw_archive.specs.Archived.{within_limit};
-ghost use Rattle.cw_archive.specs.Showing.{HasNewest};
+ghost use Rattle.std.specs.Prelude.{◌≡◌, ◌≤◌, ◌+◌, ◌↔◌, [], IfOk, OnErr, OnOk, Some, length};
+ghost use Rattle.cw_types.specs.Block.{Block};
+ghost use Rattle.cw_archive.specs.Archived.{after_put, given_back, least_chunks, put_answer};
+ghost use Rattle.cw_archive.specs.Archived.{used_of, within_limit};
+ghost use Rattle.cw_archive.specs.Showing.{HasNewest, Shows};
 ghost use Rattle.shards.specs.Kept.{chunks_of};
 
-use crate::checks::checked;
+use crate::checks::{are_bytes, checked};
+use crate::laws::archives_show;
 use crate::put::Put;
 use crate::queue::ChunkQueue;
-use crate::showing::{least_chunks, shown};
+use crate::showing::{least_chunks as least_of, shown};
 use cw_base::{Digest32, Hasher, NoMemory, Strategy};
 use cw_coding::Chunk;
 use cw_types::{ChainBlock, Commitment};
@@ -96,7 +98,9 @@ impl<H: Hasher<Digest = Digest32>> Archive<H> {
         if checked::<H, S>(self.alloc, commitment, &chunk, strategy)?.is_none() {
             return Ok(Put::Foreign);
         }
-        let width = chunk.shard().len() as u64;
+        let shard = chunk.shard();
+        are_bytes(shard);
+        let width = shard.len() as u64;
         if width > self.limit {
             return Ok(Put::TooLarge);
         }
@@ -120,11 +124,23 @@ impl<H: Hasher<Digest = Digest32>> Archive<H> {
             (λ block. block ≡ given_back H.digest_of commitment.now self.now.kept) }
     {
         let minimum = usize::from(commitment.config.minimum());
-        let chunks = least_chunks(alloc, &self.kept, commitment)?;
+        let chunks = least_of(alloc, &self.kept, commitment)?;
         if chunks.len() < minimum {
             return Ok(None);
         }
         shown::<H, R, S>(rt, alloc, commitment, &chunks, strategy)
+    }
+
+    /// A law: what is given back of a commitment is exactly the block that its chunks of least index
+    /// show.
+    pub fn gives_what_it_shows(&self, commitment: &Commitment)
+        ensures { (b : Block)
+            → (given_back H.digest_of commitment.now self.now.kept ≡ Some b)
+            ↔ Shows H.digest_of commitment.now (least_chunks commitment.now self.now.kept) b }
+    {
+        archives_show();
+        let _kept = &self.kept;
+        let _some = commitment.config.minimum();
     }
 
     /// How many bytes all shards have, which are never more than the limit. Takes no memory.

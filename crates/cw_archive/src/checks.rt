@@ -37,8 +37,8 @@ pub(crate) fn checked<H: Hasher<Digest = Digest32>, S: Strategy>(
     }
 }
 
-// What a slice holds is bytes.
-fn are_bytes(shard: &[u8])
+/// A law: what a slice holds is bytes.
+pub(crate) fn are_bytes(shard: &[u8])
     ensures { AreBytes shard.now }
 {
     let _shard = shard;

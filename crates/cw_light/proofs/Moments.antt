@@ -1,29 +1,30 @@
 -- What is told at a moment of a run is told at its end.
 use Rattle.std.proofs.Common.{◌≡◌, ℕ, zero, suc, Bool, true, false, ◌&&◌, ◌||◌, nat_le, cond, List, [], ◌∷◌, ◌++◌, Option, Some, None, slice_get, refl, sym, ◌∙◌, ap, subst, inl, inr, ◌⊎◌, append-nil, length, map, is_none}
-use Rattle.std.specs.List.{list_all, list_any}
+use Rattle.std.specs.List.{AllByRecursion, list_all, list_any}
 use Rattle.std.specs.Option.{option_map_or}
-use Rattle.std.proofs.lemmas.Option.{same_Some}
 use Rattle.std.proofs.lemmas.Bool.{and_from, and_parts, cond-true, false≢true, or_cases, or_left, or_right}
 use Rattle.cw_base.specs.declared.hash.Digest32.{Digest32}
+use Rattle.cw_types.specs.declared.commitment.Commitment.{Commitment}
+use Rattle.cw_types.specs.declared.note.Note.{Note}
 use Rattle.cw_types.specs.declared.vote.Cert.{Cert}
 use Rattle.cw_types.specs.declared.vote.Proposal.{Proposal}
 use Rattle.cw_types.specs.declared.vote.Vote.{Vote}
 use Rattle.cw_types.specs.Block.{Block}
-use Rattle.cw_types.specs.Encoding.{block_bytes}
 use Rattle.cw_types.specs.Epochs.{is_member, rises_from, size}
 use Rattle.cw_types.specs.Values.{IsBlock}
-use Rattle.cw_types.proofs.FormatLaws.{block_again}
 use Rattle.cw_types.specs.Numbers.{quorum}
-use Rattle.cw_types.specs.Reading.{block_in}
 use Rattle.cw_types.specs.Votes.{finalized, vote_epoch, well_formed}
 use Rattle.cw_rules.specs.Accepted.{is_valid}
-use Rattle.cw_rules.specs.Chains.{Clashes, Ends, clash_at, outcome}
-use Rattle.cw_rules.specs.Reached.{IsCluster, Reaches}
+use Rattle.cw_rules.specs.Chains.{Clashes, Ends, all_notes, clash_at, outcome}
+use Rattle.cw_rules.specs.Reached.{In, IsCluster, Reaches}
 use Rattle.cw_rules.specs.Report.{report_of}
 use Rattle.cw_rules.specs.Rules.{Rules, digest}
 use Rattle.cw_rules.specs.Step.{Member, Stepped}
+use Rattle.cw_rules.specs.Telling.{FitsLine, TellsBlocks}
 use Rattle.cw_rules.specs.World.{Cut, Do, Faulty, Line, Restart, Sent, World, done_by, fault_sends, happens, is_faulty, is_sent_vote, line_member, opening, run, sent_now, signed, with_done}
 use Rattle.cw_rules.proofs.Changes.{flags_kept}
+use Rattle.cw_rules.proofs.Written.{known_written}
+use Rattle.cw_rules_coded.proofs.Told.{told_apart}
 use Rattle.cw_light.specs.Believing.{AreWritten, IsBelieved, IsLinkAt}
 use Rattle.cw_light.specs.Checking.{answer, broken_at, path_answer}
 use Rattle.cw_light.specs.declared.check.Answer.{Answer}
@@ -210,18 +211,16 @@ yes_more r before after more s path height d h = go (told r before s path height
         ∙ (ap (λ o. option_map_or Broken o (Yes t.block.height (digest r t.block))) t.whole
         ∙ (λ i. Yes (t.height_is i) (t.digest_is i)))))
 
--- two different blocks have different bytes
-told_apart : (a b : Block) → IsBlock a → IsBlock b → block_bytes a ≡ block_bytes b → a ≡ b
-told_apart a b one other same =
-    same_Some a b (sym (block_again a one) ∙ (ap block_in same ∙ block_again b other))
-
--- what a yes means, by what was signed at some moment of the run
-pub believed_then : (r : Rules) (script : List Line) (now end : World) → IsCluster r script
+-- what a yes means, by what was signed at some moment of the run, where blocks that are told apart
+-- have different bytes
+believed_by : (r : Rules) (script : List Line) (now end : World) → IsCluster r script
     → Reaches r script now → outcome r (opening r script) script ≡ Ends end
-    → (s : Cert) (path : List Block) (height : ℕ) (d : Digest32) → AreWritten r end path
+    → (s : Cert) (path : List Block) (height : ℕ) (d : Digest32)
+    → ((a b : Block) (c : Commitment) → In a path → In (Note.Block c b) (all_notes end)
+    → r.block_bytes a ≡ r.block_bytes b → a ≡ b)
     → answer r (signed now) s path ≡ Yes height d
     → IsBelieved r end (report_of r script end).chain path height d
-believed_then r script now end c reaches ends s path height d fit h =
+believed_by r script now end c reaches ends s path height d apart h =
     go
     (believed r script end c ends s path height d
     (yes_more r (signed now) (signed end) (signed_end r script now end reaches ends) s path
@@ -238,9 +237,34 @@ believed_then r script now end c reaches ends s path height d fit h =
       is_noted = two.is_noted;
       different =
           λ same. two.different
-          (told_apart two.shown two.noted (fit.shown two.shown two.in_path)
-          (fit.noted two.under two.noted two.is_noted)
-          (sym (ap (λ f. f two.shown) fit.encoded)
-          ∙ (same ∙ ap (λ f. f two.noted) fit.encoded)));
+          (apart two.shown two.noted two.under two.in_path two.is_noted same);
       one_digest = two.one_digest;
     })
+
+-- where each noted block can be written
+pub believed_then : (r : Rules) (script : List Line) (now end : World) → IsCluster r script
+    → Reaches r script now → outcome r (opening r script) script ≡ Ends end
+    → (s : Cert) (path : List Block) (height : ℕ) (d : Digest32) → AreWritten r end path
+    → answer r (signed now) s path ≡ Yes height d
+    → IsBelieved r end (report_of r script end).chain path height d
+believed_then r script now end c reaches ends s path height d fit h =
+    believed_by r script now end c reaches ends s path height d
+    (λ a b under shown noted same. told_apart a b (fit.shown a shown) (fit.noted under b noted)
+    (sym (ap (λ f. f a) fit.encoded) ∙ (same ∙ ap (λ f. f b) fit.encoded)))
+    h
+
+-- where what the script brings in can be
+pub believed_told : (r : Rules) (script : List Line) (now end : World) → TellsBlocks r
+    → IsCluster r script → AllByRecursion FitsLine script
+    → Reaches r script now → outcome r (opening r script) script ≡ Ends end
+    → (s : Cert) (path : List Block) (height : ℕ) (d : Digest32)
+    → ((b : Block) → In b path → IsBlock b) → answer r (signed now) s path ≡ Yes height d
+    → IsBelieved r end (report_of r script end).chain path height d
+believed_told r script now end tells c fits reaches ends s path height d written h =
+    believed_by r script now end c reaches ends s path height d
+    (λ a b under shown noted same. tells.blocks a b (written a shown)
+    (known_written r script tells c fits end b last (inr (under, noted))) same)
+    h
+  where
+    last : Reaches r script end
+    last = (script, [], sym (append-nil script), ends_run r (opening r script) script end ends)

@@ -28,7 +28,7 @@ use Rattle.cw_rules.specs.Coding.{AreBytes}
 use Rattle.cw_rules.specs.Fits.{context_for}
 use Rattle.cw_rules.specs.Held.{held, noted_block_of}
 use Rattle.cw_rules.specs.Notes.{epoch_of}
-use Rattle.cw_rules.specs.Reached.{In, IsCluster, IsKnown}
+use Rattle.cw_rules.specs.Reached.{In, IsCluster, IsKnown, Reaches}
 use Rattle.cw_rules.specs.Rules.{Chunk, Rules, chunks, commit, config, digest, genesis, genesis_commitment}
 use Rattle.cw_rules.specs.Sends.{answer, chunk_out, finalization_at, finalization_outs, missing, note_sends, own_chunk, sends, to_all}
 use Rattle.cw_rules.specs.Step.{Member, Stepped, cut_step, member_notes, nothing_came, start, state_of, step, step_notes, stopped, taken, taken_came, with_notes}
@@ -537,15 +537,21 @@ module _ (r : Rules) (script : List Line) (tells : TellsBlocks r)
       (all_in (CanNote r) (all_notes w) (Note.Block c b) (members_can w.pool w.members k.each)
       there).0
 
+  -- so each block that is known in a world that the script reaches can be written
+  pub known_written : AllByRecursion FitsLine script → (w : World) (b : Block) → Reaches r script w
+      → IsKnown r w b → IsBlock b
+  known_written fits w b (before, rest, joined, e) k =
+      known_can w b
+      (subst CanWorld (sym e)
+      (run_can (opening r script) before opening_can
+      (front_fits before rest (subst (AllByRecursion FitsLine) joined fits))))
+      k
+
   -- a clash is of two different texts
   pub texts_differ : AllByRecursion FitsLine script → (earlier later : List ℕ)
       → outcome r (opening r script) script ≡ Clashes earlier later → earlier ≡ later → ⊥
   texts_differ fits earlier later h same =
-      let (w, (before, rest, joined, e), k) = script_clash r script earlier later h in
-      let can =
-      subst CanWorld (sym e)
-      (run_can (opening r script) before opening_can
-      (front_fits before rest (subst (AllByRecursion FitsLine) joined fits))) in
+      let (w, reached, k) = script_clash r script earlier later h in
       k.different
-      (tells.blocks k.first k.second (known_can w k.first can k.known.0)
-      (known_can w k.second can k.known.1) (sym k.encoded.0 ∙ same ∙ k.encoded.1))
+      (tells.blocks k.first k.second (known_written fits w k.first reached k.known.0)
+      (known_written fits w k.second reached k.known.1) (sym k.encoded.0 ∙ same ∙ k.encoded.1))

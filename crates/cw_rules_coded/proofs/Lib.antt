@@ -1,2 +1,3 @@
 pub mod RealCoder
 pub mod Committed
+pub mod Told

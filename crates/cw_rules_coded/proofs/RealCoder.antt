@@ -276,7 +276,7 @@ passes_text text h =
     (pass_bytes text p.0, ltb-true (length text) (2 ^ 32) p.1)
 
 -- what is decoded is a text of whose codeword the chunks are rows
-decoded_sound : (x : Counts) (chunks : List Chunk) (text : List ℕ) → decoded x chunks ≡ Some text
+pub decoded_sound : (x : Counts) (chunks : List Chunk) (text : List ℕ) → decoded x chunks ≡ Some text
     → (length chunks ≡ x.minimum) × IsText text
     × AllByRecursion
     (λ (c : Chunk). slice_get (code_rows text x.minimum x.extra) c.index ≡ Some c.shard)

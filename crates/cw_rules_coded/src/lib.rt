@@ -1,7 +1,7 @@
 //! The cluster rules over what the code has: the real codeword, the real tree and the real bytes.
 #![tactic(auto)]
 
-ghost use Rattle.std.specs.Prelude.{◌≡◌, ℕ, Bool, List, Option, Some, length, replicate};
+ghost use Rattle.std.specs.Prelude.{◌≡◌, ◌≤◌, ℕ, Bool, List, Option, Some, length, replicate};
 ghost use Rattle.cw_base.specs.declared.hash.Digest32.{Digest32};
 ghost use Rattle.cw_types.specs.Block.{Block};
 ghost use Rattle.cw_types.specs.Encoding.{block_bytes};
@@ -10,10 +10,12 @@ ghost use Rattle.cw_types.specs.Epochs.{Epochs, size};
 ghost use Rattle.cw_types.specs.Values.{IsBlock};
 ghost use Rattle.cw_rules.specs.Coding.{IsCoder};
 ghost use Rattle.cw_rules.specs.Rules.{chunks, commit, config, digest, genesis};
+ghost use Rattle.cw_rules.specs.Telling.{TellsBlocks};
 ghost use Rattle.cw_rules_coded.specs.Coded.{coded};
 ghost use Rattle.cw_rules_coded.specs.Sums.{hi_block, summed};
 ghost use Rattle.cw_tree.specs.Widths.{shard_len};
 
+use cw_base::{Digest32, Hasher};
 use rs_code::laws::prove_rows;
 
 /// The rules over the real codeword, tree and bytes have what the laws on chunks ask: chunks are
@@ -30,6 +32,14 @@ pub fn coded_laws()
 {
     prove_rows();
 }
+
+/// The bytes of a block tell it under these rules, by any hasher: two blocks that can be written
+/// have different bytes, what chunks show is such a block, and digests and roots have thirty-two
+/// bytes. With this the laws of cw_rules that ask for `TellsBlocks` hold of a real cluster.
+pub fn coded_tells<H: Hasher<Digest = Digest32>>()
+    ensures { (epochs : Epochs) (backlog : ℕ) (accepts : Block → Block → Bool)
+        → epochs.total ≤ 65535 → TellsBlocks (coded H.digest_of epochs backlog accepts) }
+{}
 
 /// The commitment and the chunks of a block among the members of its epoch are those of these
 /// rules, whatever the backlog and the application: what `cw_types::commit` and

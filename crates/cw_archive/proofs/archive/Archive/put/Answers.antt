@@ -1,5 +1,6 @@
 use Rattle.std.proofs.Common.{◌≡◌, ◌∙◌, ◌≤◌, ◌<◌, IsTrue, List, ap, false, is_some, length, ℕ, refl, subst, sym, true}
 use Rattle.std.specs.List.{AllByRecursion}
+use Rattle.cw_rules.specs.Coding.{AreBytes}
 use Rattle.cw_rules.specs.Rules.{Chunk}
 use Rattle.shards.specs.Enough.{checked_of}
 use Rattle.shards.specs.Kept.{is_known, with_chunk}
@@ -78,7 +79,7 @@ returns-then-width-self-clause-answer g c =
     some_there (checks hash d x) (checked_of hash d x) c.in_ok-checked.field-0 c.is_none.result
     c.in_ok-checked.ensures c.is_none.ensures c.if-is_none.false in
     let wide =
-    subst (λ (s : List ℕ). c.self.inside.limit < length s) c.shard.ensures
+    subst (λ (s : List ℕ). c.self.inside.limit < length s) c.shard-shard.ensures
     c.if-width-self.true in
     subst (λ (a : Archived). TooLarge ≡ put_answer hash a d x) c.self.view_is
     (sym
@@ -111,7 +112,7 @@ invariant_of-self-2 g c =
     record {
       counted =
           sym
-          (used_newest (length c.shard.result.now) c.make_room.result c.make_room.new.kept
+          (used_newest (length c.shard-shard.result.now) c.make_room.result c.make_room.new.kept
           c.make_room.ensures.newest);
       within = c.make_room.ensures.within;
       check =
@@ -123,6 +124,15 @@ invariant_of-self-2 g c =
           c.self.inside.limit (with_chunk kept d x)
           (all_push (λ (k : KeptChunk). IsTrue (checks hash k.commitment k.chunk)) kept
           (record { commitment = d; chunk = x }) c.self.invariant.check holds));
+      bytes =
+          subst
+          (λ (ks : List KeptChunk). AllByRecursion (λ (k : KeptChunk). AreBytes k.chunk.shard) ks)
+          (sym stays)
+          (all_within (λ (k : KeptChunk). AreBytes k.chunk.shard) c.self.inside.limit
+          (with_chunk kept d x)
+          (all_push (λ (k : KeptChunk). AreBytes k.chunk.shard) kept
+          (record { commitment = d; chunk = x }) c.self.invariant.bytes
+          (subst AreBytes c.shard-shard.ensures c.are_bytes.ensures)));
     }
 
 pub returns-clause-answer : goal.returns-clause-answer
@@ -140,7 +150,7 @@ returns-clause-answer g c =
     some_there (checks hash d x) (checked_of hash d x) c.in_ok-checked.field-0 c.is_none.result
     c.in_ok-checked.ensures c.is_none.ensures c.if-is_none.false in
     let fits =
-    subst (λ (s : List ℕ). length s ≤ c.self.inside.limit) c.shard.ensures
+    subst (λ (s : List ℕ). length s ≤ c.self.inside.limit) c.shard-shard.ensures
     c.if-width-self.false in
     subst (λ (a : Archived). Kept ≡ put_answer hash a d x) c.self.view_is
     (sym
@@ -163,7 +173,7 @@ returns-clause-ok g c =
     some_there (checks hash d x) (checked_of hash d x) c.in_ok-checked.field-0 c.is_none.result
     c.in_ok-checked.ensures c.is_none.ensures c.if-is_none.false in
     let fits =
-    subst (λ (s : List ℕ). length s ≤ c.self.inside.limit) c.shard.ensures
+    subst (λ (s : List ℕ). length s ≤ c.self.inside.limit) c.shard-shard.ensures
     c.if-width-self.false in
     let stays : c.make_room.new.kept ≡ within_limit c.self.inside.limit (with_chunk kept d x) =
     c.make_room.ensures.kept ∙ ap (within_limit c.self.inside.limit) c.in_ok-push.ensures.ok in
