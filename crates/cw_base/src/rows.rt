@@ -9,6 +9,25 @@ use crate::strategy::Strategy;
 use std::alloc::Global;
 use std::thread::Threads;
 
+// The hash of each row, by a strategy.
+pub(crate) fn hash_rows<H: Hasher, R: Threads + Sync, S: Strategy>(
+    rt: &R,
+    alloc: Global,
+    rows: &[u8],
+    width: usize,
+    strategy: &S,
+) -> Result<Vec<H::Digest>, NoMemory>
+    requires { 0 < width }
+    ensures { IfOk result (λ v. v.items ≡ row_hashes H.digest_of width rows.now) }
+{
+    let slices = rows_of(alloc, rows, width)?;
+    let hash = |row: &&[u8]| -> H::Digest
+        ensures { result ≡ H.digest_of row.now.now }
+    { H::hash(row) };
+    let hashes = strategy.map(rt, alloc, &slices, &hash)?;
+    Ok(hashes)
+}
+
 // The rows, as slices.
 fn rows_of(alloc: Global, rows: &[u8], width: usize) -> Result<Vec<&[u8]>, NoMemory>
     requires { 0 < width }
@@ -32,23 +51,4 @@ fn row(rows: &[u8], width: usize, i: usize) -> &[u8]
 {
     let start = i * width;
     &rows[start..start + width]
-}
-
-// The hash of each row, by a strategy.
-pub(crate) fn hash_rows<H: Hasher, R: Threads + Sync, S: Strategy>(
-    rt: &R,
-    alloc: Global,
-    rows: &[u8],
-    width: usize,
-    strategy: &S,
-) -> Result<Vec<H::Digest>, NoMemory>
-    requires { 0 < width }
-    ensures { IfOk result (λ v. v.items ≡ row_hashes H.digest_of width rows.now) }
-{
-    let slices = rows_of(alloc, rows, width)?;
-    let hash = |row: &&[u8]| -> H::Digest
-        ensures { result ≡ H.digest_of row.now.now }
-    { H::hash(row) };
-    let hashes = strategy.map(rt, alloc, &slices, &hash)?;
-    Ok(hashes)
 }

@@ -6,7 +6,7 @@ ghost use Rattle.cw_types.specs.Block.{Block};
 ghost use Rattle.cw_types.specs.Votes as votes;
 ghost use Rattle.cw_light.specs.Checking.{answer, path_answer};
 
-use crate::path::{broken_at, digest_of};
+use crate::path::broken_at;
 use crate::signers::is_valid;
 use cw_base::{Digest32, Hasher, NoMemory, Strategy};
 use cw_types::{Cert, ChainBlock, Commitment, Committees, Proposal, Verifier, Vote, well_formed};
@@ -98,7 +98,7 @@ fn check_path<H: Hasher<Digest = Digest32>, R: Threads + Sync, S: Strategy>(
         Some(place) => Ok(Answer::Broken(place)),
         None => Ok(Answer::Yes {
             height: last.height(),
-            digest: digest_of::<H>(alloc, last)?,
+            digest: last.digest::<H>(alloc)?,
         }),
     }
 }

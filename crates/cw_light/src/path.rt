@@ -4,7 +4,6 @@ ghost use Rattle.std.specs.Prelude.{◌≡◌, ◌∷◌, ℕ, Bool, IfOk, List}
 ghost use Rattle.cw_rules.specs.Rules as rule;
 ghost use Rattle.cw_rules_coded.specs.Coded.{coded};
 ghost use Rattle.cw_types.specs.Block.{Block};
-ghost use Rattle.cw_types.specs.Encoding.{block_bytes};
 ghost use Rattle.cw_light.specs.Checking as spec;
 
 use cw_base::{Digest32, Hasher, NoMemory, Strategy};
@@ -114,16 +113,4 @@ fn commitment_of<H: Hasher<Digest = Digest32>, R: Threads + Sync, S: Strategy>(
     commits_by_rules();
     let n = committees.size(block.context().epoch);
     commit::<H, R, S>(rt, alloc, n, block, strategy)
-}
-
-/// The hash of a block's bytes.
-pub(crate) fn digest_of<H: Hasher<Digest = Digest32>>(
-    alloc: Global,
-    block: &ChainBlock,
-) -> Result<Digest32, NoMemory>
-    ensures { IfOk result (λ digest. digest ≡ H.digest_of (block_bytes block.now)) }
-{
-    let mut bytes = Vec::new(alloc);
-    block.write(&mut bytes)?;
-    Ok(H::hash(&bytes))
 }

@@ -10,41 +10,6 @@ use cw_base::{Config, Digest, Digest32, Hasher};
 use std::alloc::Global;
 use std::num::NonZeroU16;
 
-// One shard holds the text, and one is added.
-fn uncut() -> Config
-    ensures { result ≡ spec.uncut }
-{
-    Config {
-        minimum_shards: NonZeroU16::MIN,
-        extra_shards: NonZeroU16::MIN,
-    }
-}
-
-// The commitment that the first block names as its parent's.
-fn no_commitment() -> Commitment
-    ensures { result ≡ spec.no_commitment }
-{
-    Commitment {
-        block: Digest32::EMPTY,
-        root: Digest32::EMPTY,
-        context: Digest32::EMPTY,
-        config: uncut(),
-    }
-}
-
-// Where the first block stands: in no view.
-fn first_context() -> Context
-    ensures { result ≡ spec.first_context }
-{
-    Context {
-        epoch: 0,
-        view: 0,
-        leader: 0,
-        parent_view: 0,
-        parent: no_commitment(),
-    }
-}
-
 /// The first block: no view, no payload, and the hash of the empty text as its parent's digest.
 /// Takes no memory.
 pub fn genesis<H: Hasher<Digest = Digest32>>(alloc: Global) -> ChainBlock
@@ -76,4 +41,39 @@ fn genesis_rest_bytes(parent: &Digest32) -> [u8; 41]
     let mut bytes = [0; 41];
     bytes[..32].copy_from_slice(&parent.0);
     bytes
+}
+
+// Where the first block stands: in no view.
+fn first_context() -> Context
+    ensures { result ≡ spec.first_context }
+{
+    Context {
+        epoch: 0,
+        view: 0,
+        leader: 0,
+        parent_view: 0,
+        parent: no_commitment(),
+    }
+}
+
+// The commitment that the first block names as its parent's.
+fn no_commitment() -> Commitment
+    ensures { result ≡ spec.no_commitment }
+{
+    Commitment {
+        block: Digest32::EMPTY,
+        root: Digest32::EMPTY,
+        context: Digest32::EMPTY,
+        config: uncut(),
+    }
+}
+
+// One shard holds the text, and one is added.
+fn uncut() -> Config
+    ensures { result ≡ spec.uncut }
+{
+    Config {
+        minimum_shards: NonZeroU16::MIN,
+        extra_shards: NonZeroU16::MIN,
+    }
 }
