@@ -1,0 +1,171 @@
+-- What a caller in C is answered. A slice is the bytes at a pointer, a digest its 32 bytes.
+use Rattle.std.specs.Prelude.{◌≡◌, ℕ, ◌+◌, ◌-◌, ◌^◌, ◌≤◌, ◌<◌, ◌⊎◌, List, [], ◌∷◌, ◌++◌, length, map, drop, All, Some, Ok, slice_get, slice_index}
+use Rattle.std.specs.List.{flat_map}
+use Rattle.sha2.specs.Sha256.{sha256}
+use Rattle.cw_base.specs.Counts.{Counts}
+use Rattle.rs_code.specs.Indices.{AreSound}
+use Rattle.cw_base.specs.declared.hash.Digest32.{Digest32}
+use Rattle.cw_tree.specs.Chunks.{Piece}
+use Rattle.cw_tree.specs.Formats.{chunk_bytes, chunk_at, widest, piece_of_bytes}
+use Rattle.cw_coding.specs.Checked.{Checked}
+use Rattle.cw_coding.specs.Checking.{IsUnder, IsCheckRefusal}
+use Rattle.cw_coding.specs.Decoding.{IsDecoding, IsDecodeRefusal}
+use Rattle.cw_coding.specs.Encoding.{IsEncoding, IsEncodeRefusal, root_of_text}
+use Rattle.cw_coding.specs.declared.error.ReedSolomonError.{ReedSolomonError}
+use Rattle.cw_coding.specs.declared.error.ReedSolomonError.TheVariants.{ReedSolomon, Inconsistent, InvalidProof, NotEnoughChunks, DuplicateIndex, InvalidDataLength, InvalidIndex, TooManyTotalShards, CommitmentMismatch, NoMemory}
+
+-- the digest with these bytes, the bytes of a digest, and the hash
+abbrev pub digest : List ℕ → Digest32
+digest bytes = record { 0 = bytes }
+
+abbrev pub content : Digest32 → List ℕ
+content d = d.0
+
+abbrev pub hash : List ℕ → Digest32
+hash bytes = record { 0 = sha256 bytes }
+
+-- the config of two numbers
+abbrev pub counts : (k m : ℕ) → Counts
+counts k m = record { minimum = k; extra = m }
+
+-- two numbers that are no config
+abbrev pub AreNoConfig : (k m : ℕ) → Type 0
+AreNoConfig k m = (k ≡ 0) ⊎ (m ≡ 0)
+
+-- the number by which C knows a refusal
+abbrev pub status : ReedSolomonError → ℕ
+status NoMemory = 1
+status (TooManyTotalShards _) = 3
+status (InvalidDataLength _) = 4
+status (InvalidIndex _) = 7
+status (ReedSolomon _) = 8
+status InvalidProof = 9
+status NotEnoughChunks = 10
+status (DuplicateIndex _) = 11
+status Inconsistent = 12
+status CommitmentMismatch = 13
+
+-- why a text of n bytes isn't encoded: no config, or what the scheme refuses
+abbrev pub IsEncodeStatus : (k m n code : ℕ) → Type 0
+IsEncodeStatus k m n code =
+    ((code ≡ 2) × AreNoConfig k m)
+    ⊎ ((e : ReedSolomonError) × IsEncodeRefusal (counts k m) n e × (code ≡ status e))
+
+-- the size of a chunk
+abbrev pub size_of : Piece Digest32 → ℕ
+size_of p = length (chunk_bytes content p)
+
+-- values at the front of a buffer, whose rest stays
+abbrev pub IsPut : {A : Type 0} → (values before after : List A) → Type 0
+IsPut values before after = after ≡ values ++ drop (length values) before
+
+-- what an encoding has: its root, its chunks end to end, and their sizes
+pub record IsEncoded (k m : ℕ) (text root bytes sizes : List ℕ) : Type 0 where
+  pub pieces : List (Piece Digest32)
+  pub scheme : IsEncoding hash content (counts k m) text (digest root) pieces
+  pub chunks : bytes ≡ flat_map (chunk_bytes content) pieces
+  pub each : sizes ≡ map size_of pieces
+
+-- an encoding that has no room in so many bytes, or its sizes none in so many places
+abbrev pub HasNoRoom : (k m : ℕ) (text : List ℕ) (room places : ℕ) → Type 0
+HasNoRoom k m text room places =
+    (root bytes sizes : List ℕ) × IsEncoded k m text root bytes sizes
+    × ((room < length bytes) ⊎ (places < length sizes))
+
+-- as many bytes as each chunk of a text of at most so many bytes has, or more
+abbrev pub HoldsChunks : (k m most size : ℕ) → Type 0
+HoldsChunks k m most size =
+    (text root bytes sizes : List ℕ) → IsEncoded k m text root bytes sizes → length text ≤ most
+    → All (λ n. n ≤ size) sizes
+
+-- bytes that are read as this chunk, to their end, and bytes that are no chunk
+abbrev pub IsChunk : (k : ℕ) (bytes : List ℕ) (p : Piece Digest32) → Type 0
+IsChunk k bytes p =
+    chunk_at 32 (widest k (2 ^ 32 - 1)) bytes ≡ Ok (piece_of_bytes content p, [])
+
+abbrev pub IsNoChunk : (k : ℕ) (bytes : List ℕ) → Type 0
+IsNoChunk k bytes = (p : Piece Digest32) → IsChunk k bytes p → ⊥
+
+-- bytes that are a chunk at an index under a root
+pub record Stands (c : Counts) (root : List ℕ) (index : ℕ) (bytes : List ℕ) : Type 0 where
+  pub piece : Piece Digest32
+  pub read : IsChunk c.minimum bytes piece
+  pub under : IsUnder hash content c (digest root) index piece
+
+-- why a chunk isn't taken at an index under a root: what the scheme refuses
+abbrev pub IsRefused : (c : Counts) (root : List ℕ) (index : ℕ) (p : Piece Digest32) (code : ℕ)
+    → Type 0
+IsRefused c root index p code =
+    (e : ReedSolomonError) × IsCheckRefusal hash content c (digest root) index p e
+    × (code ≡ status e)
+
+-- why bytes aren't taken for the chunk at its index under a root: no memory, no chunk, or what the
+-- scheme refuses. `at` gives the index for the chunk
+abbrev pub IsCheckStatus : (c : Counts) (root : List ℕ) (at : Piece Digest32 → ℕ) (bytes : List ℕ)
+    (code : ℕ)
+    → Type 0
+IsCheckStatus c root at bytes code =
+    (code ≡ 1) ⊎ ((code ≡ 6) × IsNoChunk c.minimum bytes)
+    ⊎ ((p : Piece Digest32) × IsChunk c.minimum bytes p × IsRefused c root (at p) p code)
+
+-- the chunk that bytes are, checked under a root at its own index
+pub record IsTaken (c : Counts) (root bytes : List ℕ) (x : Checked Digest32) : Type 0 where
+  pub piece : Piece Digest32
+  pub read : IsChunk c.minimum bytes piece
+  pub under : IsUnder hash content c (digest root) piece.index piece
+  pub is : x
+      ≡ record {
+        root = digest root;
+        shard = piece.shard;
+        index = piece.index;
+        digest = hash piece.shard;
+      }
+
+-- the chunks that these bytes are, in order
+abbrev pub AreTaken : (c : Counts) (root : List ℕ) → List (List ℕ) → List (Checked Digest32)
+    → Type 0
+AreTaken c root [] [] = Unit {0}
+AreTaken c root (b ∷ bs) (x ∷ xs) = IsTaken c root b x × AreTaken c root bs xs
+AreTaken c root _ _ = ⊥
+
+-- the first bytes among these that aren't taken, and why
+pub record IsStopped (c : Counts) (root : List ℕ) (all : List (List ℕ)) (code : ℕ) : Type 0 where
+  pub before : List (List ℕ)
+  pub bytes : List ℕ
+  pub after : List (List ℕ)
+  pub are : all ≡ before ++ bytes ∷ after
+  pub taken : List (Checked Digest32)
+  pub each : AreTaken c root before taken
+  pub cause : IsCheckStatus c root (λ p. p.index) bytes code
+
+-- why bytes aren't decoded: no memory, the first that aren't taken, or what the scheme refuses in
+-- all of them
+abbrev pub IsDecodeStatus : (c : Counts) (root : List ℕ) (all : List (List ℕ)) (code : ℕ) → Type 0
+IsDecodeStatus c root all code =
+    (code ≡ 1) ⊎ IsStopped c root all code
+    ⊎ ((taken : List (Checked Digest32)) × AreTaken c root all taken × (e : ReedSolomonError)
+    × IsDecodeRefusal hash content c (digest root) taken e × (code ≡ status e))
+
+-- a text whose encoding has this root
+abbrev pub HasRoot : (c : Counts) (root text : List ℕ) → Type 0
+HasRoot c root text = root_of_text hash content c text ≡ Some (digest root)
+
+-- the text that these bytes are decoded to
+pub record IsDecoded (c : Counts) (root : List ℕ) (all : List (List ℕ)) (text : List ℕ)
+    : Type 0 where
+  pub taken : List (Checked Digest32)
+  pub each : AreTaken c root all taken
+  pub scheme : IsDecoding hash content c (digest root) taken text
+
+-- at least k chunks of a text's encoding, of different indices, in any order
+pub record AreEnough (k m : ℕ) (root text : List ℕ) (all : List (List ℕ)) : Type 0 where
+  pub some : 1 ≤ k
+  pub more : 1 ≤ m
+  pub bytes : (i : ℕ) → slice_index text i < 256
+  pub pieces : List (Piece Digest32)
+  pub scheme : IsEncoding hash content (counts k m) text (digest root) pieces
+  pub chosen : List (Piece Digest32)
+  pub among : All (λ p. (i : ℕ) × (slice_get pieces i ≡ Some p)) chosen
+  pub different : AreSound (k + m) (map (λ p. p.index) chosen)
+  pub enough : k ≤ length chosen
+  pub are : all ≡ map (chunk_bytes content) chosen
