@@ -12,7 +12,7 @@ ghost use Rattle.cw_rules.specs.Owed as rule;
 ghost use Rattle.node.specs.Noting.{last_owed};
 ghost use Rattle.std.specs.List.{list_all};
 ghost use Rattle.node.specs.Holding.{rules_of, state_of};
-ghost use Rattle.node.specs.Standing.{PartsStand};
+ghost use Rattle.node.specs.Standing.{OwesLast, PartsStand};
 ghost use Rattle.node.specs.Store.{stored_notes};
 
 use crate::holding::Holding;
@@ -43,7 +43,8 @@ impl<H: Hasher<Digest = Digest32>, D: Disk, A: Application> Holding<H, D, A> {
 
     /// The note that is owed: that of the first case that applies. It can be stored.
     pub(crate) fn owed(&self, alloc: Global) -> Result<Option<Note>, NoMemory>
-        requires { PartsStand H.digest_of A.accepts self.now }
+        requires stands { PartsStand H.digest_of A.accepts self.now }
+        requires last { OwesLast (rules_of H.digest_of A.accepts self.now) (state_of self.now) }
         ensures value { IfOk result
             (λ note. note ≡ rule.owed (rules_of H.digest_of A.accepts self.now) self.now.id
             (state_of self.now)) }
