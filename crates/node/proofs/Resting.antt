@@ -63,7 +63,7 @@ only_at {X} {Y} f (x ∷ xs) z y h only i =
     go (inl e) i rest =
         let same : z ≡ x = cc in
         let here : f x ≡ Some y = ap f (sym same) ∙ h in rw here refl
-    go (inr none) (inl e) rest = let no : None ≡ Some y = sym none ∙ (ap f (sym e) ∙ h) in cc
+    go (inr none) (inl e) rest = let never : None ≡ Some y = sym none ∙ (ap f (sym e) ∙ h) in cc
     go (inr none) (inr i) rest = rw none (rest i)
 
 -- ---- the last element
@@ -100,7 +100,7 @@ none_last (y ∷ (z ∷ zs)) h =
     let at : suc (length (z ∷ zs)) - 1 ≡ suc (length (z ∷ zs) - 1) = omega arith in
     let there : slice_get (y ∷ (z ∷ zs)) (suc (length (z ∷ zs) - 1)) ≡ None =
     subst (λ n. slice_get (y ∷ (z ∷ zs)) n ≡ None) at h in
-    let no : z ∷ zs ≡ [] = none_last (z ∷ zs) there in cc
+    let never : z ∷ zs ≡ [] = none_last (z ∷ zs) there in cc
 
 -- ---- what is owed is owed under what came last
 
@@ -243,7 +243,7 @@ grown r s rests parts (inr (p, more)) c i =
         let yes : same_commitment c (part_commitment r p) ≡ true =
         ap (same_commitment c) (sym e) ∙ same_commitment_self c in
         absurd (false≢true (sym other ∙ yes))
-    by_front other (inr (inr no)) = absurd no
+    by_front other (inr (inr none)) = absurd none
 
     go : (same_commitment c (part_commitment r p) ≡ true)
         ⊎ (same_commitment c (part_commitment r p) ≡ false)
@@ -329,7 +329,7 @@ kept_none false false low high height note le stays h =
         → (nat_le high height ≡ true) ⊎ (nat_le high height ≡ false)
         → when (nat_le high height) note ≡ None
     go l (inr f) = rw f refl
-    go (inl t) (inl u) = let no : Some note ≡ None = sym (ap (λ b. when b note) t) ∙ h in cc
+    go (inl t) (inl u) = let never : Some note ≡ None = sym (ap (λ b. when b note) t) ∙ h in cc
     go (inr f) (inl u) =
         let b = leb-true high height u in
         absurd (false≢true (sym f ∙ le-leb low height (omega (arith, b, le))))

@@ -22,7 +22,7 @@ use cw_base::{Digest32, Hasher, Items, NoMemory, Strategy};
 use cw_coding::Chunk;
 use cw_rules_coded::coded_laws;
 use cw_types::{
-    Application, Cert, ChainBlock, Commitment, Event, Message, Verifier, Vote, quorum, well_formed,
+    Application, Cert, ChainBlock, Commitment, Event, Message, Verifier, Vote, well_formed,
 };
 use node_disk::Disk;
 use shards::{Verdict, cut_block, shards_stand, shown_by_kept, shown_stays};
@@ -73,7 +73,7 @@ impl<H: Hasher<Digest = Digest32>, D: Disk, A: Application> Holding<H, D, A> {
         well_formed(&cert.vote)
             && rises(0, signers)
             && self.all_signed(verifier, &cert.vote, signers)
-            && quorum(self.committees.size(cert.vote.epoch())) as usize <= signers.len()
+            && self.committees.is_enough(cert.vote.epoch(), signers.len())
     }
 
     // A vote that may be accepted.

@@ -18,6 +18,7 @@ ghost use Rattle.cw_types.specs.declared.note.Note.{Note as NoteValue};
 ghost use Rattle.node_disk.specs.Disk.{LeavesOnly};
 ghost use Rattle.node_disk.specs.Log.{HasSettled};
 ghost use Rattle.note_scans.specs.Heights.{greatest_of};
+ghost use Rattle.marshal.specs.Finding.{final_blocks, highest};
 ghost use Rattle.marshal.specs.Frames.{FindsAllOrNone, ReadBack, frame_bytes};
 ghost use Rattle.marshal.specs.Stored.{log_of};
 ghost use Rattle.node.specs.Disks.{HasFound, HasTried, WasRefused};
@@ -118,6 +119,15 @@ impl<H: Hasher<Digest = Digest32>, D: Disk> Store<H, D> {
             (stored_notes (store_of self.now.marshal)) commitment.now }
     {
         self.marshal.get_block(Identifier::Commitment(*commitment))
+    }
+
+    /// The first of the highest held blocks that noted finalizations have.
+    pub(crate) fn highest(&self) -> Option<&ChainBlock>
+        ensures { option_map (λ block. block.now) result
+            ≡ highest (final_blocks (stored_rules H.digest_of (store_of self.now.marshal))
+            (stored_notes (store_of self.now.marshal))) }
+    {
+        self.marshal.get_block(Identifier::Latest)
     }
 
     /// The commitment at a height.
