@@ -12,9 +12,12 @@ use Rattle.cw_types.specs.Order.{commitment_cmp}
 use Rattle.cw_types.specs.OrderLaws.{commitments_are_told, commitments_tie}
 use Rattle.cw_types.specs.Same.{same_block, same_commitment}
 use Rattle.cw_types.specs.declared.commitment.Commitment.{Commitment}
+use Rattle.cw_types.specs.declared.note.Note.{Note}
 use Rattle.cw_types.proofs.Ordered.{found_same}
 use Rattle.cw_types.proofs.Same.{same_block-true, same_commitment-true, same_commitment_self}
 use Rattle.cw_rules.specs.Accepted.{first_some}
+use Rattle.cw_rules.specs.Held.{noted_block_of}
+use Rattle.cw_rules.specs.Notes.{is_block}
 use Rattle.node.specs.Arriving.{HasFirsts, IsBehind, PutsFirst, first_child}
 use Rattle.node.specs.Holding.{is_whole, shown_under, whole_under}
 use Rattle.node.specs.declared.arrival.Arrival.{Arrival}
@@ -229,6 +232,30 @@ first_there es c place some d = go (same_commitment d c) refl
         is (lookup (same_commitment d) es)
         (ap is_some (found_at es c d e ∙ sym (found_same es c)) ∙ some)
     go false e = sym (or_none (lookup (same_commitment d) es))
+
+-- ---- noted blocks
+
+is_noted : (c : Commitment) (note : Note) → is_block c note ≡ is_some (noted_block_of c note)
+is_noted c (Note.Block d b) = go (same_commitment c d)
+  where
+    go : (t : Bool) → t ≡ is_some (cond t (Some b) None)
+    go true = refl
+    go false = refl
+is_noted c (Note.Ack h) = refl
+is_noted c (Note.Verified e v d) = refl
+is_noted c (Note.Certified p) = refl
+is_noted c (Note.Vote v) = refl
+is_noted c (Note.Cert s) = refl
+is_noted c (Note.Floor h) = refl
+is_noted c (Note.Prune h) = refl
+is_noted c (Note.Epoch e d) = refl
+
+-- the places of Block notes are those of the first noted blocks
+pub noted_firsts : (notes : List Note) (entries : List (Commitment × ℕ))
+    → ((c : Commitment) → lookup (same_commitment c) entries ≡ position (is_block c) notes)
+    → HasFirsts noted_block_of notes entries
+noted_firsts notes entries places c =
+    places c ∙ (λ i. position (λ note. is_noted c note i) notes)
 
 -- ---- the places of children
 

@@ -153,7 +153,6 @@ impl<H: Hasher<Digest = Digest32>, D: Disk, A: Application> Holding<H, D, A> {
     // ---- epochs
 
     // The greatest height of a held block of a noted finalization, 0 where there is none.
-    #[tactic(auto, using(crate::proofs::Tops::highest_height))]
     fn top_height(&self) -> u64
         ensures bound { result < 2 ^ 64 - 1 }
         ensures value { result ≡ notes_rule.greatest

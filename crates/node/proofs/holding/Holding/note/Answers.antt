@@ -10,7 +10,7 @@ returns-clause-acted g c =
     c.in_ok-settle.ensures.rests
 
 pub settle-requires-clause-last : goal.settle-requires-clause-last
-settle-requires-clause-last g c =
+settle-requires-clause-last g c κs within =
     owes_then g.H.Hasher.digest_of g.A.Application.accepts (g.V.Verifier.signs c.args.verifier.now)
     c.args.event.now c.args.self.now c.accept.new.self c.write_direct.new.self _
     c.in_ok-brought.ensures.come c.in_ok-write_direct.ensures.ok c.requires.rests

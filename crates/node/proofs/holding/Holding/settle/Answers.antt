@@ -37,6 +37,6 @@ returns-clause-rests g c =
     (sym c.in_ok-note.ensures.value ∙ c.in_default.is)
 
 pub owed-requires-clause-last : goal.owed-requires-clause-last
-owed-requires-clause-last g c =
+owed-requires-clause-last g c κs within =
     settling_owes g.H.Hasher.digest_of g.A.Application.accepts c.args.self.now c.settling.self
     c.settling.invariant c.requires.last
