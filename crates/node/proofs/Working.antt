@@ -58,6 +58,7 @@ awake_logged hash accepts false old new entries log armed same awake =
           record {
             stands = stands_logged hash accepts old log awake.ready.stands;
             quiet = awake.ready.quiet;
+            rests = awake.ready.rests;
           };
       led = awake.led;
     })

@@ -249,9 +249,7 @@ fn stands_from(arrivals: &[Arrival], place: usize, block: &ChainBlock) -> bool
 fn is_among(arrivals: &[Arrival], block: &ChainBlock) -> bool
     ensures { result ≡ list_any (is_whole block.now) arrivals.now }
 {
-    arrivals
-        .iter()
-        .any(|arrival| is_arrival_of(arrival, block))
+    arrivals.iter().any(|arrival| is_arrival_of(arrival, block))
 }
 
 // Whether it is that block, which came whole.
