@@ -1,5 +1,5 @@
 -- A member that owes no block, and what comes to it then: one may be owed under what came last.
-use Rattle.std.proofs.Common.{◌≡◌, ℕ, suc, ◌-◌, ◌≤◌, ◌&&◌, ◌||◌, not, nat_le, cond, max, Bool, true, false, List, [], ◌∷◌, ◌++◌, length, map, take, Option, Some, None, slice_get, option_and_then, filter_map, refl, sym, ◌∙◌, ap, subst, inl, inr, ◌⊎◌, arith, append-nil, leb-true}
+use Rattle.std.proofs.Common.{◌≡◌, ℕ, suc, ◌-◌, ◌≤◌, ◌&&◌, not, nat_le, cond, max, Bool, true, false, List, [], ◌∷◌, ◌++◌, length, map, take, Option, Some, None, slice_get, option_and_then, filter_map, refl, sym, ◌∙◌, ap, subst, inl, inr, ◌⊎◌, arith, append-nil, leb-true}
 use Rattle.std.specs.List.{last_or, list_any}
 use Rattle.std.specs.Option.{option_or, option_map_or}
 use Rattle.std.proofs.lemmas.Bool.{cases_Bool, false≢true, le-leb}

@@ -1,5 +1,5 @@
 -- A vote that a member sends is noted, and stays so over its steps, crashes and starts.
-use Rattle.std.proofs.Common.{◌≡◌, ◌==◌, ℕ, Bool, true, false, ◌&&◌, cond, List, [], ◌∷◌, ◌++◌, Option, Some, None, filter, filter_map, flat_map, map, refl, sym, ◌∙◌, ap, subst, inl, inr, ◌⊎◌, nat_lt, not, slice_get}
+use Rattle.std.proofs.Common.{◌≡◌, ◌==◌, ℕ, Bool, true, false, ◌&&◌, cond, List, [], ◌∷◌, ◌++◌, Option, Some, None, filter, filter_map, flat_map, map, refl, sym, ◌∙◌, ap, inl, inr, ◌⊎◌, nat_lt, not, slice_get}
 use Rattle.std.specs.List.{cons_option, list_any}
 use Rattle.std.specs.Option.{option_map, option_map_or}
 use Rattle.cw_base.specs.Config.{same_counts}
@@ -22,7 +22,7 @@ use Rattle.cw_rules.specs.Reached.{In}
 use Rattle.cw_rules.specs.Rules.{Chunk, Rules, chunks, commit, config, genesis_commitment}
 use Rattle.cw_rules.specs.Sends.{answer, chunk_out, finalization_at, finalization_outs, missing, note_sends, own_chunk, to_all}
 use Rattle.cw_rules.specs.Step.{Member, member_notes, start, state_of, step, step_notes, taken, with_notes}
-use Rattle.cw_rules.proofs.Lists.{in_cases, in_right}
+use Rattle.cw_rules.proofs.Lists.{in_cases}
 use Rattle.cw_rules.proofs.NoteLemmas.{any_back, any_front}
 use Rattle.node.proofs.Votes.{frame_added}
 use Rattle.node.specs.Lives.{Life, SendsVote, Turn, after_lives, after_turns, since_start}

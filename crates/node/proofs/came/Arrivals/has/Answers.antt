@@ -1,10 +1,9 @@
-use Rattle.std.proofs.Common.{◌≡◌, ◌≤◌, ◌∙◌, ℕ, List, None, Some, ap, arith, drop, length, subst, sym, unwrap_or}
+use Rattle.std.proofs.Common.{◌∙◌, List, ap, arith, drop, length, sym, unwrap_or}
 use Rattle.std.specs.List.{list_any}
 use Rattle.std.specs.Map.{lookup}
 use Rattle.cw_types.specs.Same.{same_commitment}
 use Rattle.cw_types.specs.declared.block.Context.{Context}
 use Rattle.cw_types.proofs.Ordered.{found_same}
-use Rattle.node.specs.Arriving.{first_child}
 use Rattle.node.specs.Holding.{is_whole}
 use Rattle.node.specs.declared.arrival.Arrival.{Arrival}
 use Rattle.node.proofs.Placing.{stands_behind, stands_nowhere}
