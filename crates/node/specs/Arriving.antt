@@ -23,7 +23,8 @@ PutsFirst c place old new =
     (d : Commitment) → lookup (same_commitment d) new
     ≡ option_or (lookup (same_commitment d) old) (if same_commitment d c then Some place else None)
 
--- the place from which on a map has whole blocks over that block's parent, the end where it has none
+-- the place from which on a map has whole blocks over that block's parent, the end where there is
+-- none
 abbrev pub first_child : List Arrival → List (Commitment × ℕ) → Block → ℕ
 first_child xs entries b =
     unwrap_or (lookup (same_commitment b.context.parent) entries) (length xs)

@@ -22,9 +22,9 @@ pub record HasFound {D : Type 0} (state : D → DiskState) (continues : D → D 
 
 -- A start on this disk that was refused, and what it hands back: a crash at any moment of it left
 -- what could be left before, or bytes on which a start finds the same; it is foreign where the
--- bytes aren't frames of notes, and stays so; the device calls are those of the start of a log, up to
--- one that failed, up to where memory was refused, or up to a read that failed behind the first; and
--- a fault is told only where the disk counted it.
+-- bytes aren't frames of notes, and stays so; the device calls are those of the start of a log, up
+-- to one that failed, up to where memory was refused, or the first alone where the read behind it
+-- failed; and a fault is told only where the disk counted it.
 pub record WasRefused {D : Type 0} (state : D → DiskState) (continues : D → D → Type 0)
     (error : StoreError) (old new : D) : Type 0 where
   pub any_moment : LeavesOnly (state old) (state new) (IsBeforeOrNotes (state old).now)

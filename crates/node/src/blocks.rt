@@ -76,8 +76,8 @@ impl<H: Hasher<Digest = Digest32>, D: Disk, A: Application> Holding<H, D, A> {
         }
     }
 
-    // 1. A block that is shown, isn't noted and isn't below what was given up. When the step began none
-    // was owed, so one can be owed only under the commitment that came last.
+    // 1. A block that is shown, isn't noted and isn't below what was given up. When the step began
+    // none was owed, so one can be owed only under the commitment that came last.
     pub(crate) fn owed_block(&self, alloc: Global) -> Result<Option<Note>, NoMemory>
         requires stands { PartsStand H.digest_of A.accepts self.now }
         requires last { OwesLast (rules_of H.digest_of A.accepts self.now) (state_of self.now) }

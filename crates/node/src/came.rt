@@ -1,5 +1,5 @@
-//! What came, and which blocks it shows, with the places of the first under each commitment and over
-//! each parent.
+//! What came, and which blocks it shows, with the places of the first under each commitment, and of
+//! the first over each parent.
 
 ghost use Rattle.std.specs.Prelude.{◌≡◌, ◌≤◌, ◌++◌, ◌∷◌, [], List, OnErr, OnOk, drop, length};
 ghost use Rattle.std.specs.Prelude.{option_and_then, slice_get};
@@ -91,8 +91,8 @@ impl Arrivals {
     }
 }
 
-/// Blocks that chunks of their commitments showed, in the order in which they did. Contracts see the
-/// list.
+/// Blocks that chunks of their commitments showed, in the order in which they did. Contracts see
+/// the list.
 #[derive(Drop)]
 pub(crate) struct ShownBlocks {
     list: Vec<Shown>,
