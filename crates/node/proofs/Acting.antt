@@ -1,5 +1,5 @@
 -- The phases of a step, one after another.
-use Rattle.std.proofs.Common.{◌≡◌, ℕ, Bool, List, ◌++◌, ◌∙◌, ap}
+use Rattle.std.proofs.Common.{◌≡◌, ℕ, Bool, List, ◌++◌, ◌∙◌, ap, subst, sym}
 use Rattle.cw_base.specs.declared.hash.Digest32.{Digest32}
 use Rattle.cw_types.specs.Block.{Block}
 use Rattle.cw_types.specs.declared.event.Event.{Event}
@@ -7,12 +7,14 @@ use Rattle.cw_types.specs.declared.note.Note.{Note}
 use Rattle.cw_types.specs.declared.vote.Vote.{Vote}
 use Rattle.cw_rules.specs.Accepted.{Came, State}
 use Rattle.cw_rules.specs.Direct.{direct}
+use Rattle.cw_rules.specs.Rules.{Rules}
 use Rattle.cw_rules.specs.Step.{marks, settle, taken, taken_came, with_notes}
 use Rattle.node.proofs.Noting.{noted_on, same_rules}
+use Rattle.node.proofs.Resting.{event_owes, noted_owes}
 use Rattle.node.specs.Acting.{HasActed, IsSameHolder, notes_of_event}
 use Rattle.node.specs.Holding.{Holding, came_of, rules_of, state_of}
 use Rattle.node.specs.Noting.{HasNoted, with_all_staged}
-use Rattle.node.specs.Standing.{HasCome}
+use Rattle.node.specs.Standing.{HasCome, OwesLast, OwesNoBlock}
 use Rattle.node.specs.Store.{Store, stored_notes}
 
 module _ {D A : Type 0} (hash : List ℕ → Digest32) (accepts : A → Block → Block → Bool)
@@ -23,8 +25,9 @@ module _ {D A : Type 0} (hash : List ℕ → Digest32) (accepts : A → Block �
       → HasNoted hash accepts (direct (rules_of hash accepts a) a.id (state_of a) e) a b
       → HasNoted hash accepts
       (settle (rules_of hash accepts b) b.id (marks (state_of b)) (state_of b)) b c
+      → OwesNoBlock (rules_of hash accepts c) (state_of c)
       → HasActed hash accepts signed e old c
-  acted old a b c come first rest = record {
+  acted old a b c come first rest rests = record {
     stands = rest.stands;
     state =
         whole.state
@@ -37,6 +40,7 @@ module _ {D A : Type 0} (hash : List ℕ → Digest32) (accepts : A → Block �
         whole.store
         ∙ (ap (λ (t : Store). with_all_staged t notes) come.same.store
         ∙ ap (λ (l : List Note). with_all_staged old.store l) all);
+    rests = rests;
   }
     where
       notes : List Note
@@ -102,3 +106,31 @@ module _ {D A : Type 0} (hash : List ℕ → Digest32) (accepts : A → Block �
     backlog = rest.backlog ∙ (first.backlog ∙ come.same.backlog);
     app = rest.app ∙ (first.app ∙ come.same.app);
   }
+
+  -- where no block was owed, one can be owed then only under what came last
+  pub owes_then : (old a b : Holding D A) (notes : List Note)
+      → HasCome hash accepts (taken_came (rules_of hash accepts old) signed (came_of old) e) old a
+      → HasNoted hash accepts notes a b
+      → OwesNoBlock (rules_of hash accepts old) (state_of old)
+      → OwesLast (rules_of hash accepts b) (state_of b)
+  owes_then old a b notes come noted rests =
+      let r = rules_of hash accepts old in
+      let taken_state = taken r signed (state_of old) e in
+      let state : state_of b ≡ with_notes taken_state notes =
+      noted.state
+      ∙ (λ i. with_notes (record {
+        notes = stored_notes (come.same.store i);
+        came = come.taken i;
+        given = (come.same.store i).given;
+      }) notes) in
+      let rules : rules_of hash accepts b ≡ r =
+      same_rules hash accepts a b notes noted
+      ∙ (λ i. rules_of hash accepts
+      (record a {
+        epochs = come.same.epochs i;
+        backlog = come.same.backlog i;
+        app = come.same.app i;
+      })) in
+      subst (λ (x : Rules). OwesLast x (state_of b)) (sym rules)
+      (subst (λ (s : State). OwesLast r s) (sym state)
+      (noted_owes r taken_state notes (event_owes r signed (state_of old) e rests)))

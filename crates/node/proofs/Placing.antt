@@ -1,22 +1,25 @@
 -- Where the first of what came stands, and a map that keeps it.
-use Rattle.std.proofs.Common.{◌≡◌, ℕ, suc, ◌+◌, ◌<◌, ◌≤◌, ◌⊎◌, inl, inr, Bool, true, false, cond, if◌then◌else◌, nat_lt, refl, sym, ◌∙◌, ap, arith, List, [], ◌∷◌, ◌++◌, length, Option, Some, None, is_some, option_and_then, slice_get}
-use Rattle.std.specs.List.{find, position, position_or_len}
+use Rattle.std.proofs.Common.{◌≡◌, ℕ, zero, suc, ◌||◌, take, drop, length-append, subst, unwrap_or, ◌+◌, ◌<◌, ◌≤◌, ◌⊎◌, inl, inr, Bool, true, false, cond, if◌then◌else◌, nat_lt, refl, sym, ◌∙◌, ap, arith, List, [], ◌∷◌, ◌++◌, length, Option, Some, None, is_some, option_and_then, slice_get}
+use Rattle.std.specs.List.{find, list_any, position, position_or_len}
 use Rattle.std.specs.Map.{lookup}
-use Rattle.std.specs.Option.{option_map, option_or}
+use Rattle.std.specs.Option.{option_map, option_map_or, option_or}
 use Rattle.std.specs.Ordering.{is_eq}
 use Rattle.std.proofs.lemmas.Bool.{cases_lt, false≢true, le-ltb, lt-ltb}
-use Rattle.std.proofs.lemmas.List.Folds.{find_at}
+use Rattle.std.proofs.lemmas.List.Folds.{find_at, list_any-append}
 use Rattle.std.proofs.lemmas.Option.{slice_get_past}
 use Rattle.cw_types.specs.Block.{Block}
 use Rattle.cw_types.specs.Order.{commitment_cmp}
 use Rattle.cw_types.specs.OrderLaws.{commitments_are_told, commitments_tie}
-use Rattle.cw_types.specs.Same.{same_commitment}
+use Rattle.cw_types.specs.Same.{same_block, same_commitment}
 use Rattle.cw_types.specs.declared.commitment.Commitment.{Commitment}
+use Rattle.cw_types.specs.declared.note.Note.{Note}
 use Rattle.cw_types.proofs.Ordered.{found_same}
-use Rattle.cw_types.proofs.Same.{same_commitment-true}
+use Rattle.cw_types.proofs.Same.{same_block-true, same_commitment-true, same_commitment_self}
 use Rattle.cw_rules.specs.Accepted.{first_some}
-use Rattle.node.specs.Arriving.{HasFirsts, PutsFirst}
-use Rattle.node.specs.Holding.{shown_under, whole_under}
+use Rattle.cw_rules.specs.Held.{noted_block_of}
+use Rattle.cw_rules.specs.Notes.{is_block}
+use Rattle.node.specs.Arriving.{HasFirsts, IsBehind, PutsFirst, first_child}
+use Rattle.node.specs.Holding.{is_whole, shown_under, whole_under}
 use Rattle.node.specs.declared.arrival.Arrival.{Arrival}
 use Rattle.node.specs.declared.arrival.Shown.{Shown}
 
@@ -229,3 +232,190 @@ first_there es c place some d = go (same_commitment d c) refl
         is (lookup (same_commitment d) es)
         (ap is_some (found_at es c d e ∙ sym (found_same es c)) ∙ some)
     go false e = sym (or_none (lookup (same_commitment d) es))
+
+-- ---- noted blocks
+
+is_noted : (c : Commitment) (note : Note) → is_block c note ≡ is_some (noted_block_of c note)
+is_noted c (Note.Block d b) = go (same_commitment c d)
+  where
+    go : (t : Bool) → t ≡ is_some (cond t (Some b) None)
+    go true = refl
+    go false = refl
+is_noted c (Note.Ack h) = refl
+is_noted c (Note.Verified e v d) = refl
+is_noted c (Note.Certified p) = refl
+is_noted c (Note.Vote v) = refl
+is_noted c (Note.Cert s) = refl
+is_noted c (Note.Floor h) = refl
+is_noted c (Note.Prune h) = refl
+is_noted c (Note.Epoch e d) = refl
+
+-- the places of Block notes are those of the first noted blocks
+pub noted_firsts : (notes : List Note) (entries : List (Commitment × ℕ))
+    → ((c : Commitment) → lookup (same_commitment c) entries ≡ position (is_block c) notes)
+    → HasFirsts noted_block_of notes entries
+noted_firsts notes entries places c =
+    places c ∙ (λ i. position (λ note. is_noted c note i) notes)
+
+-- ---- the places of children
+
+take_front : {X : Type 0} (n : ℕ) (xs : List X) (x : X) → n ≤ length xs
+    → take n (xs ++ x ∷ []) ≡ take n xs
+take_front zero xs x h = refl
+take_front (suc n) [] x h = absurd (omega arith)
+take_front (suc n) (y ∷ ys) x h = ap (λ l. y ∷ l) (take_front n ys x (omega (arith, h)))
+
+take_whole : {X : Type 0} (xs : List X) → take (length xs) xs ≡ xs
+take_whole [] = refl
+take_whole (x ∷ xs) = ap (λ l. x ∷ l) (take_whole xs)
+
+take_and_drop : {X : Type 0} (p : X → Bool) (n : ℕ) (xs : List X)
+    → list_any p xs ≡ (list_any p (take n xs) || list_any p (drop n xs))
+take_and_drop p zero xs = refl
+take_and_drop p (suc n) [] = refl
+take_and_drop p (suc n) (x ∷ xs) = go (p x) (take_and_drop p n xs)
+  where
+    go : (b : Bool) → list_any p xs ≡ (list_any p (take n xs) || list_any p (drop n xs))
+        → (b || list_any p xs) ≡ ((b || list_any p (take n xs)) || list_any p (drop n xs))
+    go true e = refl
+    go false e = e
+
+-- so the block stands from its place on, if anywhere
+pub stands_behind : (xs : List Arrival) (entries : List (Commitment × ℕ)) (b : Block)
+    → IsBehind xs entries b
+    → list_any (is_whole b) (drop (first_child xs entries b) xs) ≡ list_any (is_whole b) xs
+stands_behind xs entries b behind =
+    sym
+    (take_and_drop (is_whole b) (first_child xs entries b) xs
+    ∙ ap (λ t. t || list_any (is_whole b) (drop (first_child xs entries b) xs)) behind.none)
+
+-- and nowhere where there is no place
+pub stands_nowhere : (xs : List Arrival) (entries : List (Commitment × ℕ)) (b : Block)
+    → IsBehind xs entries b → lookup (same_commitment b.context.parent) entries ≡ None
+    → list_any (is_whole b) xs ≡ false
+stands_nowhere xs entries b behind none =
+    sym
+    (ap (λ o. list_any (is_whole b) (take (unwrap_or o (length xs)) xs)) none
+    ∙ ap (list_any (is_whole b)) (take_whole xs))
+    ∙ behind.none
+
+-- before the place that was found, or at all, no arrival is the block
+record IsLater (xs : List Arrival) (found : Option ℕ) (b : Block) : Type 0 where
+  within : unwrap_or found (length xs) ≤ length xs
+  none : list_any (is_whole b) (take (unwrap_or found (length xs)) xs) ≡ false
+
+at_most : (n : ℕ) → n ≤ n
+at_most n = omega arith
+
+later_front : (xs : List Arrival) (a : Arrival) (n : ℕ) (b : Block) → n ≤ length xs
+    → list_any (is_whole b) (take n xs) ≡ false → IsLater (xs ++ a ∷ []) (Some n) b
+later_front xs a n b within none = record {
+  within = omega (arith, within, length-append xs (a ∷ []));
+  none = ap (list_any (is_whole b)) (take_front n xs a within) ∙ none;
+}
+
+-- one more that isn't the block
+later_other : (xs : List Arrival) (a : Arrival) (b : Block) (found : Option ℕ) → IsLater xs found b
+    → is_whole b a ≡ false → IsLater (xs ++ a ∷ []) found b
+later_other xs a b (Some n) later other = later_front xs a n b later.within later.none
+later_other xs a b None later other = record {
+  within = at_most (length (xs ++ a ∷ []));
+  none =
+      ap (list_any (is_whole b)) (take_whole (xs ++ a ∷ []))
+      ∙ (list_any-append (is_whole b) xs (a ∷ [])
+      ∙ (λ i. (sym (ap (list_any (is_whole b)) (take_whole xs)) ∙ later.none) i
+      || (other i || false)));
+}
+
+-- one more, whose place is kept
+later_here : (xs : List Arrival) (a : Arrival) (b : Block) (found : Option ℕ) → IsLater xs found b
+    → IsLater (xs ++ a ∷ []) (option_or found (Some (length xs))) b
+later_here xs a b (Some n) later = later_front xs a n b later.within later.none
+later_here xs a b None later =
+    later_front xs a (length xs) b (at_most (length xs)) later.none
+
+-- a place kept before there is one more
+later_kept : (xs : List Arrival) (b : Block) (found : Option ℕ) (kept : Bool) → IsLater xs found b
+    → IsLater xs (option_or found (if kept then Some (length xs) else None)) b
+later_kept xs b (Some n) kept later = later
+later_kept xs b None true later = record { within = later.within; none = later.none }
+later_kept xs b None false later = later
+
+is_later : (xs : List Arrival) (entries : List (Commitment × ℕ)) (b : Block) → IsBehind xs entries b
+    → IsLater xs (lookup (same_commitment b.context.parent) entries) b
+is_later xs entries b behind = record { within = behind.within; none = behind.none }
+
+is_behind : (xs : List Arrival) (entries : List (Commitment × ℕ)) (b : Block)
+    → IsLater xs (lookup (same_commitment b.context.parent) entries) b → IsBehind xs entries b
+is_behind xs entries b later = record { within = later.within; none = later.none }
+
+-- what is found once a place was kept
+found_put : (c d : Commitment) (place n : ℕ) (old new : List (Commitment × ℕ))
+    → PutsFirst c place old new → place ≡ n
+    → lookup (same_commitment d) new
+    ≡ option_or (lookup (same_commitment d) old) (if same_commitment d c then Some n else None)
+found_put c d place n old new puts at =
+    puts d
+    ∙ ap
+    (λ m. option_or (lookup (same_commitment d) old)
+    (if same_commitment d c then Some m else None))
+    at
+
+-- a place kept before the block itself
+pub kept_child : (xs : List Arrival) (old new : List (Commitment × ℕ)) (c : Commitment) (place : ℕ)
+    → PutsFirst c place old new → place ≡ length xs → ((b : Block) → IsBehind xs old b)
+    → (b : Block) → IsBehind xs new b
+kept_child xs old new c place puts at behind b =
+    is_behind xs new b
+    (subst (λ (o : Option ℕ). IsLater xs o b)
+    (sym (found_put c b.context.parent place (length xs) old new puts at))
+    (later_kept xs b (lookup (same_commitment b.context.parent) old)
+    (same_commitment b.context.parent c) (is_later xs old b (behind b))))
+
+-- one more whole block, with its place
+pub one_child : (xs : List Arrival) (old new : List (Commitment × ℕ)) (a : Arrival) (d : Block)
+    (place : ℕ)
+    → a.block ≡ Some d → PutsFirst d.context.parent place old new → place ≡ length xs
+    → ((b : Block) → IsBehind xs old b)
+    → (b : Block) → IsBehind (xs ++ a ∷ []) new b
+one_child xs old new a d place whole puts at behind b =
+    is_behind (xs ++ a ∷ []) new b
+    (subst (λ (o : Option ℕ). IsLater (xs ++ a ∷ []) o b)
+    (sym (found_put d.context.parent b.context.parent place (length xs) old new puts at))
+    (go (same_commitment b.context.parent d.context.parent) refl))
+  where
+    found : Option ℕ
+    found = lookup (same_commitment b.context.parent) old
+
+    later : IsLater xs found b
+    later = is_later xs old b (behind b)
+
+    other : same_commitment b.context.parent d.context.parent ≡ false → is_whole b a ≡ false
+    other differs =
+        ap (λ o. option_map_or (same_block b) o false) whole ∙ by (same_block b d) refl
+      where
+        by : (t : Bool) → same_block b d ≡ t → same_block b d ≡ false
+        by false e = e
+        by true e =
+            let same : b ≡ d = same_block-true b d e in
+            let yes : same_commitment b.context.parent d.context.parent ≡ true =
+            ap (λ (x : Block). same_commitment b.context.parent x.context.parent) (sym same)
+            ∙ same_commitment_self b.context.parent in
+            absurd (false≢true (sym differs ∙ yes))
+
+    go : (t : Bool) → same_commitment b.context.parent d.context.parent ≡ t
+        → IsLater (xs ++ a ∷ []) (option_or found (if t then Some (length xs) else None)) b
+    go true e = later_here xs a b found later
+    go false e =
+        subst (λ (o : Option ℕ). IsLater (xs ++ a ∷ []) o b) (sym (or_none found))
+        (later_other xs a b found later (other e))
+
+-- one more chunk
+pub none_child : (xs : List Arrival) (entries : List (Commitment × ℕ)) (a : Arrival)
+    → a.block ≡ None → ((b : Block) → IsBehind xs entries b)
+    → (b : Block) → IsBehind (xs ++ a ∷ []) entries b
+none_child xs entries a chunk behind b =
+    is_behind (xs ++ a ∷ []) entries b
+    (later_other xs a b (lookup (same_commitment b.context.parent) entries)
+    (is_later xs entries b (behind b))
+    (ap (λ o. option_map_or (same_block b) o false) chunk))

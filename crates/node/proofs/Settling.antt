@@ -3,15 +3,16 @@ use Rattle.std.proofs.Common.{◌≡◌, ℕ, zero, suc, Bool, ◌+◌, ◌-◌,
 use Rattle.cw_base.specs.declared.hash.Digest32.{Digest32}
 use Rattle.cw_types.specs.Block.{Block}
 use Rattle.cw_types.specs.declared.note.Note.{Note}
-use Rattle.cw_rules.specs.Accepted.{State}
-use Rattle.cw_rules.specs.Owed.{owed}
+use Rattle.cw_rules.specs.Accepted.{State, first_some}
+use Rattle.cw_rules.specs.Owed.{block_owed, named_commitments, owed}
 use Rattle.cw_rules.specs.Rules.{Rules}
 use Rattle.cw_rules.specs.Step.{marks, settle, with_notes}
 use Rattle.marshal.proofs.Floors.{no_notes}
+use Rattle.node.proofs.Resting.{none_here, noted_owes}
 use Rattle.node.proofs.Noting.{noted_none, noted_on, notes_on, same_rules}
 use Rattle.node.specs.Holding.{Holding, rules_of, state_of}
 use Rattle.node.specs.Noting.{HasNoted}
-use Rattle.node.specs.Standing.{PartsStand}
+use Rattle.node.specs.Standing.{OwesLast, OwesNoBlock, PartsStand}
 use Rattle.node.specs.Store.{Store}
 
 -- where nothing is owed nothing is settled
@@ -66,6 +67,26 @@ module _ {D A : Type 0} (hash : List ℕ → Digest32) (accepts : A → Block �
       (with_notes (state_of old) p.notes) (sym (owed_now old now p) ∙ none))
       ∙ append-nil p.notes)))
       p.noted
+
+  -- no block is owed any more
+  pub settling_rests : (now : Holding D A)
+      → owed (rules_of hash accepts now) now.id (state_of now) ≡ None
+      → OwesNoBlock (rules_of hash accepts now) (state_of now)
+  settling_rests now none =
+      (none_here
+      (first_some (block_owed (rules_of hash accepts now) (state_of now))
+      (named_commitments (rules_of hash accepts now) (state_of now)))
+      _ none).0
+
+  -- one can be owed yet only under what came last
+  pub settling_owes : (old now : Holding D A) → IsSettling hash accepts old now
+      → OwesLast (rules_of hash accepts old) (state_of old)
+      → OwesLast (rules_of hash accepts now) (state_of now)
+  settling_owes old now p owes =
+      subst (λ (r : Rules). OwesLast r (state_of now))
+      (sym (same_rules hash accepts old now p.notes p.noted))
+      (subst (λ (s : State). OwesLast (rules_of hash accepts old) s) (sym p.noted.state)
+      (noted_owes (rules_of hash accepts old) (state_of old) p.notes owes))
 
   -- one more is owed, so the bound isn't reached
   some_left : (old now : Holding D A) (p : IsSettling hash accepts old now) (note : Note)

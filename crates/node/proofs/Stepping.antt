@@ -22,7 +22,7 @@ use Rattle.node.specs.Answering.{HasAnswered}
 use Rattle.node.specs.Holding.{Holding, came_of, member_of, rules_of, state_of}
 use Rattle.node.specs.Leading.{GoesOnFrom, IsLedBy}
 use Rattle.node.specs.Noting.{committed}
-use Rattle.node.specs.Standing.{PartsStand}
+use Rattle.node.specs.Standing.{OwesNoBlock, PartsStand}
 use Rattle.node.specs.State.{stepped}
 use Rattle.node.specs.Store.{Store, stored_notes}
 use Rattle.node.specs.declared.leads.Led.{Led}
@@ -105,6 +105,19 @@ module _ {D A : Type 0} (hash : List ℕ → Digest32) (accepts : A → Block �
         named = s.named;
         shown = s.shown;
       })
+
+  -- neither a commit nor an answer makes a block owed
+  pub rests_answered : (e : Event) (was : State) (b c d : Holding D A) (out : StepOut)
+      → c ≡ record b { store = committed b.store; log = c.log }
+      → HasAnswered hash accepts e was c d out
+      → OwesNoBlock (rules_of hash accepts b) (state_of b)
+      → OwesNoBlock (rules_of hash accepts d) (state_of d)
+  rests_answered e was b c d out is a rests =
+      subst (λ (h : Holding D A). OwesNoBlock (rules_of hash accepts h) (state_of h)) (sym a.left)
+      (subst (λ (r : Rules). OwesNoBlock r (state_of c))
+      (sym (ap (λ (h : Holding D A). rules_of hash accepts h) is))
+      (subst (λ (s : State). OwesNoBlock (rules_of hash accepts b) s)
+      (sym (state_committed b c is)) rests))
 
   -- there are no fewer notes after a step
   pub no_fewer : (signed : ℕ → Vote → Bool) (e : Event) (old b c : Holding D A) (n : ℕ)

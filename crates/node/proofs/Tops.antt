@@ -1,14 +1,17 @@
 -- The greatest of some numbers, and what lies below it.
-use Rattle.std.proofs.Common.{◌≡◌, ℕ, zero, suc, Bool, true, false, ◌&&◌, ◌-◌, ◌<◌, ◌≤◌, max, nat_lt, nat_le, ◌*◌, List, [], ◌∷◌, drop, find, Some, None, slice_get, refl, sym, ◌∙◌, ap, arith}
-use Rattle.std.specs.List.{list_all}
-use Rattle.std.specs.Option.{option_map_or}
+use Rattle.std.proofs.Common.{◌≡◌, ℕ, zero, suc, Bool, true, false, ◌&&◌, ◌-◌, ◌<◌, ◌≤◌, max, nat_lt, nat_le, ◌*◌, List, [], ◌∷◌, drop, find, Option, Some, None, filter_map, map, if◌then◌else◌, option_and_then, slice_get, refl, sym, ◌∙◌, ap, arith}
+use Rattle.std.specs.List.{cons_option, list_all}
+use Rattle.std.specs.Option.{option_map, option_map_or}
+use Rattle.cw_types.specs.Block.{Block}
 use Rattle.cw_rules.specs.Notes.{greatest}
 use Rattle.cw_types.specs.declared.commitment.Commitment.{Commitment}
 use Rattle.cw_types.specs.declared.note.Note.{Note}
-use Rattle.cw_rules.specs.Held.{at_height}
+use Rattle.cw_types.specs.declared.vote.Proposal.{Proposal}
+use Rattle.cw_rules.specs.Held.{at_height, finalization_of, held}
 use Rattle.cw_rules.specs.Notes.{epoch_of}
-use Rattle.cw_rules.specs.Owed.{reached_epoch}
+use Rattle.cw_rules.specs.Owed.{final_heights, reached_epoch}
 use Rattle.cw_rules.specs.Rules.{Rules}
+use Rattle.marshal.specs.Finding.{final_blocks, higher_of, highest}
 use Rattle.note_scans.specs.Heights.{greatest_of}
 
 -- below both
@@ -75,3 +78,58 @@ find_next p xs i x h t = rw (drop_here xs i x h, t) refl
 pub find_end : {X : Type 0} (p : X → Bool) (xs : List X) (i : ℕ) → slice_get xs i ≡ None
     → find p (drop i xs) ≡ None
 find_end p xs i h = rw (drop_none xs i h) refl
+
+-- ---- the highest block
+
+-- the greatest height of some blocks is that of the highest
+highest_of : (bs : List Block)
+    → greatest (map (λ (b : Block). b.height) bs) ≡ option_map_or (λ b. b.height) (highest bs) 0
+highest_of [] = refl
+highest_of (b ∷ bs) = go (highest bs) (highest_of bs)
+  where
+    higher : (c : Block) → max b.height c.height ≡ (if nat_lt b.height c.height then c else b).height
+    higher c = by (nat_lt b.height c.height) refl
+      where
+        by : (t : Bool) → nat_lt b.height c.height ≡ t
+            → max b.height c.height ≡ (if t then c else b).height
+        by true e = grind arith
+        by false e = grind arith
+
+    go : (o : Option Block)
+        → greatest (map (λ (b : Block). b.height) bs) ≡ option_map_or (λ b. b.height) o 0
+        → max b.height (greatest (map (λ (b : Block). b.height) bs))
+        ≡ option_map_or (λ b. b.height) (higher_of (Some b) o) 0
+    go None e = rw e (omega arith)
+    go (Some c) e = rw e (higher c)
+
+-- what is kept of what is kept
+map_kept : {X Y Z : Type 0} (f : X → Option Y) (g : Y → Option Z) (h : Z → ℕ) (xs : List X)
+    → filter_map (λ y. option_map h (g y)) (filter_map f xs)
+    ≡ map h (filter_map (λ x. option_and_then g (f x)) xs)
+map_kept f g h [] = refl
+map_kept {Y = Y} {Z = Z} f g h (x ∷ xs) = go (f x) (map_kept f g h xs)
+  where
+    by : (o : Option Z)
+        → filter_map (λ y. option_map h (g y)) (filter_map f xs)
+        ≡ map h (filter_map (λ x. option_and_then g (f x)) xs)
+        → cons_option (option_map h o) (filter_map (λ y. option_map h (g y)) (filter_map f xs))
+        ≡ map h (cons_option o (filter_map (λ x. option_and_then g (f x)) xs))
+    by None e = e
+    by (Some z) e = ap (λ l. h z ∷ l) e
+
+    go : (o : Option Y)
+        → filter_map (λ y. option_map h (g y)) (filter_map f xs)
+        ≡ map h (filter_map (λ x. option_and_then g (f x)) xs)
+        → filter_map (λ y. option_map h (g y)) (cons_option o (filter_map f xs))
+        ≡ map h (cons_option (option_and_then g o) (filter_map (λ x. option_and_then g (f x)) xs))
+    go None e = e
+    go (Some y) e = by (g y) e
+
+pub highest_height : (r : Rules) (notes : List Note)
+    → greatest (final_heights r notes)
+    ≡ option_map_or (λ (b : Block). b.height) (highest (final_blocks r notes)) 0
+highest_height r notes =
+    ap greatest
+    (map_kept finalization_of (λ (p : Proposal). held r notes p.payload) (λ (b : Block). b.height)
+    notes)
+    ∙ highest_of (final_blocks r notes)

@@ -1,10 +1,10 @@
 -- What a step did to the disk, by where it ended.
-use Rattle.std.proofs.Common.{◌≡◌, ap, List, [], Result, Ok, Err, refl, sym, subst, arith}
+use Rattle.std.proofs.Common.{◌≡◌, ap, List, [], Result, Ok, Err, refl, sym, subst, arith, append-nil}
 use Rattle.std.specs.Prelude.{IsErrAnd}
 use Rattle.cw_types.specs.declared.note.Note.{Note}
 use Rattle.marshal.specs.Frames.{FindsAllOrNone, frame_bytes}
 use Rattle.node_disk.specs.Disk.{DiskState, LeavesOnly}
-use Rattle.node_disk.specs.Log.{LogState, calls_of_append}
+use Rattle.node_disk.specs.Log.{LogState, calls_of_append, start_calls}
 use Rattle.node_disk.specs.declared.log.StoreError.{StoreError}
 use Rattle.node_disk.specs.declared.log.StoreError.TheVariants as store
 use Rattle.node_disk.proofs.Moments.{told_none}
@@ -53,6 +53,15 @@ found_refused state continues frames old new found = record {
   any_moment = found.any_moment;
   foreign = λ place e. cc;
   foreign_again = λ place e. cc;
+  calls_foreign = λ place e. cc;
+  calls_failed = λ e. cc;
+  calls_no_memory =
+      λ e. record {
+        did = start_calls (state old).now.seen;
+        rest = [];
+        whole = sym (append-nil (start_calls (state old).now.seen));
+        told = found.calls;
+      };
   cause = λ e. cc;
   faults = found.faults;
   goes_on = found.goes_on;

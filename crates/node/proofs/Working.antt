@@ -1,8 +1,9 @@
 -- A node that isn't refused is at work.
-use Rattle.std.proofs.Common.{◌≡◌, ◌∙◌, Bool, false, true, inr, ⊎_elim, List, [], map, ℕ, refl, subst, sym}
+use Rattle.std.proofs.Common.{◌≡◌, ◌∙◌, ◌++◌, ◌∷◌, ap, length, take, Bool, false, true, inr, ⊎_elim, List, [], map, ℕ, refl, subst, sym}
 use Rattle.cw_base.specs.declared.hash.Digest32.{Digest32}
 use Rattle.cw_types.specs.Block.{Block}
 use Rattle.cw_types.specs.declared.commitment.Commitment.{Commitment}
+use Rattle.cw_types.specs.declared.note.Note.{Note}
 use Rattle.marshal.specs.Frames.{FindsAllOrNone, ReadBack, frame_bytes}
 use Rattle.node_disk.specs.Disk.{DiskState, LeavesOnly}
 use Rattle.node_disk.specs.Log.{HasSettled, LogState}
@@ -58,6 +59,12 @@ awake_logged hash accepts false old new entries log armed same awake =
           record {
             stands = stands_logged hash accepts old log awake.ready.stands;
             quiet = awake.ready.quiet;
+            rests = awake.ready.rests;
           };
       led = awake.led;
     })
+
+-- what stands in front
+pub front_of : (xs ys : List Note) → take (length xs) (xs ++ ys) ≡ xs
+front_of [] ys = refl
+front_of (x ∷ xs) ys = ap (λ (l : List Note). x ∷ l) (front_of xs ys)

@@ -13,7 +13,7 @@ use Rattle.node.specs.Accepting.{brings_row}
 use Rattle.node.specs.Holding.{Holding, rules_of, state_of}
 use Rattle.node.specs.Leading.{lead_height}
 use Rattle.node.specs.Noting.{with_all_staged}
-use Rattle.node.specs.Standing.{PartsStand}
+use Rattle.node.specs.Standing.{OwesNoBlock, PartsStand}
 use Rattle.node.specs.declared.act.Before.{Before}
 
 -- who the node is
@@ -28,7 +28,8 @@ abbrev pub notes_of_event : {D A : Type 0} → Rules → (ℕ → Vote → Bool)
     → List Note
 notes_of_event r signed e h = step_notes r h.id (taken r signed (state_of h) e) e
 
--- what the event brought is accepted, and the notes of the step wait for a commit
+-- what the event brought is accepted, the notes of the step wait for a commit, and no block is owed
+-- any more
 pub record HasActed {D A : Type 0} (hash : List ℕ → Digest32) (accepts : A → Block → Block → Bool)
     (signed : ℕ → Vote → Bool) (e : Event) (old new : Holding D A) : Type 0 where
   pub stands : PartsStand hash accepts new
@@ -36,6 +37,7 @@ pub record HasActed {D A : Type 0} (hash : List ℕ → Digest32) (accepts : A �
       (notes_of_event (rules_of hash accepts old) signed e old)
   pub store : new.store ≡ with_all_staged old.store
       (notes_of_event (rules_of hash accepts old) signed e old)
+  pub rests : OwesNoBlock (rules_of hash accepts new) (state_of new)
 
 -- what a step has to know of the member before it
 pub record IsBefore (r : Rules) (e : Event) (old : State) (before : Before) : Type 0 where

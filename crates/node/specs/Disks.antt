@@ -1,10 +1,10 @@
 -- What a start and a step of a node do to its disk.
-use Rattle.std.specs.Prelude.{◌≡◌, ℕ, ◌≤◌, Err, List, Result, IsErrOf, OnOk}
+use Rattle.std.specs.Prelude.{◌≡◌, ℕ, ◌≤◌, ◌⊎◌, ◌∷◌, [], true, Err, List, Result, IsErrOf, OnOk}
 use Rattle.cw_base.specs.Causes.{Rose}
 use Rattle.cw_types.specs.declared.note.Note.{Note}
 use Rattle.cw_rules.specs.Step.{add_frame}
 use Rattle.marshal.specs.Frames.{FindsAllOrNone, FindsNotes, IsBeforeOrNotes, ReadBack, frame_bytes, read_frames}
-use Rattle.node_disk.specs.Disk.{DiskState, HasTold, IsFront, LeavesOnly}
+use Rattle.node_disk.specs.Disk.{DiskState, HasTold, IsCutShort, IsFront, LeavesOnly, Synced}
 use Rattle.node_disk.specs.Log.{HasAppended, LogState, WasCutShort, calls_of_append, start_calls}
 use Rattle.node_disk.specs.declared.log.StoreError.{StoreError}
 use Rattle.node_disk.specs.declared.log.StoreError.TheVariants as store
@@ -22,7 +22,9 @@ pub record HasFound {D : Type 0} (state : D → DiskState) (continues : D → D 
 
 -- A start on this disk that was refused, and what it hands back: a crash at any moment of it left
 -- what could be left before, or bytes on which a start finds the same; it is foreign where the
--- bytes aren't frames of notes, and stays so; and a fault is told only where the disk counted it.
+-- bytes aren't frames of notes, and stays so; the device calls are those of the start of a log, up
+-- to one that failed, up to where memory was refused, or the first alone where the read behind it
+-- failed; and a fault is told only where the disk counted it.
 pub record WasRefused {D : Type 0} (state : D → DiskState) (continues : D → D → Type 0)
     (error : StoreError) (old new : D) : Type 0 where
   pub any_moment : LeavesOnly (state old) (state new) (IsBeforeOrNotes (state old).now)
@@ -30,6 +32,13 @@ pub record WasRefused {D : Type 0} (state : D → DiskState) (continues : D → 
       ≡ Err place
   pub foreign_again : (place : ℕ) → error ≡ store.Foreign place → read_frames (state new).now.seen
       ≡ Err place
+  pub calls_foreign : (place : ℕ) → error ≡ store.Foreign place
+      → HasTold (start_calls (state old).now.seen) (state old) (state new)
+  pub calls_failed : error ≡ store.Disk
+      → IsCutShort (start_calls (state old).now.seen) (state old) (state new)
+      ⊎ HasTold (Synced true ∷ []) (state old) (state new)
+  pub calls_no_memory : error ≡ store.NoMemory
+      → IsFront (start_calls (state old).now.seen) (state old) (state new)
   pub cause : error ≡ store.Disk → Rose (state old).faults (state new).faults
   pub faults : (state old).faults ≤ (state new).faults
   pub goes_on : continues old new

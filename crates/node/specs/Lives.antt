@@ -2,12 +2,14 @@
 use Rattle.std.specs.Prelude.{[], ℕ, ⊤, ◌+◌, ◌<◌, ◌∷◌, ◌≡◌, ◌≤◌, ◌⊎◌, Bool, IsTrue, List, count_by, false}
 use Rattle.std.specs.List.{list_any}
 use Rattle.cw_types.specs.declared.event.Event.{Event}
+use Rattle.cw_types.specs.declared.message.Message.{Message}
 use Rattle.cw_types.specs.declared.note.Note.{Note}
 use Rattle.cw_types.specs.declared.vote.Vote.{Vote}
 use Rattle.cw_types.specs.declared.vote.Vote.TheVariants.{Finalize, Notarize, Nullify}
 use Rattle.cw_rules.specs.Owed.{is_of}
 use Rattle.cw_rules.specs.Reached.{In}
 use Rattle.cw_rules.specs.Rules.{Rules}
+use Rattle.cw_rules.specs.Sends.{to_all}
 use Rattle.cw_rules.specs.Step.{Member, start, step}
 
 -- a step that a member takes: the votes that are found to be signed, and the event
@@ -38,6 +40,11 @@ after_lives id frames (life ∷ lives) = after_lives id
     (since_start life.rules id frames life.turns).frames lives
 
 -- ---- own votes
+
+-- a step of the member sends this vote of its own
+abbrev pub SendsVote : Rules → ℕ → Member → Turn → Vote → Type 0
+SendsVote r id m turn v =
+    In (to_all (Message.Vote id v)) (step r id turn.signed m turn.event).sent
 
 -- the note is an own vote to notarize in that view
 abbrev pub notarizes : ℕ → ℕ → Note → Bool

@@ -1,11 +1,14 @@
 -- When what a node holds stands for a member of the rules.
-use Rattle.std.specs.Prelude.{◌≡◌, ℕ, ◌<◌, Bool, List, false, length, map, []}
+use Rattle.std.specs.Prelude.{◌≡◌, ℕ, ◌<◌, ◌⊎◌, Bool, List, None, Some, false, length, map, []}
+use Rattle.std.specs.List.{last_or}
 use Rattle.cw_base.specs.declared.hash.Digest32.{Digest32}
 use Rattle.cw_types.specs.Block.{Block}
 use Rattle.cw_types.specs.declared.commitment.Commitment.{Commitment}
-use Rattle.cw_rules.specs.Accepted.{Came, first_some}
+use Rattle.cw_rules.specs.Accepted.{Came, State, first_some}
 use Rattle.cw_rules.specs.Held.{shown}
-use Rattle.cw_rules.specs.Owed.{named_commitments}
+use Rattle.cw_rules.specs.Owed.{block_owed, named_commitments}
+use Rattle.cw_rules.specs.Reached.{In}
+use Rattle.cw_rules.specs.Rules.{Rules}
 use Rattle.shards.specs.Kept as kept
 use Rattle.shards.specs.Standing as shards
 use Rattle.voter.specs.Standing as voter
@@ -32,12 +35,23 @@ pub record PartsStand {D A : Type 0} (hash : List ℕ → Digest32) (accepts : A
       → shown (kept.rules_of hash h.shards.epochs) (kept.came_of h.shards.kept) c
       ≡ first_some (shown_under c) h.shown
 
--- What a node holds between its calls, unless a step was refused: it stands for its member, and
--- nothing waits for a commit.
+-- no block is owed
+abbrev pub OwesNoBlock : Rules → State → Type 0
+OwesNoBlock r s = first_some (block_owed r s) (named_commitments r s) ≡ None
+
+-- no block is owed under a commitment that came, but for the last
+abbrev pub OwesLast : Rules → State → Type 0
+OwesLast r s =
+    (c : Commitment) → In c (named_commitments r s)
+    → (last_or None (named_commitments r s) ≡ Some c) ⊎ (block_owed r s c ≡ None)
+
+-- What a node holds between its calls, unless a step was refused: it stands for its member, nothing
+-- waits for a commit, and no block is owed.
 pub record IsReady {D A : Type 0} (hash : List ℕ → Digest32) (accepts : A → Block → Block → Bool)
     (h : Holding D A) : Type 0 where
   pub stands : PartsStand hash accepts h
   pub quiet : h.store.staged ≡ []
+  pub rests : OwesNoBlock (rules_of hash accepts h) (state_of h)
 
 -- what it holds then beside a map of what its notes lead to, which stands for them
 pub record IsAwake {D A : Type 0} (hash : List ℕ → Digest32) (accepts : A → Block → Block → Bool)

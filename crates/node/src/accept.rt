@@ -2,14 +2,13 @@
 
 ghost use Rattle.std.specs.Prelude.{◌≡◌, ◌==◌, ◌&&◌, ◌++◌, ◌∷◌, [], None, IfOk, IsTrue, OnOk};
 ghost use Rattle.std.specs.Prelude.{false, position, true};
-ghost use Rattle.std.specs.List.{list_all, list_any};
+ghost use Rattle.std.specs.List.{list_any};
 ghost use Rattle.std.specs.Option.{option_map_or};
 ghost use Rattle.cw_rules.specs.Accepted as rule;
 ghost use Rattle.cw_rules.specs.Accepted.{Many, Row, Single, Whole, same_part};
 ghost use Rattle.cw_rules.specs.Rules.{commit};
 ghost use Rattle.cw_rules.specs.Step.{taken_came};
-ghost use Rattle.cw_types.specs.Epochs as epochs;
-ghost use Rattle.cw_types.specs.Votes.{vote_epoch, well_formed};
+ghost use Rattle.cw_types.specs.Votes.{well_formed};
 ghost use Rattle.voter.specs.Standing.{are_signers};
 ghost use Rattle.node.specs.Accepting.{brings_row, is_acceptable, is_new_row, is_own_place};
 ghost use Rattle.node.specs.Accepting.{with_row};
@@ -22,27 +21,13 @@ use cw_base::{Digest32, Hasher, Items, NoMemory, Strategy};
 use cw_coding::Chunk;
 use cw_rules_coded::coded_laws;
 use cw_types::{
-    Application, Cert, ChainBlock, Commitment, Event, Message, Verifier, Vote, quorum, well_formed,
+    Application, Cert, ChainBlock, Commitment, Event, Message, Verifier, Vote, well_formed,
 };
 use node_disk::Disk;
 use shards::{Verdict, cut_block, shards_stand, shown_by_kept, shown_stays};
 use std::alloc::Global;
 use std::thread::Threads;
 use voter::standing_is_kept;
-
-/// Whether the numbers rise from `low` on.
-fn rises(low: u32, numbers: &[u16]) -> bool
-    ensures { result ≡ epochs.rises_from low numbers.now }
-{
-    let mut least = low;
-    for number in numbers {
-        if u32::from(*number) < least {
-            return false;
-        }
-        least = u32::from(*number) + 1;
-    }
-    true
-}
 
 impl<H: Hasher<Digest = Digest32>, D: Disk, A: Application> Holding<H, D, A> {
     fn is_acceptable<V: Verifier>(&self, verifier: &V, signer: u16, vote: &Vote) -> bool
@@ -54,26 +39,12 @@ impl<H: Hasher<Digest = Digest32>, D: Disk, A: Application> Holding<H, D, A> {
             && verifier.signed(signer, vote)
     }
 
-    // Whether each of them is a member of the vote's epoch and signed it.
-    fn all_signed<V: Verifier>(&self, verifier: &V, vote: &Vote, signers: &[u16]) -> bool
-        ensures { result ≡ list_all
-            (λ i. epochs.is_member self.now.epochs (vote_epoch vote.now) i
-            && V.signs verifier.now i vote.now) signers.now }
-    {
-        signers.iter().all(|signer| self.committees.is_member(vote.epoch(), *signer)
-            && verifier.signed(*signer, vote))
-    }
-
     // Whether the certificate is valid.
     fn is_valid<V: Verifier>(&self, verifier: &V, cert: &Cert) -> bool
         ensures { result ≡ rule.is_valid (rules_of H.digest_of A.accepts self.now)
             (V.signs verifier.now) cert.now }
     {
-        let signers = cert.signers.as_slice();
-        well_formed(&cert.vote)
-            && rises(0, signers)
-            && self.all_signed(verifier, &cert.vote, signers)
-            && quorum(self.committees.size(cert.vote.epoch())) as usize <= signers.len()
+        cw_types::is_valid(&self.committees, verifier, cert)
     }
 
     // A vote that may be accepted.

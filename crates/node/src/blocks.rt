@@ -9,10 +9,9 @@ ghost use Rattle.cw_rules.specs.Held as held_rule;
 ghost use Rattle.cw_rules.specs.Owed as rule;
 ghost use Rattle.node.specs.Noting.{arrival_owed};
 ghost use Rattle.node.specs.Holding.{came_of, rules_of, state_of};
-ghost use Rattle.node.specs.Standing.{PartsStand};
+ghost use Rattle.node.specs.Standing.{OwesLast, PartsStand};
 ghost use Rattle.node.specs.Store.{stored_notes};
 
-use crate::arrival::Arrival;
 use crate::holding::Holding;
 use cw_base::{Digest32, Hasher, NoMemory};
 use cw_types::laws::commitment_fits;
@@ -77,32 +76,22 @@ impl<H: Hasher<Digest = Digest32>, D: Disk, A: Application> Holding<H, D, A> {
         }
     }
 
-    // The first of these under which a note of a block is owed, with the block.
-    fn first_unnoted<'a>(&'a self, arrivals: &'a [Arrival]) -> Option<(Commitment, &'a ChainBlock)>
-        requires { PartsStand H.digest_of A.accepts self.now }
-        ensures { option_map (λ found. NoteValue.Block found.0 found.1.now) result
-            ≡ first_some (arrival_owed (rules_of H.digest_of A.accepts self.now)
-            (state_of self.now)) arrivals.now }
-    {
-        for arrival in arrivals {
-            if let Some(block) = self.unnoted(&arrival.commitment) {
-                return Some((arrival.commitment, block));
-            }
-        }
-        None
-    }
-
-    // 1. A block that is shown, isn't noted and isn't below what was given up.
+    // 1. A block that is shown, isn't noted and isn't below what was given up. When the step began
+    // none was owed, so one can be owed only under the commitment that came last.
     pub(crate) fn owed_block(&self, alloc: Global) -> Result<Option<Note>, NoMemory>
-        requires { PartsStand H.digest_of A.accepts self.now }
+        requires stands { PartsStand H.digest_of A.accepts self.now }
+        requires last { OwesLast (rules_of H.digest_of A.accepts self.now) (state_of self.now) }
         ensures value { IfOk result
             (λ note. note ≡ first_some
             (arrival_owed (rules_of H.digest_of A.accepts self.now) (state_of self.now))
             self.now.arrivals) }
         ensures storable { IfOk result (λ note. IfSome note (λ note. IsTrue (is_storable note))) }
     {
-        match self.first_unnoted(self.arrivals.as_slice()) {
-            Some((commitment, block)) => Ok(Some(Note::Block(commitment, block.copy(alloc)?))),
+        let Some(last) = self.arrivals.as_slice().last() else {
+            return Ok(None);
+        };
+        match self.unnoted(&last.commitment) {
+            Some(block) => Ok(Some(Note::Block(last.commitment, block.copy(alloc)?))),
             None => Ok(None),
         }
     }

@@ -1,11 +1,14 @@
-//! What came, and which blocks it shows, with the places of the first under each commitment.
+//! What came, and which blocks it shows, with the places of the first under each commitment, and of
+//! the first over each parent.
 
-ghost use Rattle.std.specs.Prelude.{◌≡◌, ◌++◌, ◌∷◌, [], OnErr, OnOk, option_and_then, slice_get};
+ghost use Rattle.std.specs.Prelude.{◌≡◌, ◌≤◌, ◌++◌, ◌∷◌, [], List, OnErr, OnOk, drop, length};
+ghost use Rattle.std.specs.Prelude.{option_and_then, slice_get};
 ghost use Rattle.std.specs.List.{list_any};
 ghost use Rattle.std.specs.Option.{option_map};
 ghost use Rattle.cw_rules.specs.Accepted.{first_some};
-ghost use Rattle.node.specs.Arriving.{PutsFirst};
+ghost use Rattle.node.specs.Arriving.{ArePlaces, PutsFirst};
 ghost use Rattle.node.specs.Holding.{is_whole, shown_under, whole_under};
+ghost use Rattle.node.specs.declared.arrival.Arrival.{Arrival as ArrivalValue};
 
 use crate::arrival::{Arrival, Shown};
 use cw_base::NoMemory;
@@ -19,19 +22,20 @@ use std::marker::Model;
 pub(crate) struct Arrivals {
     list: Vec<Arrival>,
     wholes: BTreeMap<Commitment, u64>,
+    // By the commitment of a parent, the place from which on whole blocks over it stand.
+    children: BTreeMap<Commitment, u64>,
 }
 
 impl Model for Arrivals {
     ghost use Rattle.std.specs.Prelude.{List};
-    ghost use Rattle.node.specs.Arriving.{HasFirsts};
-    ghost use Rattle.node.specs.Holding.{whole_under};
+    ghost use Rattle.node.specs.Arriving.{ArePlaces};
     ghost use Rattle.node.specs.declared.arrival.Arrival.{Arrival};
 
     ghost Value = { List Arrival };
 
     ghost view = { λ a. a.list.items };
 
-    ghost invariant = { λ a. HasFirsts whole_under a.list.items a.wholes.entries };
+    ghost invariant = { λ a. ArePlaces a.list.items a.wholes.entries a.children.entries };
 }
 
 impl Arrivals {
@@ -42,6 +46,7 @@ impl Arrivals {
         Arrivals {
             list: Vec::new(alloc),
             wholes: BTreeMap::new(alloc),
+            children: BTreeMap::new(alloc),
         }
     }
 
@@ -58,13 +63,8 @@ impl Arrivals {
         ensures err { OnErr result (self.new ≡ self.old) }
     {
         self.list.reserve(1)?;
-        if arrival.block.is_some() {
-            put_first(
-                &mut self.wholes,
-                &arrival.commitment,
-                self.list.len() as u64,
-            )?;
-        }
+        let place = self.list.len() as u64;
+        put_places(&mut self.wholes, &mut self.children, &arrival, place)?;
         self.list.push_reserved(arrival);
         Ok(())
     }
@@ -84,14 +84,15 @@ impl Arrivals {
     pub(crate) fn has(&self, block: &ChainBlock) -> bool
         ensures { result ≡ list_any (is_whole block.now) self.now }
     {
-        self.list
-            .iter()
-            .any(|arrival| is_arrival_of(arrival, block))
+        match self.children.get(&block.context().parent) {
+            Some(place) => stands_from(&self.list, *place as usize, block),
+            None => false,
+        }
     }
 }
 
-/// Blocks that chunks of their commitments showed, in the order in which they did. Contracts see the
-/// list.
+/// Blocks that chunks of their commitments showed, in the order in which they did. Contracts see
+/// the list.
 #[derive(Drop)]
 pub(crate) struct ShownBlocks {
     list: Vec<Shown>,
@@ -162,6 +163,31 @@ fn put_first(
     Ok(())
 }
 
+// Keeps the place of an arrival, where it came whole, under its commitment and its parent's. Where
+// memory is short it may be kept under the parent's alone, from which on none stands yet.
+fn put_places(
+    wholes: &mut BTreeMap<Commitment, u64>,
+    children: &mut BTreeMap<Commitment, u64>,
+    arrival: &Arrival,
+    place: u64,
+) -> Result<(), NoMemory>
+    ensures ok { (xs : List ArrivalValue) → ArePlaces xs wholes.old.entries children.old.entries
+        → place ≡ length xs
+        → OnOk result (ArePlaces (xs ++ arrival.now ∷ []) wholes.new.entries
+        children.new.entries) }
+    ensures err { (xs : List ArrivalValue) → ArePlaces xs wholes.old.entries children.old.entries
+        → place ≡ length xs → OnErr result (ArePlaces xs wholes.new.entries children.new.entries) }
+{
+    match &arrival.block {
+        Some(block) => {
+            put_first(children, &block.context().parent, place)?;
+            put_first(wholes, &arrival.commitment, place)?;
+            Ok(())
+        }
+        None => Ok(()),
+    }
+}
+
 // The block of the arrival at a place, where it came whole under that commitment.
 fn whole_at<'a>(
     arrivals: &'a [Arrival],
@@ -208,6 +234,22 @@ fn whole_of<'a>(arrival: &'a Arrival, commitment: &Commitment) -> Option<&'a Cha
         }
         None => None,
     }
+}
+
+// Whether that block came whole, at that place or behind it.
+#[tactic(auto, using(crate::proofs::Leading::rest_is))]
+fn stands_from(arrivals: &[Arrival], place: usize, block: &ChainBlock) -> bool
+    requires { place ≤ length arrivals.now }
+    ensures { result ≡ list_any (is_whole block.now) (drop place arrivals.now) }
+{
+    is_among(&arrivals[place..], block)
+}
+
+// Whether that block came whole among these.
+fn is_among(arrivals: &[Arrival], block: &ChainBlock) -> bool
+    ensures { result ≡ list_any (is_whole block.now) arrivals.now }
+{
+    arrivals.iter().any(|arrival| is_arrival_of(arrival, block))
 }
 
 // Whether it is that block, which came whole.

@@ -17,7 +17,6 @@ ghost use Rattle.node.specs.Noting.{HasNoted};
 ghost use Rattle.node.specs.Standing.{PartsStand};
 ghost use Rattle.node.specs.Store.{stored_notes};
 
-use crate::fits::digest_of;
 use crate::holding::Holding;
 use cw_base::{Digest32, Hasher, NoMemory, Strategy};
 use cw_types::{
@@ -67,7 +66,7 @@ impl<H: Hasher<Digest = Digest32>, D: Disk, A: Application> Holding<H, D, A> {
             proposal.now.payload parent.now payload.now) }
     {
         let context = self.context_for(proposal, &proposal.payload);
-        let digest = digest_of::<H>(alloc, parent)?;
+        let digest = parent.digest::<H>(alloc)?;
         Ok(ChainBlock::new(context, digest, height, payload.copy(alloc)?))
     }
 

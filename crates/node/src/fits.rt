@@ -5,7 +5,6 @@ ghost use Rattle.cw_types.specs.Values.{is_storable};
 ghost use Rattle.cw_rules.specs.Accepted.{first_some};
 ghost use Rattle.cw_rules.specs.Fits as fits_rule;
 ghost use Rattle.cw_rules.specs.Owed as rule;
-ghost use Rattle.cw_types.specs.Encoding.{block_bytes};
 ghost use Rattle.cw_types.specs.Epochs as epochs_rule;
 ghost use Rattle.node.specs.Holding.{rules_of, state_of};
 ghost use Rattle.node.specs.Standing.{PartsStand};
@@ -68,7 +67,7 @@ impl<H: Hasher<Digest = Digest32>, D: Disk, A: Application> Holding<H, D, A> {
             ≡ fits_rule.builds_on (rules_of H.digest_of A.accepts self.now) proposal.now block.now
             commitment.now parent.now) }
     {
-        let digest = digest_of::<H>(alloc, parent)?;
+        let digest = parent.digest::<H>(alloc)?;
         Ok(
             block
                 .context()
@@ -151,16 +150,4 @@ impl<H: Hasher<Digest = Digest32>, D: Disk, A: Application> Holding<H, D, A> {
         }
         Ok(None)
     }
-}
-
-/// The digest of a block.
-pub(crate) fn digest_of<H: Hasher<Digest = Digest32>>(
-    alloc: Global,
-    block: &ChainBlock,
-) -> Result<Digest32, NoMemory>
-    ensures { IfOk result (λ d. d ≡ H.digest_of (block_bytes block.now)) }
-{
-    let mut bytes = Vec::new(alloc);
-    block.write(&mut bytes)?;
-    Ok(H::hash(&bytes))
 }

@@ -4,7 +4,7 @@ ghost use Rattle.std.specs.Prelude.{◌≡◌, ◌≤◌, ◌++◌, ◌∷◌, [
 ghost use Rattle.std.specs.Prelude.{filter_map, if◌then◌else◌, length, map, nat_lt, option_and_then};
 ghost use Rattle.cw_types.specs.declared.message.Message.TheVariants as message;
 ghost use Rattle.cw_rules.specs.Accepted.{State};
-ghost use Rattle.cw_rules.specs.Rules.{genesis_commitment};
+ghost use Rattle.cw_types.specs.Commit as first;
 ghost use Rattle.cw_rules.specs.Held as held_rule;
 ghost use Rattle.cw_rules.specs.Sends as rule;
 ghost use Rattle.node.specs.Asking.{asks};
@@ -62,7 +62,7 @@ impl<H: Hasher<Digest = Digest32>, D: Disk, A: Application> Holding<H, D, A> {
     {
         let led = self.leads(alloc, &self.store.notes()[place..])?;
         let new = self.newly(alloc, &led, height, leads)?;
-        let asked = each_once(alloc, genesis_commitment::<H>(), &new)?;
+        let asked = each_once::<H>(alloc, &new)?;
         self.put_asks(&asked, out)?;
         leads.add_all(&led)?;
         Ok(())
@@ -168,8 +168,23 @@ impl<H: Hasher<Digest = Digest32>, D: Disk, A: Application> Holding<H, D, A> {
     }
 }
 
+// Each of these commitments once, in order, but for that of the first block.
+fn each_once<H: Hasher<Digest = Digest32>>(
+    alloc: Global,
+    commitments: &[Commitment],
+) -> Result<Vec<Commitment>, NoMemory>
+    ensures { IfOk result (λ each. each.items
+        ≡ rule.once (first.genesis_commitment H.digest_of ∷ []) commitments.now) }
+{
+    // Most steps ask for nothing, and need no hash.
+    if commitments.is_empty() {
+        return Ok(Vec::new(alloc));
+    }
+    once_but(alloc, genesis_commitment::<H>(), commitments)
+}
+
 // Each of these commitments once, in order, but for this one.
-fn each_once(
+fn once_but(
     alloc: Global,
     but: Commitment,
     commitments: &[Commitment],

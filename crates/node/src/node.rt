@@ -1,7 +1,7 @@
 //! A member, which acts by the rules.
 
 ghost use Rattle.std.specs.Prelude.{◌≡◌, ℕ, ◌<◌, ◌≤◌, IfErr, IfOk, IsErrOf, OnErr, OnOk, false};
-ghost use Rattle.std.specs.Prelude.{true};
+ghost use Rattle.std.specs.Prelude.{length, take, true};
 ghost use Rattle.cw_rules.specs.Notes.{epoch_of, view_of};
 ghost use Rattle.cw_rules.specs.Step as rule;
 ghost use Rattle.marshal.specs.Stored.{log_of};
@@ -216,9 +216,14 @@ impl<H: Hasher<Digest = Digest32>, D: Disk, A: Application + Drop> Node<H, D, A>
         self.holding.marshal()
     }
 
-    /// Its notes, in order. Of a node that is out nothing is said: its marshal has the frames.
+    /// Its notes, in order. Of a node that is out they begin with those of its frames, behind which
+    /// some of the refused step's may be staged.
+    #[tactic(auto, using(crate::proofs::Working::front_of))]
     pub fn notes(&self) -> &[Note]
-        ensures { self.now.member.live ≡ true → result.now ≡ rule.member_notes self.now.member }
+        ensures value { self.now.member.live ≡ true → result.now
+            ≡ rule.member_notes self.now.member }
+        ensures begin { take (length (rule.member_notes self.now.member)) result.now
+            ≡ rule.member_notes self.now.member }
     {
         self.holding.store.notes()
     }

@@ -1,7 +1,7 @@
 //! The note that a member owes.
 
 ghost use Rattle.std.specs.Prelude.{◌≡◌, ◌&&◌, ◌<◌, ◌-◌, ◌^◌, ◌*◌, IfOk, IfSome, IsTrue};
-ghost use Rattle.std.specs.Prelude.{filter_map, max, nat_le, nat_lt, option_and_then};
+ghost use Rattle.std.specs.Prelude.{filter_map, nat_le, nat_lt};
 ghost use Rattle.std.specs.Option.{option_map, option_or};
 ghost use Rattle.cw_types.specs.Values.{is_storable};
 ghost use Rattle.cw_types.specs.declared.note.Note.{Note as NoteValue};
@@ -12,7 +12,7 @@ ghost use Rattle.cw_rules.specs.Owed as rule;
 ghost use Rattle.node.specs.Noting.{last_owed};
 ghost use Rattle.std.specs.List.{list_all};
 ghost use Rattle.node.specs.Holding.{rules_of, state_of};
-ghost use Rattle.node.specs.Standing.{PartsStand};
+ghost use Rattle.node.specs.Standing.{OwesLast, PartsStand};
 ghost use Rattle.node.specs.Store.{stored_notes};
 
 use crate::holding::Holding;
@@ -20,7 +20,6 @@ use cw_base::{Digest32, Hasher, NoMemory};
 use cw_types::laws::committees_are_sound;
 use cw_types::{Application, Commitment, Note, committees};
 use node_disk::Disk;
-use note_scans::finalization_of;
 use std::alloc::Global;
 use voter::tally_stands;
 
@@ -43,7 +42,8 @@ impl<H: Hasher<Digest = Digest32>, D: Disk, A: Application> Holding<H, D, A> {
 
     /// The note that is owed: that of the first case that applies. It can be stored.
     pub(crate) fn owed(&self, alloc: Global) -> Result<Option<Note>, NoMemory>
-        requires { PartsStand H.digest_of A.accepts self.now }
+        requires stands { PartsStand H.digest_of A.accepts self.now }
+        requires last { OwesLast (rules_of H.digest_of A.accepts self.now) (state_of self.now) }
         ensures value { IfOk result
             (λ note. note ≡ rule.owed (rules_of H.digest_of A.accepts self.now) self.now.id
             (state_of self.now)) }
@@ -152,47 +152,17 @@ impl<H: Hasher<Digest = Digest32>, D: Disk, A: Application> Holding<H, D, A> {
 
     // ---- epochs
 
-    // The height of the held block under a commitment.
-    fn held_height(&self, commitment: &Commitment) -> Option<u64>
-        ensures bound { IfSome result (λ height. height < 2 ^ 64 - 1) }
-        ensures value { result ≡ option_map (λ b. b.height)
-            (held_rule.held (rules_of H.digest_of A.accepts self.now) (stored_notes self.now.store)
-            commitment.now) }
-    {
-        match self.store.held(commitment) {
-            Some(block) => Some(block.height()),
-            None => None,
-        }
-    }
-
-    // The height of the held block of a noted finalization.
-    fn final_height(&self, note: &Note) -> Option<u64>
-        ensures bound { IfSome result (λ height. height < 2 ^ 64 - 1) }
-        ensures value { result ≡ option_and_then
-            (λ p. option_map (λ b. b.height)
-            (held_rule.held (rules_of H.digest_of A.accepts self.now) (stored_notes self.now.store)
-            p.payload)) (held_rule.finalization_of note.now) }
-    {
-        match finalization_of(note) {
-            Some(proposal) => self.held_height(&proposal.payload),
-            None => None,
-        }
-    }
-
-    // The greatest of those, 0 where there is none.
+    // The greatest height of a held block of a noted finalization, 0 where there is none.
     fn top_height(&self) -> u64
         ensures bound { result < 2 ^ 64 - 1 }
         ensures value { result ≡ notes_rule.greatest
             (rule.final_heights (rules_of H.digest_of A.accepts self.now)
             (stored_notes self.now.store)) }
     {
-        let mut top = 0;
-        for note in self.store.notes() {
-            if let Some(height) = self.final_height(note) {
-                top = height.max(top);
-            }
+        match self.store.highest() {
+            Some(block) => block.height(),
+            None => 0,
         }
-        top
     }
 
     // The commitment at a height.

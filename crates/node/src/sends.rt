@@ -20,7 +20,6 @@ use cw_base::{Config, Digest32, Hasher, NoMemory, Strategy};
 use cw_coding::Chunk;
 use cw_types::{Application, Commitment, Event, Message, Note, Out, To, max_faults};
 use node_disk::Disk;
-use note_scans::first_block;
 use shards::cut_block;
 use std::alloc::Global;
 use std::thread::Threads;
@@ -103,7 +102,7 @@ impl<H: Hasher<Digest = Digest32>, D: Disk, A: Application> Holding<H, D, A> {
             ++ rule.note_sends (rules_of H.digest_of A.accepts self.now) self.now.id
             (stored_notes self.now.store) (NoteValue.Verified epoch view commitment.now)) }
     {
-        match first_block(self.store.notes(), commitment) {
+        match self.store.noted_block(commitment) {
             Some(block) => {
                 let (own, chunks) = cut_block::<H, R, S>(
                     rt,

@@ -2,7 +2,7 @@
 
 ghost use Rattle.std.specs.Prelude.{◌≡◌, ℕ, ◌≤◌, ◌<◌, ◌++◌, ◌^◌, ◌-◌, [], IfErr, IfOk, IfSome};
 ghost use Rattle.std.specs.Prelude.{IsErrOf, IsTrue, List, None, OnErr, OnOk, Some, filter_map};
-ghost use Rattle.std.specs.Prelude.{false, map, true, unwrap_or};
+ghost use Rattle.std.specs.Prelude.{false, map, option_and_then, slice_get, true, unwrap_or};
 ghost use Rattle.std.specs.List.{last_or, list_all};
 ghost use Rattle.std.specs.Option.{option_map};
 ghost use Rattle.cw_types.specs.Values.{is_storable};
@@ -18,6 +18,7 @@ ghost use Rattle.cw_types.specs.declared.note.Note.{Note as NoteValue};
 ghost use Rattle.node_disk.specs.Disk.{LeavesOnly};
 ghost use Rattle.node_disk.specs.Log.{HasSettled};
 ghost use Rattle.note_scans.specs.Heights.{greatest_of};
+ghost use Rattle.marshal.specs.Finding.{final_blocks, highest};
 ghost use Rattle.marshal.specs.Frames.{FindsAllOrNone, ReadBack, frame_bytes};
 ghost use Rattle.marshal.specs.Stored.{log_of};
 ghost use Rattle.node.specs.Disks.{HasFound, HasTried, WasRefused};
@@ -27,6 +28,7 @@ use cw_base::{Digest32, Hasher, NoMemory};
 use cw_types::{Cert, ChainBlock, Commitment, Committees, Handed, Note, TicketOut};
 use marshal::{Identifier, Marshal};
 use node_disk::{Disk, StoreError};
+use note_scans::noted_block_of;
 use std::alloc::Global;
 
 /// The marshal of a node, as the node knows it: by the member's notes and what was handed out since
@@ -111,6 +113,18 @@ impl<H: Hasher<Digest = Digest32>, D: Disk> Store<H, D> {
         self.marshal.has_block(commitment)
     }
 
+    /// The first noted block under the commitment, be it pruned or not.
+    pub(crate) fn noted_block(&self, commitment: &Commitment) -> Option<&ChainBlock>
+        ensures { option_map (λ block. block.now) result
+            ≡ first_some (rule.noted_block_of commitment.now)
+            (stored_notes (store_of self.now.marshal)) }
+    {
+        match self.marshal.places().get(commitment) {
+            Some(place) => block_at(self.marshal.notes(), *place as usize, commitment),
+            None => None,
+        }
+    }
+
     /// The block that is held under the commitment.
     pub(crate) fn held(&self, commitment: &Commitment) -> Option<&ChainBlock>
         ensures { option_map (λ block. block.now) result
@@ -118,6 +132,15 @@ impl<H: Hasher<Digest = Digest32>, D: Disk> Store<H, D> {
             (stored_notes (store_of self.now.marshal)) commitment.now }
     {
         self.marshal.get_block(Identifier::Commitment(*commitment))
+    }
+
+    /// The first of the highest held blocks that noted finalizations have.
+    pub(crate) fn highest(&self) -> Option<&ChainBlock>
+        ensures { option_map (λ block. block.now) result
+            ≡ highest (final_blocks (stored_rules H.digest_of (store_of self.now.marshal))
+            (stored_notes (store_of self.now.marshal))) }
+    {
+        self.marshal.get_block(Identifier::Latest)
     }
 
     /// The commitment at a height.
@@ -305,5 +328,16 @@ impl<H: Hasher<Digest = Digest32>, D: Disk> Store<H, D> {
     {
         let Store { marshal } = self;
         marshal.into_disk()
+    }
+}
+
+// The block of the note at a place, where it is under that commitment.
+fn block_at<'a>(notes: &'a [Note], place: usize, commitment: &Commitment) -> Option<&'a ChainBlock>
+    ensures { option_map (λ block. block.now) result
+        ≡ option_and_then (rule.noted_block_of commitment.now) (slice_get notes.now place) }
+{
+    match notes.get(place) {
+        Some(note) => noted_block_of(note, commitment),
+        None => None,
     }
 }

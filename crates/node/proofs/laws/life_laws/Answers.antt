@@ -2,6 +2,7 @@ use Rattle.marshal.specs.Stored.{join_frames}
 use Rattle.cw_rules.specs.Held.{resume}
 use Rattle.cw_rules.specs.Step.{member_notes}
 use Rattle.node.proofs.Rising.{increasing, since_up}
+use Rattle.node.proofs.Sent.{sent_stays}
 use Rattle.node.proofs.Votes.{along, anything, lives_once}
 use Rattle.node.specs.Lives.{since_start}
 use Rattle.node.proofs.laws.life_laws.Goals as goal
@@ -20,3 +21,6 @@ pub returns-clause-once : goal.returns-clause-once
 returns-clause-once c r id frames turns =
     increasing (member_notes (since_start r id frames turns)) (resume (join_frames frames))
     (since_start r id frames turns).given (since_up r id frames turns)
+
+pub returns-clause-sent_votes : goal.returns-clause-sent_votes
+returns-clause-sent_votes c r id m turn v more lives sends = sent_stays r id m turn v more lives sends

@@ -16,7 +16,7 @@ returns-in-Some c =
     c.deref.ensures.value
     ∙ (ap (option_and_then (λ i. option_and_then (whole_under m) (slice_get xs i)))
     (c.in-Some.ensures.value ∙ found_same es m)
-    ∙ (sym (first_at_place whole_under xs es m c.self.invariant)
+    ∙ (sym (first_at_place whole_under xs es m c.self.invariant.wholes)
     ∙ ap (first_some (whole_under m)) c.self.view_is)))
 
 pub returns-in-None : goal.returns-in-None
@@ -26,5 +26,5 @@ returns-in-None c =
     let es = c.self.inside.wholes.entries in
     ap (option_and_then (λ i. option_and_then (whole_under m) (slice_get xs i)))
     (c.in-None.ensures.value ∙ found_same es m)
-    ∙ (sym (first_at_place whole_under xs es m c.self.invariant)
+    ∙ (sym (first_at_place whole_under xs es m c.self.invariant.wholes)
     ∙ ap (first_some (whole_under m)) c.self.view_is)

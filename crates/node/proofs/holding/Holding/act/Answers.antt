@@ -3,7 +3,7 @@ use Rattle.cw_rules.specs.Rules.{Rules}
 use Rattle.cw_types.specs.declared.event.StepOut.{StepOut}
 use Rattle.node_disk.specs.declared.log.StoreError.{StoreError}
 use Rattle.node.specs.Disks.{HasTried}
-use Rattle.node.proofs.Stepping.{goes_on, no_fewer, stands_committed, whole_step}
+use Rattle.node.proofs.Stepping.{goes_on, no_fewer, rests_answered, stands_committed, whole_step}
 use Rattle.node.proofs.Tried.{err_is, tried_none}
 use Rattle.node.specs.Acting.{IsBefore, notes_of_event}
 use Rattle.node.specs.Holding.{Holding, rules_of, state_of}
@@ -111,6 +111,8 @@ returns-clause-awake g c =
             quiet =
                 ap (λ (k : Holding g.row.D.Denot g.row.A.Denot). k.store.staged) left
                 ∙ ap (λ (k : Holding g.row.D.Denot g.row.A.Denot). k.store.staged) is;
+            rests = rests_answered hash accepts ev (state_of h) b m c.answer.new.self
+                c.in_ok-out.out is (c.in_ok-out.ensures.answer (state_of h) before on) acted.rests;
           };
       led =
           subst

@@ -49,4 +49,5 @@ returns-in-Ok-clause-ready g c =
           (c.standing_is_kept.ensures.start hash r setup.id t.given refl refl refl)
           (c.shards_stand.ensures.start hash setup.committees setup.backlog (accepts setup.app));
       quiet = c.requires.quiet;
+      rests = refl;
     })

@@ -8,6 +8,7 @@ use Rattle.node.proofs.Starting.{from_nothing, knows_nothing, opened}
 use Rattle.node.specs.Asking.{asks}
 use Rattle.node.specs.Holding.{Holding, rules_of, state_of}
 use Rattle.node.specs.Leading.{IsLedBy}
+use Rattle.node.specs.Standing.{OwesNoBlock}
 use Rattle.node.specs.Store.{stored_notes}
 use Rattle.node.proofs.holding.Holding.open.Goals as goal
 
@@ -63,6 +64,11 @@ returns-clause-awake g c =
                 ap (λ (k : Holding g.row.D.Denot g.row.A.Denot). k.store.staged)
                 c.in_ok-handed.ensures.ok
                 ∙ c.requires.ready.quiet;
+            rests =
+                subst
+                (λ (k : Holding g.row.D.Denot g.row.A.Denot). OwesNoBlock (rules_of hash accepts k)
+                (state_of k))
+                (sym c.in_ok-handed.ensures.ok) c.requires.ready.rests;
           };
       led =
           subst

@@ -27,9 +27,7 @@ returns-in_ok-own-in-Some g c =
     (λ (k : Holding g.row.D.Denot g.row.A.Denot). first_some (noted_block_of m)
     (stored_notes k.store))
     e)
-    ∙ (sym (ap (first_some (noted_block_of m)) c.notes.ensures.value)
-    ∙ (sym c.first_block.ensures
-    ∙ ap (option_map (λ (x : Bor Block). x.now)) c.in-Some.is)) in
+    ∙ (sym c.noted_block.ensures ∙ ap (option_map (λ (x : Bor Block). x.now)) c.in-Some.is) in
     let own =
     c.in_ok-own-in-Some.ensures.commitment
     ∙ ap (λ (k : Holding g.row.D.Denot g.row.A.Denot). commit (kept.rules_of hash k.epochs) b)

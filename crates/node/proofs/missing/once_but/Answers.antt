@@ -4,8 +4,8 @@ use Rattle.std.proofs.lemmas.Bool.{not-true}
 use Rattle.cw_types.specs.declared.commitment.Commitment.{Commitment}
 use Rattle.cw_rules.specs.Sends.{once}
 use Rattle.node.proofs.Once.{kept_once, not_false, on_false, passed_over}
-use Rattle.node.proofs.missing.each_once.Goals as goal
-use Rattle.node.proofs.missing.each_once.Goals.{else-branch, then-branch+in_ok-push}
+use Rattle.node.proofs.missing.once_but.Goals as goal
+use Rattle.node.proofs.missing.once_but.Goals.{else-branch, then-branch+in_ok-push}
 
 pub loop-commitment-preserved : goal.loop-commitment-preserved
 loop-commitment-preserved c =

@@ -1,6 +1,6 @@
 use Rattle.std.proofs.Common.{◌≡◌, ◌++◌, ◌∷◌, [], drop}
 use Rattle.cw_rules.specs.Sends.{once}
-use Rattle.node.proofs.missing.each_once.Given as goal
+use Rattle.node.proofs.missing.once_but.Given as goal
 
 abbrev pub invariant-loop-commitment : goal.invariant-loop-commitment
 invariant-loop-commitment l =
