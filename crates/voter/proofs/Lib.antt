@@ -11,6 +11,8 @@ pub mod KnownSigners
 pub mod Lists
 pub mod Places
 pub mod Rising
+pub mod Saying
+pub mod Settling
 pub mod Signers
 pub mod Signing
 pub mod StepDown

@@ -1,3 +1,4 @@
+pub mod Facts
 pub mod Keys
 pub mod Kinds
 pub mod Known

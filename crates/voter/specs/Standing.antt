@@ -16,6 +16,7 @@ use Rattle.cw_rules.specs.Notes.{view_of}
 use Rattle.cw_rules.specs.Owed.{all_nullified, ballot_vote, is_row_at}
 use Rattle.cw_rules.specs.Rules.{Rules}
 use Rattle.note_scans.specs.Countable.{is_countable}
+use Rattle.voter.specs.Facts.{HaveFacts}
 use Rattle.voter.specs.Known.{Known, is_own_at}
 use Rattle.voter.specs.Signing.{HaveSigners}
 use Rattle.voter.specs.declared.key.VoteKey.{VoteKey}
@@ -45,13 +46,16 @@ abbrev pub is_signed : Epochs → Ballot → Bool
 is_signed x (Single i v) = true
 is_signed x (Many s) = are_signers x s.vote s.signers
 
--- what a tally holds may be counted, and its sets are those of the signers
+-- what a tally holds may be counted, its sets are those of the signers, and its maps say what the
+-- notes say
 pub record IsTally (epochs : Epochs) (id : ℕ) (notes : List Note) (ballots : List Ballot)
-    (came known : List (VoteKey × BTreeSet ℕ)) : Type 0 where
+    (came known : List (VoteKey × BTreeSet ℕ)) (said : List (VoteKey × Bool))
+    (settled : List (VoteKey × Commitment)) (ended : List (ℕ × ℕ)) (epoch : ℕ) : Type 0 where
   pub countable : IsTrue (list_all is_countable notes)
   pub formed : IsTrue (list_all is_formed ballots)
   pub signed : IsTrue (list_all (is_signed epochs) ballots)
   pub signers : HaveSigners epochs id notes ballots came known
+  pub facts : HaveFacts notes said settled ended epoch
 
 -- the member once that came
 abbrev pub with_came : State → Came → State

@@ -7,12 +7,17 @@
 
 mod ballot;
 mod certs;
+mod ended;
+mod facts;
 mod index;
 mod key;
 mod laws;
+mod maps;
 mod own;
 mod parents;
 mod proposals;
+mod said;
+mod settled;
 mod signer_sets;
 mod tally;
 mod votes;

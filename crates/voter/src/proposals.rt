@@ -4,6 +4,7 @@ ghost use Rattle.std.specs.Prelude.{◌≡◌, IfSome, IsTrue, filter, filter_ma
 ghost use Rattle.std.specs.Prelude.{option_and_then, option_map, slice_get, take};
 ghost use Rattle.std.specs.List.{enumerate_from, list_any};
 ghost use Rattle.std.specs.Option.{is_some};
+ghost use Rattle.cw_rules.specs.Notes.{has_certified};
 ghost use Rattle.cw_rules.specs.Owed as rule;
 ghost use Rattle.cw_types.specs.Same.{same_proposal};
 ghost use Rattle.cw_types.specs.Votes.{is_ordered, proposal_of};
@@ -15,12 +16,18 @@ use crate::tally::Tally;
 use cw_types::{Note, Proposal, Vote};
 
 impl<H> Tally<H> {
+    // Whether the proposal is noted as certified.
+    pub(crate) fn has_certified(&self, proposal: &Proposal) -> bool
+        ensures { result ≡ has_certified self.now.notes proposal.now }
+    {
+        self.index.facts.said.has_certified(proposal)
+    }
+
     // Whether the proposal is notarized and not certified.
     fn is_uncertified(&self, proposal: &Proposal) -> bool
         ensures { result ≡ owing.is_uncertified self.now.notes proposal.now }
     {
-        note_scans::has_cert(self.notes.as_slice(), &Vote::Notarize(*proposal))
-            && !note_scans::has_certified(self.notes.as_slice(), proposal)
+        self.has_cert(&Vote::Notarize(*proposal)) && !self.has_certified(proposal)
     }
 
     // Whether one of the first `at` proposals that are named is the same.

@@ -45,7 +45,7 @@ pub struct Tally<H> {
     pub(crate) notes: Items<Note>,
     pub(crate) ballots: Items<Ballot>,
     pub(crate) own: Items<OwnChunk>,
-    // in place of searches for signers
+    // in place of searches
     pub(crate) index: Index,
     alloc: Global,
     hasher: PhantomData<H>,
@@ -61,7 +61,9 @@ impl<H> Model for Tally<H> {
         { epochs = t.committees; id = t.id; notes = t.notes; ballots = t.ballots; own = t.own } };
 
     ghost invariant = { λ t. IsTally t.committees t.id t.notes t.ballots
-        t.index.came.by_vote.entries t.index.known.by_vote.entries };
+        t.index.came.by_vote.entries t.index.known.by_vote.entries
+        t.index.facts.said.by_key.entries t.index.facts.settled.by_key.entries
+        t.index.facts.ended.by_epoch.entries t.index.facts.epoch };
 }
 
 impl<H: Hasher<Digest = Digest32>> Tally<H> {
@@ -88,12 +90,13 @@ impl<H: Hasher<Digest = Digest32>> Tally<H> {
     pub fn settled(&self, epoch: u64, view: u64) -> Option<Commitment>
         ensures { result ≡ rule.settled (genesis_commitment H.digest_of) self.now.notes epoch view }
     {
-        note_scans::settled(
-            genesis_commitment::<H>(),
-            self.notes.as_slice(),
-            epoch,
-            view,
-        )
+        if view > 0 {
+            return self.index.facts.settled.of_view(epoch, view);
+        }
+        if epoch == 0 {
+            return Some(genesis_commitment::<H>());
+        }
+        self.index.facts.settled.of_epoch(epoch)
     }
 }
 
@@ -108,7 +111,7 @@ impl<H> Tally<H> {
         let copy = note.copy(self.alloc)?;
         let len = self.notes.len();
         self.notes.push(copy)?;
-        if let Err(NoMemory) = self.index.take_note(self.id, counted) {
+        if let Err(NoMemory) = self.index.take_note(self.id, note, counted) {
             self.notes.truncate(len);
             return Err(NoMemory);
         }
@@ -200,7 +203,7 @@ impl<H> Tally<H> {
     pub fn epoch(&self) -> u64
         ensures { result ≡ rule.epoch_of self.now.notes }
     {
-        note_scans::epoch_of(self.notes.as_slice())
+        self.index.facts.epoch
     }
 
     /// The view of an epoch that the member is in: one above the greatest with a noted
@@ -208,13 +211,13 @@ impl<H> Tally<H> {
     pub fn view(&self, epoch: u64) -> u64
         ensures { result ≡ rule.view_of self.now.notes epoch }
     {
-        note_scans::view_of(self.notes.as_slice(), epoch)
+        1 + self.index.facts.ended.of(epoch)
     }
 
     /// Whether the nullification of a view of an epoch is noted. Takes no memory.
     pub fn nullified(&self, epoch: u64, view: u64) -> bool
         ensures { result ≡ rule.nullified self.now.notes epoch view }
     {
-        note_scans::nullified(self.notes.as_slice(), epoch, view)
+        self.index.facts.said.has_cert(&Vote::Nullify { epoch, view })
     }
 }

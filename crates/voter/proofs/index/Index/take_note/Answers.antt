@@ -4,25 +4,11 @@ use Rattle.voter.proofs.Signing.{note_signed, plain_signed, same_signed}
 use Rattle.voter.proofs.index.Index.take_note.Goals as goal
 
 pub returns-in-Some-clause-ok : goal.returns-in-Some-clause-ok
-returns-in-Some-clause-ok c = λ x notes ballots note are counted.
+returns-in-Some-clause-ok c = λ x notes ballots are counted.
     then_ok c.add.result
     (λ added. note_signed x c.args.id notes ballots c.args.self.now.came.by_vote.entries
-    c.args.self.now.known.by_vote.entries are note c.in-Some.vote.now
+    c.args.self.now.known.by_vote.entries are c.args.note.now c.in-Some.vote.now
     c.add.new.self.by_vote.entries
     (sym counted ∙ ap (option_map (λ vote. vote.now)) c.in-Some.is) added
     (c.add.ensures.some are.some))
     c.add.ensures.ok
-
-pub returns-in-Some-clause-err : goal.returns-in-Some-clause-err
-returns-in-Some-clause-err c = λ x notes ballots are.
-    then_err c.add.result
-    (λ same. same_signed x c.args.id notes ballots c.args.self.now.came.by_vote.entries
-    c.args.self.now.known.by_vote.entries are c.args.self.now.came.by_vote.entries
-    c.add.new.self.by_vote.entries (λ v i. refl) same (c.add.ensures.some are.some))
-    c.add.ensures.err
-
-pub returns-in-None-clause-ok : goal.returns-in-None-clause-ok
-returns-in-None-clause-ok c = λ x notes ballots note are counted.
-    plain_signed x c.args.id notes ballots c.args.self.now.came.by_vote.entries
-    c.args.self.now.known.by_vote.entries are note
-    (sym counted ∙ ap (option_map (λ vote. vote.now)) c.in-None.is)
