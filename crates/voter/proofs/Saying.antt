@@ -4,6 +4,7 @@ use Rattle.std.specs.List.{list_any}
 use Rattle.std.specs.Map.{lookup}
 use Rattle.std.specs.Option.{is_some, option_map_or, option_or}
 use Rattle.std.specs.Ordering.{is_eq}
+use Rattle.std.specs.Prelude.{IsSome}
 use Rattle.std.proofs.lemmas.Cmp.{nat_eq_equiv}
 use Rattle.std.proofs.lemmas.List.Folds.{list_any-append}
 use Rattle.cw_types.specs.Same.{same_commitment, same_proposal}
@@ -278,3 +279,14 @@ pub said_voted : (epoch view : ℕ) (notes : List Note)
 said_voted epoch view notes =
     any_or (says (in_view 4 epoch view)) (says (in_view 5 epoch view)) (votes_in epoch view)
     (voted_in epoch view) notes
+
+-- a key that is there, by the order of keys
+pub some_there : {X : Type 0} (o : Option X) → is_some o ≡ true → IsSome o
+some_there (Some x) h = search rules
+some_there None h = cc
+
+pub said_is_there : (es : Said) (note : Note) (k : VoteKey) → IsThere note es
+    → fact_of note ≡ Some k → IsSome (lookup (λ (j : VoteKey). is_eq (key_cmp k j)) es)
+said_is_there es note k there is =
+    subst (λ (o : Option Bool). IsSome o) (sym (found_key es k))
+    (some_there (lookup (same_key k) es) (there k is))

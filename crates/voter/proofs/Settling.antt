@@ -5,7 +5,7 @@ use Rattle.std.specs.List.{cons_option, filter_map, find}
 use Rattle.std.specs.Map.{lookup}
 use Rattle.std.specs.Option.{is_some, option_map_or, option_or}
 use Rattle.std.specs.Ordering.{is_eq, nat_cmp}
-use Rattle.std.specs.Prelude.{nat_eq, option_and_then}
+use Rattle.std.specs.Prelude.{IsSome, nat_eq, option_and_then}
 use Rattle.std.proofs.lemmas.Cmp.{nat_eq_equiv}
 use Rattle.std.proofs.lemmas.List.Elements.{filter_map-append}
 use Rattle.cw_types.specs.Votes.{finalized}
@@ -19,7 +19,7 @@ use Rattle.cw_rules.specs.Notes.{ended, ended_by, ends_in, entered, entry, epoch
 use Rattle.voter.specs.Facts.{HasEnded, HasSettled, IsEndThere, ended_at, ending, ending_vote, entered_with, greatest_ended, settled_at, settled_by, settles}
 use Rattle.voter.specs.Keys.{in_view, same_key}
 use Rattle.voter.specs.declared.key.VoteKey.{VoteKey}
-use Rattle.voter.proofs.Saying.{PutFirst, first_put, same_view}
+use Rattle.voter.proofs.Saying.{PutFirst, first_put, same_view, some_there}
 
 or_none : {X : Type 0} (o : Option X) → option_or o None ≡ o
 or_none None = refl
@@ -316,3 +316,11 @@ epoch_more epoch now notes note is e =
         → option_map_or (λ x. max epoch x) o epoch ≡ max epoch (greatest (cons_option o []))
     by None = omega arith
     by (Some x) = omega arith
+
+-- an epoch that is there, by the order of numbers
+pub is_there : (es : List (ℕ × ℕ)) (note : Note) (epoch view : ℕ) → IsEndThere note es
+    → ending note ≡ Some (epoch, view)
+    → IsSome (lookup (λ (j : ℕ). is_eq (nat_cmp epoch j)) es)
+is_there es note epoch view there is =
+    subst (λ (o : Option ℕ). IsSome o) (sym (found_nat es epoch))
+    (some_there (lookup (nat_eq epoch) es) (there (epoch, view) is))

@@ -61,6 +61,7 @@ impl Index {
             → list_any (is_single signer vote.now) ballots ≡ false
             → OnErr result (HaveSigners x id notes ballots self.new.came.by_vote.entries
             self.new.known.by_vote.entries) }
+        ensures facts { self.new.facts ≡ self.old.facts }
     {
         self.came.add(vote, signer)?;
         if !counts {

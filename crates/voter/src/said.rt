@@ -5,6 +5,7 @@ ghost use Rattle.cw_rules.specs.Notes as rule;
 ghost use Rattle.cw_rules.specs.Owed as owed;
 ghost use Rattle.cw_types.specs.declared.note.Note.{Note as NoteValue};
 ghost use Rattle.voter.specs.Facts.{HasSaid, IsThere, fact_of, own_fact, said_at};
+ghost use Rattle.voter.specs.Keys.{in_view, key_of, keyed};
 
 use crate::key::VoteKey;
 use crate::maps::{put_first, put_there};
@@ -90,7 +91,8 @@ impl Said {
 
     /// Whether a certificate of the vote is noted.
     pub(crate) fn has_cert(&self, vote: &Vote) -> bool
-        ensures { (notes : List NoteValue) → HasSaid notes self.now.by_key.entries
+        ensures here { result ≡ said_at (key_of vote.now) self.now.by_key.entries }
+        ensures noted { (notes : List NoteValue) → HasSaid notes self.now.by_key.entries
             → result ≡ rule.has_cert notes vote.now }
     {
         self.has(&VoteKey::new(vote))
@@ -98,7 +100,8 @@ impl Said {
 
     /// Whether the proposal is noted as certified.
     pub(crate) fn has_certified(&self, proposal: &Proposal) -> bool
-        ensures { (notes : List NoteValue) → HasSaid notes self.now.by_key.entries
+        ensures here { result ≡ said_at (keyed 3 proposal.now) self.now.by_key.entries }
+        ensures noted { (notes : List NoteValue) → HasSaid notes self.now.by_key.entries
             → result ≡ rule.has_certified notes proposal.now }
     {
         self.has(&VoteKey::on(3, proposal))
@@ -114,7 +117,8 @@ impl Said {
 
     /// Whether a vote of the member's own is noted that nullifies the view or finalizes in it.
     pub(crate) fn has_closed(&self, epoch: u64, view: u64) -> bool
-        ensures { (notes : List NoteValue) → HasSaid notes self.now.by_key.entries
+        ensures here { result ≡ said_at (in_view 5 epoch view) self.now.by_key.entries }
+        ensures noted { (notes : List NoteValue) → HasSaid notes self.now.by_key.entries
             → result ≡ owed.has_closed notes epoch view }
     {
         self.has(&VoteKey::in_view(5, epoch, view))

@@ -3,6 +3,7 @@ use Rattle.std.specs.List.{list_all}
 use Rattle.cw_types.specs.declared.note.Note.{Note}
 use Rattle.cw_rules.specs.Accepted.{Ballot}
 use Rattle.note_scans.specs.Countable.{is_countable}
+use Rattle.voter.specs.Facts.{HaveFacts}
 use Rattle.voter.specs.Signing.{HaveSigners}
 use Rattle.voter.specs.Standing.{is_formed, is_signed}
 use Rattle.voter.proofs.tally.Tally.new.Goals as goal
@@ -22,5 +23,11 @@ invariant_of-result g c =
           subst (λ (ns : List Note). HaveSigners x c.args.id ns c.new-2.result came known)
           (sym c.new.ensures)
           (subst (λ (bs : List Ballot). HaveSigners x c.args.id [] bs came known)
-          (sym c.new-2.ensures) (c.new-4.ensures x c.args.id));
+          (sym c.new-2.ensures) (c.new-4.ensures.signers x c.args.id));
+      facts =
+          subst
+          (λ (ns : List Note). HaveFacts ns c.new-4.result.facts.said.by_key.entries
+          c.new-4.result.facts.settled.by_key.entries
+          c.new-4.result.facts.ended.by_epoch.entries c.new-4.result.facts.epoch)
+          (sym c.new.ensures) c.new-4.ensures.facts;
     }
