@@ -92,8 +92,7 @@ impl<H> Tally<H> {
             (length (filter (rule.knows self.now.id (state_of self.now) vote.now)
             (members_in self.now.epochs (vote_epoch vote.now)))))) }
     {
-        !self.has_cert(vote)
-            && (self.has_arrived(vote) || self.is_signed(vote))
+        !self.has_cert(vote) && (self.has_arrived(vote) || self.is_signed(vote))
     }
 
     // Whether a certificate of the vote came.
@@ -120,7 +119,8 @@ impl<H> Tally<H> {
             (length (filter (rule.knows self.now.id (state_of self.now) vote.now)
             (members_in self.now.epochs (vote_epoch vote.now)))) }
     {
-        self.committees.is_enough(vote.epoch(), self.count_known(vote))
+        self.committees
+            .is_enough(vote.epoch(), self.count_known(vote))
     }
 }
 

@@ -1,7 +1,8 @@
 //! What a member knows of votes and certificates, and what it owes by it: the tally.
 //!
 //! Each call is a function of what the tally was told. `tally_stands` and `parent_stands` say how
-//! its answers are those of the cluster rules. Who signed a vote is one look-up; the other bodies
+//! its answers are those of the cluster rules. Who signed a vote, whether it has a certificate, and
+//! what notes say of proposals, views and epochs are one look-up each; the other bodies
 //! scan plain lists.
 #![tactic(auto)]
 

@@ -17,7 +17,10 @@ use std::collections::BTreeMap;
 fn settled_by(proposal: &Proposal) -> (VoteKey, Commitment)
     ensures { result ≡ settled_by proposal.now }
 {
-    (VoteKey::in_view(6, proposal.epoch, proposal.view), proposal.payload)
+    (
+        VoteKey::in_view(6, proposal.epoch, proposal.view),
+        proposal.payload,
+    )
 }
 
 // What a note settles.

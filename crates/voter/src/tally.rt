@@ -218,6 +218,9 @@ impl<H> Tally<H> {
     pub fn nullified(&self, epoch: u64, view: u64) -> bool
         ensures { result ≡ rule.nullified self.now.notes epoch view }
     {
-        self.index.facts.said.has_cert(&Vote::Nullify { epoch, view })
+        self.index
+            .facts
+            .said
+            .has_cert(&Vote::Nullify { epoch, view })
     }
 }
