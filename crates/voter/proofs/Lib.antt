@@ -9,7 +9,7 @@ pub mod Kept
 pub mod Keys
 pub mod KnownSigners
 pub mod Lists
-pub mod Places
+pub mod Once
 pub mod Rising
 pub mod Saying
 pub mod Settling
@@ -17,4 +17,5 @@ pub mod Signers
 pub mod Signing
 pub mod StepDown
 pub mod Taking
+pub mod Undone
 pub mod Voted

@@ -6,3 +6,4 @@ pub mod Owing
 pub mod Sets
 pub mod Signing
 pub mod Standing
+pub mod Waiting

@@ -9,6 +9,7 @@ use Rattle.cw_types.specs.Epochs.{Epochs, is_member, place, rises_from}
 use Rattle.cw_types.specs.Votes.{vote_epoch, well_formed}
 use Rattle.cw_types.specs.declared.commitment.Commitment.{Commitment}
 use Rattle.cw_types.specs.declared.note.Note.{Note}
+use Rattle.cw_types.specs.declared.vote.Proposal.{Proposal}
 use Rattle.cw_types.specs.declared.vote.Vote.{Vote}
 use Rattle.cw_rules.specs.Accepted.{Ballot, Came, Many, Single, State}
 use Rattle.cw_rules.specs.Direct.{best_parent}
@@ -19,6 +20,7 @@ use Rattle.note_scans.specs.Countable.{is_countable}
 use Rattle.voter.specs.Facts.{HaveFacts}
 use Rattle.voter.specs.Known.{Known, is_own_at}
 use Rattle.voter.specs.Signing.{HaveSigners}
+use Rattle.voter.specs.Waiting.{AreWaiting}
 use Rattle.voter.specs.declared.key.VoteKey.{VoteKey}
 
 -- the tally has the member's committees, its notes, the votes and certificates that came to it, and
@@ -46,16 +48,20 @@ abbrev pub is_signed : Epochs → Ballot → Bool
 is_signed x (Single i v) = true
 is_signed x (Many s) = are_signers x s.vote s.signers
 
--- what a tally holds may be counted, its sets are those of the signers, and its maps say what the
--- notes say
+-- what a tally holds may be counted, its sets are those of the signers, its maps say what the notes
+-- say, and its lists have what isn't done
 pub record IsTally (epochs : Epochs) (id : ℕ) (notes : List Note) (ballots : List Ballot)
     (came known : List (VoteKey × BTreeSet ℕ)) (said : List (VoteKey × Bool))
-    (settled : List (VoteKey × Commitment)) (ended : List (ℕ × ℕ)) (epoch : ℕ) : Type 0 where
+    (settled : List (VoteKey × Commitment)) (ended : List (ℕ × ℕ)) (epoch : ℕ)
+    (votes_came votes_noted : List Vote) (proposals_came proposals_noted : List Proposal)
+    : Type 0 where
   pub countable : IsTrue (list_all is_countable notes)
   pub formed : IsTrue (list_all is_formed ballots)
   pub signed : IsTrue (list_all (is_signed epochs) ballots)
   pub signers : HaveSigners epochs id notes ballots came known
   pub facts : HaveFacts notes said settled ended epoch
+  pub waiting : AreWaiting epochs id notes ballots votes_came votes_noted proposals_came
+      proposals_noted
 
 -- the member once that came
 abbrev pub with_came : State → Came → State

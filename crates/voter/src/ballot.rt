@@ -1,13 +1,10 @@
 //! Votes and certificates that came.
 
-ghost use Rattle.std.specs.Prelude.{◌≡◌, Option, option_map};
+ghost use Rattle.std.specs.Prelude.{◌≡◌};
 ghost use Rattle.cw_rules.specs.Accepted.{Many, Single, same_ballot};
-ghost use Rattle.cw_rules.specs.Owed as rule;
-ghost use Rattle.cw_types.specs.Votes as votes;
 ghost use Rattle.voter.specs.Known.{ballot_signers, is_cert_for};
 
-use cw_types::{Cert, Proposal, Vote};
-use note_scans::voted_proposal;
+use cw_types::{Cert, Vote};
 use std::marker::Model;
 
 /// Which of the two it is.
@@ -49,27 +46,6 @@ impl Ballot {
     {
         Ballot {
             kind: Kind::Many(cert),
-        }
-    }
-
-    /// The vote that it names.
-    pub(crate) fn vote(&self) -> Vote
-        ensures { result ≡ rule.ballot_vote self.now }
-    {
-        match &self.kind {
-            Kind::Single(_, vote) => *vote,
-            Kind::Many(cert) => cert.vote,
-        }
-    }
-
-    /// The proposal that it names, where it stands.
-    pub(crate) fn proposal(&self) -> Option<&Proposal>
-        ensures { option_map (λ proposal. proposal.now) result
-            ≡ votes.proposal_of (rule.ballot_vote self.now) }
-    {
-        match &self.kind {
-            Kind::Single(_, vote) => voted_proposal(vote),
-            Kind::Many(cert) => voted_proposal(&cert.vote),
         }
     }
 

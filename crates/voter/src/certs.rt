@@ -137,16 +137,11 @@ impl<H: Hasher<Digest = Digest32>> Tally<H> {
         ensures { result ≡ find (owing.owes_cert H.digest_of self.now)
             (rule.named_votes (state_of self.now)) }
     {
-        self.ballots
-            .as_slice()
+        self.waiting
+            .votes_came
             .iter()
-            .map(|ballot| ballot.vote())
-            .chain(
-                self.notes
-                    .as_slice()
-                    .iter()
-                    .filter_map(|note| note_scans::vote_of(note)),
-            )
+            .copied()
+            .chain(self.waiting.votes_noted.iter().copied())
             .find(|vote| self.owes_cert(vote))
     }
 

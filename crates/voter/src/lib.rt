@@ -22,6 +22,7 @@ mod settled;
 mod signer_sets;
 mod tally;
 mod votes;
+mod waiting;
 
 pub use cw_rules::chain_laws;
 pub use laws::{

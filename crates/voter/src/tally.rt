@@ -14,6 +14,7 @@ ghost use Rattle.voter.specs.Standing.{are_signers};
 use crate::ballot::Ballot;
 use crate::index::Index;
 use crate::own::OwnChunk;
+use crate::waiting::Waiting;
 use cw_base::{Digest32, Hasher, Items, NoMemory};
 use cw_types::{Cert, Commitment, Committees, Note, Vote, genesis_commitment};
 use std::alloc::Global;
@@ -47,6 +48,8 @@ pub struct Tally<H> {
     pub(crate) own: Items<OwnChunk>,
     // in place of searches
     pub(crate) index: Index,
+    // the only ones of which something can be owed
+    pub(crate) waiting: Waiting,
     alloc: Global,
     hasher: PhantomData<H>,
 }
@@ -63,7 +66,9 @@ impl<H> Model for Tally<H> {
     ghost invariant = { λ t. IsTally t.committees t.id t.notes t.ballots
         t.index.came.by_vote.entries t.index.known.by_vote.entries
         t.index.facts.said.by_key.entries t.index.facts.settled.by_key.entries
-        t.index.facts.ended.by_epoch.entries t.index.facts.epoch };
+        t.index.facts.ended.by_epoch.entries t.index.facts.epoch
+        t.waiting.votes_came.items t.waiting.votes_noted.items t.waiting.came.items
+        t.waiting.noted.items };
 }
 
 impl<H: Hasher<Digest = Digest32>> Tally<H> {
@@ -79,6 +84,7 @@ impl<H: Hasher<Digest = Digest32>> Tally<H> {
             ballots: Items::new(alloc),
             own: Items::new(alloc),
             index: Index::new(alloc),
+            waiting: Waiting::new(alloc),
             alloc,
             hasher: PhantomData,
         }
@@ -109,12 +115,15 @@ impl<H> Tally<H> {
     {
         let counted = self.counted_vote(note);
         let copy = note.copy(self.alloc)?;
+        self.waiting.reserve_noted()?;
         let len = self.notes.len();
         self.notes.push(copy)?;
         if let Err(NoMemory) = self.index.take_note(self.id, note, counted) {
             self.notes.truncate(len);
             return Err(NoMemory);
         }
+        let said = &self.index.facts.said;
+        self.waiting.take_note(note, said, &self.committees, self.id);
         Ok(())
     }
 
@@ -149,12 +158,15 @@ impl<H> Tally<H> {
             return Ok(false);
         }
         let counts = self.committees.is_member(vote.epoch(), signer);
+        self.waiting.reserve_came()?;
         let len = self.ballots.len();
         self.ballots.push(Ballot::single(signer, *vote))?;
         if let Err(NoMemory) = self.index.take_vote(signer, vote, counts) {
             self.ballots.truncate(len);
             return Err(NoMemory);
         }
+        let said = &self.index.facts.said;
+        self.waiting.take_came(vote, said, &self.committees, self.id);
         Ok(true)
     }
 
@@ -172,7 +184,10 @@ impl<H> Tally<H> {
             return Ok(false);
         }
         let copy = cert.copy(self.alloc)?;
+        self.waiting.reserve_came()?;
         self.ballots.push(Ballot::many(copy))?;
+        let said = &self.index.facts.said;
+        self.waiting.take_came(&cert.vote, said, &self.committees, self.id);
         Ok(true)
     }
 

@@ -250,16 +250,11 @@ impl<H: Hasher<Digest = Digest32>> Tally<H> {
         ensures { result ≡ find (owing.owes_notarize H.digest_of self.now)
             (rule.named_proposals (state_of self.now)) }
     {
-        self.ballots
-            .as_slice()
+        self.waiting
+            .came
             .iter()
-            .filter_map(|ballot| ballot.proposal().copied())
-            .chain(
-                self.notes
-                    .as_slice()
-                    .iter()
-                    .filter_map(|note| note_scans::proposal_of(note).copied()),
-            )
+            .copied()
+            .chain(self.waiting.noted.iter().copied())
             .find(|proposal| self.owes_notarize(proposal))
     }
 
@@ -268,16 +263,11 @@ impl<H: Hasher<Digest = Digest32>> Tally<H> {
         ensures { result ≡ find (owing.owes_finalize H.digest_of self.now)
             (rule.named_proposals (state_of self.now)) }
     {
-        self.ballots
-            .as_slice()
+        self.waiting
+            .came
             .iter()
-            .filter_map(|ballot| ballot.proposal().copied())
-            .chain(
-                self.notes
-                    .as_slice()
-                    .iter()
-                    .filter_map(|note| note_scans::proposal_of(note).copied()),
-            )
+            .copied()
+            .chain(self.waiting.noted.iter().copied())
             .find(|proposal| self.owes_finalize(proposal))
     }
 

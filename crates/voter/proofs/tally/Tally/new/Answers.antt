@@ -6,6 +6,7 @@ use Rattle.note_scans.specs.Countable.{is_countable}
 use Rattle.voter.specs.Facts.{HaveFacts}
 use Rattle.voter.specs.Signing.{HaveSigners}
 use Rattle.voter.specs.Standing.{is_formed, is_signed}
+use Rattle.voter.specs.Waiting.{AreWaiting}
 use Rattle.voter.proofs.tally.Tally.new.Goals as goal
 
 pub invariant_of-result : goal.invariant_of-result
@@ -30,4 +31,14 @@ invariant_of-result g c =
           c.new-4.result.facts.settled.by_key.entries
           c.new-4.result.facts.ended.by_epoch.entries c.new-4.result.facts.epoch)
           (sym c.new.ensures) c.new-4.ensures.facts;
+      waiting =
+          subst
+          (λ (ns : List Note). AreWaiting x c.args.id ns c.new-2.result
+          c.new-5.result.votes_came.items c.new-5.result.votes_noted.items
+          c.new-5.result.came.items c.new-5.result.noted.items)
+          (sym c.new.ensures)
+          (subst
+          (λ (bs : List Ballot). AreWaiting x c.args.id [] bs c.new-5.result.votes_came.items
+          c.new-5.result.votes_noted.items c.new-5.result.came.items c.new-5.result.noted.items)
+          (sym c.new-2.ensures) (c.new-5.ensures x c.args.id));
     }

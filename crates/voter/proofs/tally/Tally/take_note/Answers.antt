@@ -5,6 +5,7 @@ use Rattle.note_scans.specs.Countable.{is_countable}
 use Rattle.voter.specs.Facts.{HaveFacts}
 use Rattle.voter.specs.Known.{Known}
 use Rattle.voter.specs.Signing.{HaveSigners, counted_vote}
+use Rattle.voter.specs.Waiting.{AreWaiting}
 use Rattle.voter.proofs.Taking.{all_more, taken_back}
 use Rattle.voter.proofs.tally.Tally.take_note.Goals as goal
 
@@ -35,6 +36,13 @@ invariant_of-self-in-Err g c =
       facts =
           subst (λ (ns : List Note). HaveFacts ns said settled ended epoch) (sym back)
           (c.in-Err.ensures.refused notes c.self.invariant.facts);
+      waiting =
+          subst
+          (λ (ns : List Note). AreWaiting x id ns ballots
+          c.reserve_noted.new.self.votes_came.items c.reserve_noted.new.self.votes_noted.items
+          c.reserve_noted.new.self.came.items c.reserve_noted.new.self.noted.items)
+          (sym back)
+          (c.in_ok-reserve_noted.ensures.waiting x id notes ballots c.self.invariant.waiting);
     }
 
 pub invariant_of-self-in_default : goal.invariant_of-self-in_default
@@ -66,4 +74,13 @@ invariant_of-self-in_default g c =
       facts =
           subst (λ (ns : List Note). HaveFacts ns said settled ended epoch) (sym more)
           (c.in_default.ensures.facts x notes c.self.invariant.facts counted);
+      waiting =
+          subst
+          (λ (ns : List Note). AreWaiting x id ns ballots
+          c.take_note-2.new.self.votes_came.items c.take_note-2.new.self.votes_noted.items
+          c.take_note-2.new.self.came.items c.take_note-2.new.self.noted.items)
+          (sym more)
+          (c.take_note-2.ensures notes ballots
+          (c.in_default.ensures.facts x notes c.self.invariant.facts counted).saying
+          (c.in_ok-reserve_noted.ensures.waiting x id notes ballots c.self.invariant.waiting));
     }

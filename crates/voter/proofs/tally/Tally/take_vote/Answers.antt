@@ -7,6 +7,7 @@ use Rattle.voter.specs.Facts.{HaveFacts}
 use Rattle.voter.specs.Known.{Known}
 use Rattle.voter.specs.Signing.{HaveSigners}
 use Rattle.voter.specs.Standing.{is_formed, is_signed}
+use Rattle.voter.specs.Waiting.{AreWaiting}
 use Rattle.voter.specs.declared.facts.Facts.{Facts}
 use Rattle.voter.proofs.Taking.{all_more, taken_back}
 use Rattle.voter.proofs.tally.Tally.take_vote.Goals as goal
@@ -42,6 +43,13 @@ invariant_of-self-in-Err g c =
           c.self.view_is
           ∙ (sym c.has_voted_so.ensures.vote ∙ c.if-has_voted_so.false)));
       facts = facts;
+      waiting =
+          subst
+          (λ (bs : List Ballot). AreWaiting x id notes bs
+          c.reserve_came.new.self.votes_came.items c.reserve_came.new.self.votes_noted.items
+          c.reserve_came.new.self.came.items c.reserve_came.new.self.noted.items)
+          (sym back)
+          (c.in_ok-reserve_came.ensures.waiting x id notes ballots c.self.invariant.waiting);
     }
 
 pub invariant_of-self-in_default : goal.invariant_of-self-in_default
@@ -75,4 +83,12 @@ invariant_of-self-in_default g c =
           (c.is_member-counts.ensures
           ∙ ap (λ (e : ℕ). is_member x e c.args.signer) c.epoch.ensures));
       facts = facts;
+      waiting =
+          subst
+          (λ (bs : List Ballot). AreWaiting x id notes bs
+          c.take_came.new.self.votes_came.items c.take_came.new.self.votes_noted.items
+          c.take_came.new.self.came.items c.take_came.new.self.noted.items)
+          (sym more)
+          (c.take_came.ensures notes ballots (Single c.args.signer c.args.vote.now) facts.saying
+          (c.in_ok-reserve_came.ensures.waiting x id notes ballots c.self.invariant.waiting) refl);
     }
