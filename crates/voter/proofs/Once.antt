@@ -79,20 +79,22 @@ module _ {X : Type 0} (same : X → X → Bool) (is : (a b : X) → same a b ≡
   -- what is found is found where it first stands
   pub find_once : (p : X → Bool) (xs : List X) → find p (once same xs) ≡ find p xs
   find_once p [] = refl
-  find_once p (x ∷ xs) = go (p x) refl
+  find_once p (x ∷ xs) = go (p x) refl (find_once p xs)
     where
-      by : p x ≡ false → find p (filter (λ y. not (same y x)) (once same xs)) ≡ find p xs
-      by e =
+      by : p x ≡ false → find p (once same xs) ≡ find p xs
+          → find p (filter (λ y. not (same y x)) (once same xs)) ≡ find p xs
+      by e more =
           find_through p (λ y. not (same y x)) (λ y h. other (same y x) refl h) (once same xs)
-          ∙ find_once p xs
+          ∙ more
         where
           other : {y : X} (b : Bool) → same y x ≡ b → p y ≡ true → not (same y x) ≡ true
           other false k h = ap not k
           other {y = y} true k h = let t : true ≡ false = sym h ∙ (ap p (is y x k) ∙ e) in cc
 
-      go : (b : Bool) → p x ≡ b → find p (once same (x ∷ xs)) ≡ find p (x ∷ xs)
-      go true e = rw e refl
-      go false e = rw e (by e)
+      go : (b : Bool) → p x ≡ b → find p (once same xs) ≡ find p xs
+          → find p (once same (x ∷ xs)) ≡ find p (x ∷ xs)
+      go true e more = rw e refl
+      go false e more = rw e (by e more)
 
   -- of two lists behind one another
   pub once_append : (xs ys : List X)
@@ -131,6 +133,7 @@ module _ {X : Type 0} (same : X → X → Bool) (is : (a b : X) → same a b ≡
     behind n pre [] e f = refl
     behind n pre (y ∷ ys) e f =
         go (passes y && not (list_any (same y) pre)) refl
+        (more (λ l. behind (n + 1) (pre ++ y ∷ []) ys l (append_assoc pre (y ∷ []) ys ∙ f)))
       where
         before : take n all ≡ pre
         before =
@@ -157,11 +160,14 @@ module _ {X : Type 0} (same : X → X → Bool) (is : (a b : X) → same a b ≡
         or_false true = refl
         or_false false = refl
 
-        more : map (λ (at : ℕ × X). at.1) (filter candidate (enumerate_from (n + 1) ys))
+        more : (n + 1 ≡ length (pre ++ y ∷ [])
+            → map (λ (at : ℕ × X). at.1) (filter candidate (enumerate_from (n + 1) ys))
+            ≡ filter (λ z. passes z && not (list_any (same z) (pre ++ y ∷ []))) (once same ys))
+            → map (λ (at : ℕ × X). at.1) (filter candidate (enumerate_from (n + 1) ys))
             ≡ filter (λ z. passes z && not (list_any (same z) pre))
             (filter (λ z. not (same z y)) (once same ys))
-        more =
-            behind (n + 1) (pre ++ y ∷ []) ys longer (append_assoc pre (y ∷ []) ys ∙ f)
+        more rest =
+            rest longer
             ∙ sym
             (filter_twice (λ z. passes z && not (list_any (same z) pre))
             (λ z. not (same z y)) (once same ys)
@@ -176,10 +182,13 @@ module _ {X : Type 0} (same : X → X → Bool) (is : (a b : X) → same a b ≡
             (once same ys))
 
         go : (b : Bool) → (passes y && not (list_any (same y) pre)) ≡ b
+            → map (λ (at : ℕ × X). at.1) (filter candidate (enumerate_from (n + 1) ys))
+            ≡ filter (λ z. passes z && not (list_any (same z) pre))
+            (filter (λ z. not (same z y)) (once same ys))
             → map (λ (at : ℕ × X). at.1) (filter candidate (enumerate_from n (y ∷ ys)))
             ≡ filter (λ y. passes y && not (list_any (same y) pre)) (once same (y ∷ ys))
-        go true e = rw (here, e) (ap (λ zs. y ∷ zs) more)
-        go false e = rw (here, e) more
+        go true e rest = rw (here, e) (ap (λ zs. y ∷ zs) rest)
+        go false e rest = rw (here, e) rest
 
     pub candidates_once : map (λ (at : ℕ × X). at.1) (filter candidate (enumerate_from 0 all))
         ≡ filter passes (once same all)
@@ -350,26 +359,26 @@ module _ {X : Type 0} (same : X → X → Bool) (is : (a b : X) → same a b ≡
 
   -- ---- two lists behind one another
 
-  module _ (done : X → Bool) (as bs xs ys : List X) (e : as ≡ undone same done xs)
-      (f : bs ≡ undone same done ys) where
+  module _ (done : X → Bool) (ws us xs ys : List X) (e : ws ≡ undone same done xs)
+      (f : us ≡ undone same done ys) where
     -- what is found first
     pub find_two : (p : X → Bool) → ((x : X) → p x ≡ true → done x ≡ false)
-        → find p (as ++ bs) ≡ find p (xs ++ ys)
+        → find p (ws ++ us) ≡ find p (xs ++ ys)
     find_two p h =
-        find-append p as bs
-        ∙ (ap (λ o. option_or o (find p bs)) (ap (find p) e ∙ find_undone p done h xs)
+        find-append p ws us
+        ∙ (ap (λ o. option_or o (find p us)) (ap (find p) e ∙ find_undone p done h xs)
         ∙ (ap (option_or (find p xs)) (ap (find p) f ∙ find_undone p done h ys)
         ∙ sym (find-append p xs ys)))
 
     -- those that pass and aren't named before
     pub pick_two : (u : X → Bool) → ((x : X) → u x ≡ true → done x ≡ false)
-        → filter u (as ++ filter (λ y. not (list_any (same y) as)) bs)
+        → filter u (ws ++ filter (λ y. not (list_any (same y) ws)) us)
         ≡ map (λ (at : ℕ × X). at.1)
         (filter (λ at. u at.1 && not (list_any (same at.1) (take at.0 (xs ++ ys))))
         (enumerate_from 0 (xs ++ ys)))
     pick_two u h =
-        filter-append u as (filter (λ y. not (list_any (same y) as)) bs)
-        ∙ (ap (λ l. l ++ filter u (filter (λ y. not (list_any (same y) as)) bs)) first
+        filter-append u ws (filter (λ y. not (list_any (same y) ws)) us)
+        ∙ (ap (λ l. l ++ filter u (filter (λ y. not (list_any (same y) ws)) us)) first
         ∙ (ap (λ l. filter u (once same xs) ++ l) second
         ∙ sym
         (candidates_once u (xs ++ ys)
@@ -380,11 +389,11 @@ module _ {X : Type 0} (same : X → X → Bool) (is : (a b : X) → same a b ≡
         left : (x : X) → u x ≡ true → not (done x) ≡ true
         left x k = ap not (h x k)
 
-        first : filter u as ≡ filter u (once same xs)
+        first : filter u ws ≡ filter u (once same xs)
         first = ap (filter u) e ∙ filter_through u (λ x. not (done x)) left (once same xs)
 
         test : (y : X)
-            → (not (list_any (same y) as) && u y) ≡ (not (list_any (same y) xs) && u y)
+            → (not (list_any (same y) ws) && u y) ≡ (not (list_any (same y) xs) && u y)
         test y = by (u y) refl
           where
             none : (a b : Bool) → (a && false) ≡ (b && false)
@@ -394,11 +403,11 @@ module _ {X : Type 0} (same : X → X → Bool) (is : (a b : X) → same a b ≡
             none false false = refl
 
             by : (b : Bool) → u y ≡ b
-                → (not (list_any (same y) as) && b) ≡ (not (list_any (same y) xs) && b)
+                → (not (list_any (same y) ws) && b) ≡ (not (list_any (same y) xs) && b)
             by true k =
                 ap (λ a. not a && true)
                 (ap (list_any (same y)) e ∙ any_undone done y (h y k) xs)
-            by false k = none (not (list_any (same y) as)) (not (list_any (same y) xs))
+            by false k = none (not (list_any (same y) ws)) (not (list_any (same y) xs))
 
         also : (y : X) → (not (list_any (same y) xs) && u y) ≡ true → not (done y) ≡ true
         also y k = left y (by (not (list_any (same y) xs)) (u y) k)
@@ -407,12 +416,12 @@ module _ {X : Type 0} (same : X → X → Bool) (is : (a b : X) → same a b ≡
             by true b k = k
             by false b k = cc
 
-        second : filter u (filter (λ y. not (list_any (same y) as)) bs)
+        second : filter u (filter (λ y. not (list_any (same y) ws)) us)
             ≡ filter u (filter (λ y. not (list_any (same y) xs)) (once same ys))
         second =
-            filter_twice u (λ y. not (list_any (same y) as)) bs
-            ∙ (filter_same_test (λ y. not (list_any (same y) as) && u y)
-            (λ y. not (list_any (same y) xs) && u y) test bs
+            filter_twice u (λ y. not (list_any (same y) ws)) us
+            ∙ (filter_same_test (λ y. not (list_any (same y) ws) && u y)
+            (λ y. not (list_any (same y) xs) && u y) test us
             ∙ (ap (filter (λ y. not (list_any (same y) xs) && u y)) f
             ∙ (filter_through (λ y. not (list_any (same y) xs) && u y) (λ y. not (done y)) also
             (once same ys)

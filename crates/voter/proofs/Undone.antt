@@ -1,10 +1,11 @@
 -- What is done, of which nothing is owed any more, and the lists of what isn't.
-use Rattle.std.proofs.Common.{◌≡◌, ◌&&◌, ◌+◌, ◌==◌, ◌≤◌, ◌||◌, ℕ, Bool, true, false, not, List, [], ◌∷◌, ◌++◌, map, filter, max, Option, Some, None, refl, sym, subst, ◌∙◌, ap, arith, eqb-true}
+use Rattle.std.proofs.Common.{◌≡◌, ◌&&◌, ◌+◌, ◌==◌, ◌≤◌, ◌||◌, ℕ, Bool, true, false, not, List, [], ◌∷◌, ◌++◌, map, filter, max, Option, Some, None, refl, sym, subst, ◌∙◌, ap, arith, eqb-true, if◌then◌else◌}
 use Rattle.std.specs.List.{cons_option, filter_map, find, list_any}
 use Rattle.std.specs.Option.{is_some, option_map_or}
 use Rattle.std.proofs.lemmas.Bool.{and_parts}
 use Rattle.std.proofs.lemmas.List.Elements.{filter_map-append}
 use Rattle.std.proofs.lemmas.List.Folds.{list_any-append}
+use Rattle.cw_base.specs.declared.hash.Digest32.{Digest32}
 use Rattle.cw_types.specs.Epochs.{Epochs, is_member, leader}
 use Rattle.cw_types.specs.Same.{same_proposal, same_vote}
 use Rattle.cw_types.specs.Votes.{proposal_of}
@@ -19,7 +20,8 @@ use Rattle.cw_rules.specs.Owed.{all_nullified, ballot_vote, cert_owed, closes, f
 use Rattle.cw_rules.specs.Rules.{Rules, genesis_commitment}
 use Rattle.voter.specs.Facts.{HasSaid, said_at}
 use Rattle.voter.specs.Keys.{in_view, key_of, keyed}
-use Rattle.voter.specs.Owing.{is_uncertified}
+use Rattle.voter.specs.Known.{Known, state_of, vote_rules}
+use Rattle.voter.specs.Owing.{is_uncertified, owes_finalize, owes_notarize}
 use Rattle.voter.specs.Waiting.{AreWaiting, is_done, is_done_by, is_uncertified_by, undone, with_named}
 use Rattle.voter.specs.declared.key.VoteKey.{VoteKey}
 use Rattle.voter.proofs.Certified.{cert_where}
@@ -91,20 +93,28 @@ certified_over (note ∷ notes) p h =
 -- what is certified is of no view that the member is in
 pub notarize_left : (r : Rules) (id : ℕ) (s : State) (p : Proposal)
     → is_some (notarize_owed r id s p) ≡ true → is_done r.epochs id s.notes p ≡ false
-notarize_left r id s p h = go (has_certified s.notes p) refl
+notarize_left r id s p h =
+    go
+    (eqb-true p.view (view_of s.notes p.epoch)
+    (second (p.epoch == epoch_of s.notes) (p.view == view_of s.notes p.epoch)
+    (is_member r.epochs p.epoch id
+    && list_any (is_single (leader r.epochs p.epoch p.view) (Notarize p)) s.came.ballots
+    && not (has_voted s.notes p.epoch p.view)
+    && option_map_or (is_ready r id s p) (settled (genesis_commitment r) s.notes p.epoch p.parent)
+    false
+    && all_nullified s.notes p.epoch p.parent p.view)
+    (sym (notarize_where r id s p) ∙ h)))
+    (has_certified s.notes p) refl
   where
-    all : _
-    all = sym (notarize_where r id s p) ∙ h
+    second : (a b c : Bool) → (a && b && c) ≡ true → b ≡ true
+    second true true c k = refl
+    second true false c k = cc
+    second false b c k = cc
 
-    view : p.view ≡ view_of s.notes p.epoch
-    view =
-        eqb-true p.view (view_of s.notes p.epoch)
-        (and_parts (p.view == view_of s.notes p.epoch) _
-        (and_parts (p.epoch == epoch_of s.notes) _ all).1).0
-
-    go : (b : Bool) → has_certified s.notes p ≡ b → is_done r.epochs id s.notes p ≡ false
-    go true e = let over = certified_over s.notes p e in absurd (omega (arith, over, view))
-    go false e =
+    go : p.view ≡ view_of s.notes p.epoch → (b : Bool) → has_certified s.notes p ≡ b
+        → is_done r.epochs id s.notes p ≡ false
+    go view true e = let over = certified_over s.notes p e in absurd (omega (arith, over, view))
+    go view false e =
         ap
         (λ b. b
         && not (is_member r.epochs p.epoch id && not (has_closed s.notes p.epoch p.view)))
@@ -121,6 +131,16 @@ finalize_left r id s p h =
     by true true false k = cc
     by true false c k = cc
     by false b c k = refl
+
+pub owes_notarize_left : (hash : List ℕ → Digest32) (t : Known) (p : Proposal)
+    → owes_notarize hash t p ≡ true → is_done t.epochs t.id t.notes p ≡ false
+unfolding owes_notarize
+owes_notarize_left hash t p h = notarize_left (vote_rules hash t.epochs) t.id (state_of t) p h
+
+pub owes_finalize_left : (hash : List ℕ → Digest32) (t : Known) (p : Proposal)
+    → owes_finalize hash t p ≡ true → is_done t.epochs t.id t.notes p ≡ false
+unfolding owes_finalize
+owes_finalize_left hash t p h = finalize_left (vote_rules hash t.epochs) t.id (state_of t) p h
 
 pub uncertified_left : (x : Epochs) (id : ℕ) (notes : List Note) (p : Proposal)
     → is_uncertified notes p ≡ true → is_done x id notes p ≡ false

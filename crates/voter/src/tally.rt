@@ -123,7 +123,8 @@ impl<H> Tally<H> {
             return Err(NoMemory);
         }
         let said = &self.index.facts.said;
-        self.waiting.take_note(note, said, &self.committees, self.id);
+        self.waiting
+            .take_note(note, said, &self.committees, self.id);
         Ok(())
     }
 
@@ -166,7 +167,8 @@ impl<H> Tally<H> {
             return Err(NoMemory);
         }
         let said = &self.index.facts.said;
-        self.waiting.take_came(vote, said, &self.committees, self.id);
+        self.waiting
+            .take_came(vote, said, &self.committees, self.id);
         Ok(true)
     }
 
@@ -187,7 +189,8 @@ impl<H> Tally<H> {
         self.waiting.reserve_came()?;
         self.ballots.push(Ballot::many(copy))?;
         let said = &self.index.facts.said;
-        self.waiting.take_came(&cert.vote, said, &self.committees, self.id);
+        self.waiting
+            .take_came(&cert.vote, said, &self.committees, self.id);
         Ok(true)
     }
 

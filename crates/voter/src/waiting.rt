@@ -31,13 +31,25 @@ pub(crate) struct Waiting {
     pub(crate) noted: Vec<Proposal>,
 }
 
+fn has_vote(list: &[Vote], vote: &Vote) -> bool
+    ensures { result ≡ list_any (same_vote vote.now) list.now }
+{
+    list.iter().any(|other| vote.is_same(other))
+}
+
+fn has_proposal(list: &[Proposal], proposal: &Proposal) -> bool
+    ensures { result ≡ list_any (same_proposal proposal.now) list.now }
+{
+    list.iter().any(|other| proposal.is_same(other))
+}
+
 // Puts a vote at the end of a list that hasn't it, if there is one. Takes no memory.
 fn put_vote(list: &mut Vec<Vote>, vote: Option<Vote>)
     requires { vec_len list.old < vec_capacity list.old }
     ensures { list.new.items ≡ with_named same_vote list.old.items vote }
 {
     if let Some(vote) = vote {
-        if !list.iter().any(|other| vote.is_same(other)) {
+        if !has_vote(list.as_slice(), &vote) {
             list.push_reserved(vote);
         }
     }
@@ -49,7 +61,7 @@ fn put_proposal(list: &mut Vec<Proposal>, proposal: Option<Proposal>)
     ensures { list.new.items ≡ with_named same_proposal list.old.items proposal }
 {
     if let Some(proposal) = proposal {
-        if !list.iter().any(|other| proposal.is_same(other)) {
+        if !has_proposal(list.as_slice(), &proposal) {
             list.push_reserved(proposal);
         }
     }
@@ -166,13 +178,6 @@ impl Waiting {
         drop_proposals(&mut self.noted, said, committees, id);
     }
 
-    // Whether what came names the proposal, and it isn't done.
-    fn has_come(&self, proposal: &Proposal) -> bool
-        ensures { result ≡ list_any (same_proposal proposal.now) self.now.came.items }
-    {
-        self.came.iter().any(|other| proposal.is_same(other))
-    }
-
     /// The proposal at this place of those that are notarized and not certified.
     pub(crate) fn nth_uncertified(&self, said: &Said, index: usize) -> Option<&Proposal>
         ensures { option_map (λ proposal. proposal.now) result
@@ -183,7 +188,11 @@ impl Waiting {
     {
         self.came
             .iter()
-            .chain(self.noted.iter().filter(|proposal| !self.has_come(proposal)))
+            .chain(
+                self.noted
+                    .iter()
+                    .filter(|proposal| !has_proposal(self.came.as_slice(), proposal)),
+            )
             .filter(|proposal| is_uncertified(said, proposal))
             .nth(index)
     }

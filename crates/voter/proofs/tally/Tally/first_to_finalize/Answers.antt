@@ -7,15 +7,14 @@ use Rattle.cw_types.specs.Same.{same_proposal}
 use Rattle.cw_types.proofs.Same.{same_proposal-true}
 use Rattle.cw_types.specs.Votes.{proposal_of}
 use Rattle.cw_rules.specs.Owed as rule
-use Rattle.voter.specs.Known.{Known, state_of, vote_rules}
+use Rattle.voter.specs.Known.{Known}
 use Rattle.voter.specs.Owing.{owes_finalize}
 use Rattle.voter.specs.Waiting.{AreWaiting, is_done}
 use Rattle.voter.proofs.Once.{find_two}
-use Rattle.voter.proofs.Undone.{finalize_left}
+use Rattle.voter.proofs.Undone.{owes_finalize_left}
 use Rattle.voter.proofs.tally.Tally.first_to_finalize.Goals as goal
 
 pub returns : goal.returns
-unfolding owes_finalize
 returns g c =
     let t = c.args.self.now in
     let w = c.self.inside.waiting in
@@ -38,4 +37,4 @@ returns g c =
     w.noted.items (filter_map (λ b. proposal_of (rule.ballot_vote b)) t.ballots)
     (filter_map rule.note_proposal t.notes)
     are.of_came are.of_notes (owes_finalize g.H.Hasher.digest_of t)
-    (λ v h. finalize_left (vote_rules g.H.Hasher.digest_of t.epochs) t.id (state_of t) v h))
+    (owes_finalize_left g.H.Hasher.digest_of t))

@@ -45,8 +45,8 @@ invariant_of-self-in-Err g c =
           (c.in_ok-reserve_noted.ensures.waiting x id notes ballots c.self.invariant.waiting);
     }
 
-pub invariant_of-self-in_default : goal.invariant_of-self-in_default
-invariant_of-self-in_default g c =
+pub invariant_of-self-2 : goal.invariant_of-self-2
+invariant_of-self-2 g c =
     let x = c.self.inside.committees in
     let id = c.self.inside.id in
     let notes = c.self.inside.notes in
