@@ -1,5 +1,5 @@
 -- What notes say by key, with one note more, and in the words of the rules.
-use Rattle.std.proofs.Common.{◌≡◌, ℕ, ◌&&◌, ◌||◌, ◌==◌, Bool, true, false, cond, refl, rules, sym, subst, ◌∙◌, ap, List, [], ◌∷◌, ◌++◌, Option, Some, None, unwrap_or, if◌then◌else◌}
+use Rattle.std.proofs.Common.{◌≡◌, ℕ, ◌&&◌, ◌||◌, ◌==◌, Bool, true, false, refl, rules, sym, subst, ◌∙◌, ap, List, [], ◌∷◌, ◌++◌, Option, Some, None, unwrap_or, if◌then◌else◌}
 use Rattle.std.specs.List.{list_any}
 use Rattle.std.specs.Map.{lookup}
 use Rattle.std.specs.Option.{is_some, option_map_or, option_or}
@@ -15,7 +15,7 @@ use Rattle.cw_types.specs.declared.vote.Vote.TheVariants.{Finalize, Notarize, Nu
 use Rattle.cw_types.proofs.Same.{same_commitment_self}
 use Rattle.cw_rules.specs.Notes.{has_cert, has_certified, is_cert, is_certified}
 use Rattle.cw_rules.specs.Owed.{closes, has_closed, has_voted, votes_in}
-use Rattle.voter.specs.Facts.{HasSaid, IsThere, fact_of, own_fact, said_at, says}
+use Rattle.voter.specs.Facts.{HasSaid, IsThere, fact_of, own_fact, says}
 use Rattle.voter.specs.Keys.{in_view, key_of, keyed, no_payload, same_key}
 use Rattle.voter.specs.declared.key.VoteKey.{VoteKey}
 use Rattle.voter.proofs.Keys.{found_key, key_cmp, keys_of_same, keys_tie, same_key_self, same_key_symm}

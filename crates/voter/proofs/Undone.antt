@@ -1,6 +1,6 @@
 -- What is done, of which nothing is owed any more, and the lists of what isn't.
-use Rattle.std.proofs.Common.{◌≡◌, ◌&&◌, ◌+◌, ◌==◌, ◌≤◌, ◌||◌, ℕ, Bool, true, false, not, List, [], ◌∷◌, ◌++◌, map, filter, max, Option, Some, None, refl, sym, subst, ◌∙◌, ap, arith, eqb-true, if◌then◌else◌}
-use Rattle.std.specs.List.{cons_option, filter_map, find, list_any}
+use Rattle.std.proofs.Common.{◌≡◌, ◌&&◌, ◌==◌, ◌≤◌, ◌||◌, ℕ, Bool, true, false, not, List, [], ◌∷◌, ◌++◌, map, filter, Option, Some, None, refl, sym, subst, ◌∙◌, ap, arith, eqb-true, if◌then◌else◌}
+use Rattle.std.specs.List.{cons_option, filter_map, list_any}
 use Rattle.std.specs.Option.{is_some, option_map_or}
 use Rattle.std.proofs.lemmas.Bool.{and_parts}
 use Rattle.std.proofs.lemmas.List.Elements.{filter_map-append}
@@ -25,7 +25,7 @@ use Rattle.voter.specs.Owing.{is_uncertified, owes_finalize, owes_notarize}
 use Rattle.voter.specs.Waiting.{AreWaiting, is_done, is_done_by, is_uncertified_by, undone, with_named}
 use Rattle.voter.specs.declared.key.VoteKey.{VoteKey}
 use Rattle.voter.proofs.Certified.{cert_where}
-use Rattle.voter.proofs.Once.{filter_same_test, taken_named, undone_less}
+use Rattle.voter.proofs.Once.{filter_same_test, taken_named}
 use Rattle.voter.proofs.Saying.{said_cert, said_certified, said_closed}
 use Rattle.voter.proofs.Voted.{finalize_where, notarize_where}
 
@@ -97,19 +97,18 @@ notarize_left r id s p h =
     go
     (eqb-true p.view (view_of s.notes p.epoch)
     (second (p.epoch == epoch_of s.notes) (p.view == view_of s.notes p.epoch)
-    (is_member r.epochs p.epoch id
-    && list_any (is_single (leader r.epochs p.epoch p.view) (Notarize p)) s.came.ballots
-    && not (has_voted s.notes p.epoch p.view)
-    && option_map_or (is_ready r id s p) (settled (genesis_commitment r) s.notes p.epoch p.parent)
-    false
-    && all_nullified s.notes p.epoch p.parent p.view)
-    (sym (notarize_where r id s p) ∙ h)))
+    (is_member r.epochs p.epoch id)
+    (list_any (is_single (leader r.epochs p.epoch p.view) (Notarize p)) s.came.ballots)
+    (not (has_voted s.notes p.epoch p.view))
+    (option_map_or (is_ready r id s p) (settled (genesis_commitment r) s.notes p.epoch p.parent)
+    false)
+    (all_nullified s.notes p.epoch p.parent p.view) (sym (notarize_where r id s p) ∙ h)))
     (has_certified s.notes p) refl
   where
-    second : (a b c : Bool) → (a && b && c) ≡ true → b ≡ true
-    second true true c k = refl
-    second true false c k = cc
-    second false b c k = cc
+    second : (a b c d e f g : Bool) → (a && b && c && d && e && f && g) ≡ true → b ≡ true
+    second true true c d e f g k = refl
+    second true false c d e f g k = cc
+    second false b c d e f g k = cc
 
     go : p.view ≡ view_of s.notes p.epoch → (b : Bool) → has_certified s.notes p ≡ b
         → is_done r.epochs id s.notes p ≡ false

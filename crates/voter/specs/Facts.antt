@@ -1,5 +1,5 @@
 -- What notes say of votes, proposals, views and epochs, by key, in place of searches.
-use Rattle.std.specs.Prelude.{ℕ, ◌==◌, ◌≡◌, Bool, List, None, Option, Some, false, filter_map, if◌then◌else◌, max, nat_eq, option_and_then, option_map, true, unwrap_or}
+use Rattle.std.specs.Prelude.{ℕ, ◌≡◌, Bool, List, None, Option, Some, false, filter_map, if◌then◌else◌, max, nat_eq, option_and_then, option_map, true, unwrap_or}
 use Rattle.std.specs.List.{list_any}
 use Rattle.std.specs.Map.{lookup}
 use Rattle.std.specs.Option.{is_some, option_map_or}

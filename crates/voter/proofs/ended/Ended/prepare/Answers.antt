@@ -1,5 +1,4 @@
 use Rattle.std.proofs.Common.{◌∙◌, sym}
-use Rattle.voter.proofs.InSets.{then_ok}
 use Rattle.voter.proofs.Settling.{end_there, ended_prepared}
 use Rattle.voter.proofs.ended.Ended.prepare.Goals as goal
 

@@ -1,5 +1,4 @@
-use Rattle.std.proofs.Common.{◌≡◌, ◌∙◌, arith, subst, true}
-use Rattle.std.specs.List.{list_all}
+use Rattle.std.proofs.Common.{arith}
 use Rattle.note_scans.proofs.Countable.{ended_below}
 use Rattle.voter.proofs.tally.Tally.view.Goals as goal
 

@@ -1,5 +1,5 @@
-use Rattle.std.proofs.Common.{◌∙◌, Option, Some, ap, filter, not}
-use Rattle.cw_types.specs.Same.{same_proposal, same_vote}
+use Rattle.std.proofs.Common.{◌∙◌, Option, ap, filter, not}
+use Rattle.cw_types.specs.Same.{same_proposal}
 use Rattle.cw_types.specs.declared.vote.Proposal.{Proposal}
 use Rattle.cw_types.specs.declared.vote.Vote.{Vote}
 use Rattle.voter.specs.Facts.{said_at}
