@@ -2,6 +2,7 @@ pub mod Agreeing
 pub mod BestParent
 pub mod Candidates
 pub mod Certified
+pub mod FirstCerts
 pub mod Formed
 pub mod Heights
 pub mod InSets

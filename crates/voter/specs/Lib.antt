@@ -1,3 +1,4 @@
+pub mod Certs
 pub mod Facts
 pub mod Keys
 pub mod Kinds

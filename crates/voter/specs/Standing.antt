@@ -17,6 +17,7 @@ use Rattle.cw_rules.specs.Notes.{view_of}
 use Rattle.cw_rules.specs.Owed.{all_nullified, ballot_vote, is_row_at}
 use Rattle.cw_rules.specs.Rules.{Rules}
 use Rattle.note_scans.specs.Countable.{is_countable}
+use Rattle.voter.specs.Certs.{HasFirst}
 use Rattle.voter.specs.Facts.{HaveFacts}
 use Rattle.voter.specs.Known.{Known, is_own_at}
 use Rattle.voter.specs.Signing.{HaveSigners}
@@ -53,6 +54,7 @@ is_signed x (Many s) = are_signers x s.vote s.signers
 pub record IsTally (epochs : Epochs) (id : ℕ) (notes : List Note) (ballots : List Ballot)
     (came known : List (VoteKey × BTreeSet ℕ)) (said : List (VoteKey × Bool))
     (settled : List (VoteKey × Commitment)) (ended : List (ℕ × ℕ)) (epoch : ℕ)
+    (first : List (VoteKey × ℕ))
     (votes_came votes_noted : List Vote) (proposals_came proposals_noted : List Proposal)
     : Type 0 where
   pub countable : IsTrue (list_all is_countable notes)
@@ -60,6 +62,7 @@ pub record IsTally (epochs : Epochs) (id : ℕ) (notes : List Note) (ballots : L
   pub signed : IsTrue (list_all (is_signed epochs) ballots)
   pub signers : HaveSigners epochs id notes ballots came known
   pub facts : HaveFacts notes said settled ended epoch
+  pub places : HasFirst ballots first
   pub waiting : AreWaiting epochs id notes ballots votes_came votes_noted proposals_came
       proposals_noted
 

@@ -1,8 +1,9 @@
 //! Votes and certificates that came.
 
-ghost use Rattle.std.specs.Prelude.{◌≡◌};
+ghost use Rattle.std.specs.Prelude.{◌≡◌, ◌≤◌, drop, length, option_map, slice_get};
+ghost use Rattle.std.specs.List.{list_any};
 ghost use Rattle.cw_rules.specs.Accepted.{Many, Single, same_ballot};
-ghost use Rattle.voter.specs.Known.{ballot_signers, is_cert_for};
+ghost use Rattle.voter.specs.Known.{ballot_signers};
 
 use cw_types::{Cert, Vote};
 use std::marker::Model;
@@ -59,16 +60,6 @@ impl Ballot {
         }
     }
 
-    /// Whether it is a certificate of this vote.
-    pub(crate) fn is_cert_of(&self, vote: &Vote) -> bool
-        ensures { result ≡ is_cert_for vote.now self.now }
-    {
-        match &self.kind {
-            Kind::Single(_, _) => false,
-            Kind::Many(cert) => vote.is_same(&cert.vote),
-        }
-    }
-
     /// The signers of a certificate; none of a single vote.
     pub(crate) fn signers(&self) -> &[u16]
         ensures { result.now ≡ ballot_signers self.now }
@@ -78,4 +69,22 @@ impl Ballot {
             Kind::Many(cert) => cert.signers.as_slice(),
         }
     }
+}
+
+/// The one at a place.
+pub(crate) fn ballot_at(ballots: &[Ballot], place: usize) -> Option<&Ballot>
+    ensures { option_map (λ ballot. ballot.now) result ≡ slice_get ballots.now place }
+{
+    match ballots.get(place) {
+        Some(ballot) => Some(ballot),
+        None => None,
+    }
+}
+
+/// Whether one from a place on is this certificate.
+pub(crate) fn is_cert_from(ballots: &[Ballot], place: usize, cert: &Cert) -> bool
+    requires { place ≤ length ballots.now }
+    ensures { result ≡ list_any (same_ballot (Many cert.now)) (drop place ballots.now) }
+{
+    ballots[place..].iter().any(|ballot| ballot.is_cert(cert))
 }

@@ -16,7 +16,7 @@ ghost use Rattle.voter.specs.Known.{vote_rules};
 ghost use Rattle.voter.specs.Owing as owing;
 ghost use Rattle.voter.specs.Standing.{are_signers};
 
-use crate::ballot::Ballot;
+use crate::ballot::{Ballot, ballot_at};
 use crate::tally::Tally;
 use cw_base::{Digest32, Hasher, Items, NoMemory};
 use cw_types::{Cert, Vote};
@@ -99,7 +99,7 @@ impl<H> Tally<H> {
     fn has_arrived(&self, vote: &Vote) -> bool
         ensures { result ≡ is_some (find (is_cert_for vote.now) self.now.ballots) }
     {
-        self.first_cert(vote).is_some()
+        self.index.certs.place(vote).is_some()
     }
 
     // The first certificate of the vote that came.
@@ -107,10 +107,10 @@ impl<H> Tally<H> {
         ensures { option_map (λ ballot. ballot.now) result
             ≡ find (is_cert_for vote.now) self.now.ballots }
     {
-        self.ballots
-            .as_slice()
-            .iter()
-            .find(|ballot| ballot.is_cert_of(vote))
+        match self.index.certs.place(vote) {
+            Some(place) => ballot_at(self.ballots.as_slice(), place),
+            None => None,
+        }
     }
 
     // Whether enough members of its epoch are known to have signed the vote.

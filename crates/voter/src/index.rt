@@ -7,9 +7,11 @@ ghost use Rattle.cw_rules.specs.Owed.{is_single};
 ghost use Rattle.cw_types.specs.Epochs.{Epochs, is_member};
 ghost use Rattle.cw_types.specs.Votes.{vote_epoch};
 ghost use Rattle.cw_types.specs.declared.note.Note.{Note as NoteValue};
+ghost use Rattle.voter.specs.Certs.{HasFirst};
 ghost use Rattle.voter.specs.Facts.{HaveFacts};
 ghost use Rattle.voter.specs.Signing.{HaveSigners, counted_vote};
 
+use crate::cert_places::Certs;
 use crate::facts::Facts;
 use crate::signer_sets::SignerSets;
 use cw_base::NoMemory;
@@ -23,6 +25,7 @@ pub(crate) struct Index {
     pub(crate) came: SignerSets,
     pub(crate) known: SignerSets,
     pub(crate) facts: Facts,
+    pub(crate) certs: Certs,
 }
 
 impl Index {
@@ -33,11 +36,13 @@ impl Index {
         ensures facts { HaveFacts [] result.facts.said.by_key.entries
             result.facts.settled.by_key.entries result.facts.ended.by_epoch.entries
             result.facts.epoch }
+        ensures certs { HasFirst [] result.certs.first.entries }
     {
         Index {
             came: SignerSets::new(alloc),
             known: SignerSets::new(alloc),
             facts: Facts::new(alloc),
+            certs: Certs::new(alloc),
         }
     }
 
@@ -62,6 +67,7 @@ impl Index {
             → OnErr result (HaveSigners x id notes ballots self.new.came.by_vote.entries
             self.new.known.by_vote.entries) }
         ensures facts { self.new.facts ≡ self.old.facts }
+        ensures certs { self.new.certs ≡ self.old.certs }
     {
         self.came.add(vote, signer)?;
         if !counts {
@@ -108,6 +114,7 @@ impl Index {
             → OnErr result (HaveFacts notes self.new.facts.said.by_key.entries
             self.new.facts.settled.by_key.entries self.new.facts.ended.by_epoch.entries
             self.new.facts.epoch) }
+        ensures certs { self.new.certs ≡ self.old.certs }
     {
         self.facts.prepare(note)?;
         match counted {

@@ -3,10 +3,11 @@
 //! Each call is a function of what the tally was told. `tally_stands` and `parent_stands` say how
 //! its answers are those of the cluster rules. Who signed a vote, whether it has a certificate, and
 //! what notes say of proposals, views and epochs are one look-up each. What is owed is searched for
-//! among the votes and proposals that are not done alone. The other bodies scan plain lists.
+//! among the votes and proposals that are not done alone.
 #![tactic(auto)]
 
 mod ballot;
+mod cert_places;
 mod certs;
 mod ended;
 mod facts;

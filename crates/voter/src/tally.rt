@@ -11,7 +11,7 @@ ghost use Rattle.voter.specs.Known.{unknowing, with_ballot, with_note, with_own}
 ghost use Rattle.voter.specs.Signing.{counted_vote};
 ghost use Rattle.voter.specs.Standing.{are_signers};
 
-use crate::ballot::Ballot;
+use crate::ballot::{Ballot, is_cert_from};
 use crate::index::Index;
 use crate::own::OwnChunk;
 use crate::waiting::Waiting;
@@ -66,7 +66,7 @@ impl<H> Model for Tally<H> {
     ghost invariant = { λ t. IsTally t.committees t.id t.notes t.ballots
         t.index.came.by_vote.entries t.index.known.by_vote.entries
         t.index.facts.said.by_key.entries t.index.facts.settled.by_key.entries
-        t.index.facts.ended.by_epoch.entries t.index.facts.epoch
+        t.index.facts.ended.by_epoch.entries t.index.facts.epoch t.index.certs.first.entries
         t.waiting.votes_came.items t.waiting.votes_noted.items t.waiting.came.items
         t.waiting.noted.items };
 }
@@ -187,7 +187,12 @@ impl<H> Tally<H> {
         }
         let copy = cert.copy(self.alloc)?;
         self.waiting.reserve_came()?;
+        let len = self.ballots.len();
         self.ballots.push(Ballot::many(copy))?;
+        if let Err(NoMemory) = self.index.certs.take(&cert.vote, len) {
+            self.ballots.truncate(len);
+            return Err(NoMemory);
+        }
         let said = &self.index.facts.said;
         self.waiting
             .take_came(&cert.vote, said, &self.committees, self.id);
@@ -211,10 +216,10 @@ impl<H> Tally<H> {
     fn has_same_cert(&self, cert: &Cert) -> bool
         ensures { result ≡ list_any (same_ballot (Many cert.now)) self.now.ballots }
     {
-        self.ballots
-            .as_slice()
-            .iter()
-            .any(|ballot| ballot.is_cert(cert))
+        match self.index.certs.place(&cert.vote) {
+            Some(place) => is_cert_from(self.ballots.as_slice(), place, cert),
+            None => false,
+        }
     }
 
     /// The epoch that the member is in: the greatest that a note enters. Takes no memory.

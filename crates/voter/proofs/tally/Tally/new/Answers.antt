@@ -3,6 +3,7 @@ use Rattle.std.specs.List.{list_all}
 use Rattle.cw_types.specs.declared.note.Note.{Note}
 use Rattle.cw_rules.specs.Accepted.{Ballot}
 use Rattle.note_scans.specs.Countable.{is_countable}
+use Rattle.voter.specs.Certs.{HasFirst}
 use Rattle.voter.specs.Facts.{HaveFacts}
 use Rattle.voter.specs.Signing.{HaveSigners}
 use Rattle.voter.specs.Standing.{is_formed, is_signed}
@@ -31,6 +32,9 @@ invariant_of-result g c =
           c.new-4.result.facts.settled.by_key.entries
           c.new-4.result.facts.ended.by_epoch.entries c.new-4.result.facts.epoch)
           (sym c.new.ensures) c.new-4.ensures.facts;
+      places =
+          subst (λ (bs : List Ballot). HasFirst bs c.new-4.result.certs.first.entries)
+          (sym c.new-2.ensures) c.new-4.ensures.certs;
       waiting =
           subst
           (λ (ns : List Note). AreWaiting x c.args.id ns c.new-2.result

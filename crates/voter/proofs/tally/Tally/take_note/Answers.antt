@@ -2,10 +2,12 @@ use Rattle.std.proofs.Common.{◌≡◌, ◌++◌, ◌∙◌, ◌∷◌, [], Lis
 use Rattle.std.specs.List.{list_all}
 use Rattle.cw_types.specs.declared.note.Note.{Note}
 use Rattle.note_scans.specs.Countable.{is_countable}
+use Rattle.voter.specs.Certs.{HasFirst}
 use Rattle.voter.specs.Facts.{HaveFacts}
 use Rattle.voter.specs.Known.{Known}
 use Rattle.voter.specs.Signing.{HaveSigners, counted_vote}
 use Rattle.voter.specs.Waiting.{AreWaiting}
+use Rattle.voter.specs.declared.cert_places.Certs.{Certs}
 use Rattle.voter.proofs.Taking.{all_more, taken_back}
 use Rattle.voter.proofs.tally.Tally.take_note.Goals as goal
 
@@ -18,6 +20,9 @@ invariant_of-self-in-Err g c =
     let came = c.take_note.new.self.came.by_vote.entries in
     let known = c.take_note.new.self.known.by_vote.entries in
     let said = c.take_note.new.self.facts.said.by_key.entries in
+    let places =
+    subst (λ (f : Certs). HasFirst ballots f.first.entries) (sym c.take_note.ensures.certs)
+    c.self.invariant.places in
     let settled = c.take_note.new.self.facts.settled.by_key.entries in
     let ended = c.take_note.new.self.facts.ended.by_epoch.entries in
     let epoch = c.take_note.new.self.facts.epoch in
@@ -36,6 +41,7 @@ invariant_of-self-in-Err g c =
       facts =
           subst (λ (ns : List Note). HaveFacts ns said settled ended epoch) (sym back)
           (c.in-Err.ensures.refused notes c.self.invariant.facts);
+      places = places;
       waiting =
           subst
           (λ (ns : List Note). AreWaiting x id ns ballots
@@ -54,6 +60,9 @@ invariant_of-self-2 g c =
     let came = c.take_note.new.self.came.by_vote.entries in
     let known = c.take_note.new.self.known.by_vote.entries in
     let said = c.take_note.new.self.facts.said.by_key.entries in
+    let places =
+    subst (λ (f : Certs). HasFirst ballots f.first.entries) (sym c.take_note.ensures.certs)
+    c.self.invariant.places in
     let settled = c.take_note.new.self.facts.settled.by_key.entries in
     let ended = c.take_note.new.self.facts.ended.by_epoch.entries in
     let epoch = c.take_note.new.self.facts.epoch in
@@ -74,6 +83,7 @@ invariant_of-self-2 g c =
       facts =
           subst (λ (ns : List Note). HaveFacts ns said settled ended epoch) (sym more)
           (c.in_default.ensures.facts x notes c.self.invariant.facts counted);
+      places = places;
       waiting =
           subst
           (λ (ns : List Note). AreWaiting x id ns ballots

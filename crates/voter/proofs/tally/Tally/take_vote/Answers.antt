@@ -3,12 +3,15 @@ use Rattle.std.specs.List.{list_all, list_any}
 use Rattle.cw_types.specs.Epochs.{is_member}
 use Rattle.cw_rules.specs.Accepted.{Ballot, Single}
 use Rattle.cw_rules.specs.Owed.{is_single}
+use Rattle.voter.specs.Certs.{HasFirst}
 use Rattle.voter.specs.Facts.{HaveFacts}
 use Rattle.voter.specs.Known.{Known}
 use Rattle.voter.specs.Signing.{HaveSigners}
 use Rattle.voter.specs.Standing.{is_formed, is_signed}
 use Rattle.voter.specs.Waiting.{AreWaiting}
+use Rattle.voter.specs.declared.cert_places.Certs.{Certs}
 use Rattle.voter.specs.declared.facts.Facts.{Facts}
+use Rattle.voter.proofs.FirstCerts.{single_first}
 use Rattle.voter.proofs.Taking.{all_more, taken_back}
 use Rattle.voter.proofs.tally.Tally.take_vote.Goals as goal
 
@@ -43,6 +46,12 @@ invariant_of-self-in-Err g c =
           c.self.view_is
           ∙ (sym c.has_voted_so.ensures.vote ∙ c.if-has_voted_so.false)));
       facts = facts;
+      places =
+          subst (λ (f : Certs). HasFirst c.truncate.new.self f.first.entries)
+          (sym c.take_vote.ensures.certs)
+          (subst
+          (λ (bs : List Ballot). HasFirst bs c.self.inside.index.certs.first.entries) (sym back)
+          c.self.invariant.places);
       waiting =
           subst
           (λ (bs : List Ballot). AreWaiting x id notes bs
@@ -83,6 +92,13 @@ invariant_of-self-2 g c =
           (c.is_member-counts.ensures
           ∙ ap (λ (e : ℕ). is_member x e c.args.signer) c.epoch.ensures));
       facts = facts;
+      places =
+          subst (λ (f : Certs). HasFirst c.push.new.self f.first.entries)
+          (sym c.take_vote.ensures.certs)
+          (subst
+          (λ (bs : List Ballot). HasFirst bs c.self.inside.index.certs.first.entries) (sym more)
+          (single_first ballots c.args.signer c.args.vote.now
+          c.self.inside.index.certs.first.entries c.self.invariant.places));
       waiting =
           subst
           (λ (bs : List Ballot). AreWaiting x id notes bs
