@@ -11,6 +11,7 @@ pub mod Keys
 pub mod KnownSigners
 pub mod Lists
 pub mod Once
+pub mod OwnKeys
 pub mod Rising
 pub mod Saying
 pub mod Settling

@@ -4,6 +4,7 @@ pub mod Keys
 pub mod Kinds
 pub mod Known
 pub mod Owing
+pub mod Own
 pub mod Sets
 pub mod Signing
 pub mod Standing

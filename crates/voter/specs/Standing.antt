@@ -20,9 +20,11 @@ use Rattle.note_scans.specs.Countable.{is_countable}
 use Rattle.voter.specs.Certs.{HasFirst}
 use Rattle.voter.specs.Facts.{HaveFacts}
 use Rattle.voter.specs.Known.{Known, is_own_at}
+use Rattle.voter.specs.Own.{HasOwn}
 use Rattle.voter.specs.Signing.{HaveSigners}
 use Rattle.voter.specs.Waiting.{AreWaiting}
 use Rattle.voter.specs.declared.key.VoteKey.{VoteKey}
+use Rattle.voter.specs.declared.own.OwnChunk.{OwnChunk}
 
 -- the tally has the member's committees, its notes, the votes and certificates that came to it, and
 -- those chunks that came and stand at its place of some epoch
@@ -54,7 +56,7 @@ is_signed x (Many s) = are_signers x s.vote s.signers
 pub record IsTally (epochs : Epochs) (id : ℕ) (notes : List Note) (ballots : List Ballot)
     (came known : List (VoteKey × BTreeSet ℕ)) (said : List (VoteKey × Bool))
     (settled : List (VoteKey × Commitment)) (ended : List (ℕ × ℕ)) (epoch : ℕ)
-    (first : List (VoteKey × ℕ))
+    (first : List (VoteKey × ℕ)) (own : List OwnChunk) (own_keys : List (VoteKey × Bool))
     (votes_came votes_noted : List Vote) (proposals_came proposals_noted : List Proposal)
     : Type 0 where
   pub countable : IsTrue (list_all is_countable notes)
@@ -63,6 +65,7 @@ pub record IsTally (epochs : Epochs) (id : ℕ) (notes : List Note) (ballots : L
   pub signers : HaveSigners epochs id notes ballots came known
   pub facts : HaveFacts notes said settled ended epoch
   pub places : HasFirst ballots first
+  pub owned : HasOwn own own_keys
   pub waiting : AreWaiting epochs id notes ballots votes_came votes_noted proposals_came
       proposals_noted
 

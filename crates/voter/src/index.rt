@@ -9,10 +9,12 @@ ghost use Rattle.cw_types.specs.Votes.{vote_epoch};
 ghost use Rattle.cw_types.specs.declared.note.Note.{Note as NoteValue};
 ghost use Rattle.voter.specs.Certs.{HasFirst};
 ghost use Rattle.voter.specs.Facts.{HaveFacts};
+ghost use Rattle.voter.specs.Own.{HasOwn};
 ghost use Rattle.voter.specs.Signing.{HaveSigners, counted_vote};
 
 use crate::cert_places::Certs;
 use crate::facts::Facts;
+use crate::own_keys::OwnKeys;
 use crate::signer_sets::SignerSets;
 use cw_base::NoMemory;
 use cw_types::{Note, Vote};
@@ -26,6 +28,7 @@ pub(crate) struct Index {
     pub(crate) known: SignerSets,
     pub(crate) facts: Facts,
     pub(crate) certs: Certs,
+    pub(crate) own: OwnKeys,
 }
 
 impl Index {
@@ -37,12 +40,14 @@ impl Index {
             result.facts.settled.by_key.entries result.facts.ended.by_epoch.entries
             result.facts.epoch }
         ensures certs { HasFirst [] result.certs.first.entries }
+        ensures own { HasOwn [] result.own.by_key.entries }
     {
         Index {
             came: SignerSets::new(alloc),
             known: SignerSets::new(alloc),
             facts: Facts::new(alloc),
             certs: Certs::new(alloc),
+            own: OwnKeys::new(alloc),
         }
     }
 
@@ -68,6 +73,7 @@ impl Index {
             self.new.known.by_vote.entries) }
         ensures facts { self.new.facts ≡ self.old.facts }
         ensures certs { self.new.certs ≡ self.old.certs }
+        ensures own { self.new.own ≡ self.old.own }
     {
         self.came.add(vote, signer)?;
         if !counts {
@@ -115,6 +121,7 @@ impl Index {
             self.new.facts.settled.by_key.entries self.new.facts.ended.by_epoch.entries
             self.new.facts.epoch) }
         ensures certs { self.new.certs ≡ self.old.certs }
+        ensures own { self.new.own ≡ self.old.own }
     {
         self.facts.prepare(note)?;
         match counted {

@@ -1,9 +1,11 @@
 //! What a member knows of votes and certificates, and what it owes by it: the tally.
 //!
 //! Each call is a function of what the tally was told. `tally_stands` and `parent_stands` say how
-//! its answers are those of the cluster rules. Who signed a vote, whether it has a certificate, and
-//! what notes say of proposals, views and epochs are one look-up each. What is owed is searched for
-//! among the votes and proposals that are not done alone.
+//! its answers are those of the cluster rules. Who signed a vote, which certificates and chunks came
+//! and what notes say of votes, proposals, views and epochs are looked up by key. What is owed is
+//! searched for among the votes and proposals of which something can still be owed; so a call costs
+//! the same however much came and was noted. Only for a proposal that is the last block of its epoch
+//! again are the notes searched.
 #![tactic(auto)]
 
 mod ballot;
@@ -16,6 +18,7 @@ mod key;
 mod laws;
 mod maps;
 mod own;
+mod own_keys;
 mod parents;
 mod proposals;
 mod said;

@@ -67,6 +67,7 @@ impl<H> Model for Tally<H> {
         t.index.came.by_vote.entries t.index.known.by_vote.entries
         t.index.facts.said.by_key.entries t.index.facts.settled.by_key.entries
         t.index.facts.ended.by_epoch.entries t.index.facts.epoch t.index.certs.first.entries
+        t.own t.index.own.by_key.entries
         t.waiting.votes_came.items t.waiting.votes_noted.items t.waiting.came.items
         t.waiting.noted.items };
 }
@@ -205,10 +206,15 @@ impl<H> Tally<H> {
         ensures ok { OnOk result (self.new ≡ with_own self.old commitment.now index) }
         ensures err { OnErr result (self.new ≡ self.old) }
     {
+        let len = self.own.len();
         self.own.push(OwnChunk {
             commitment: *commitment,
             index,
         })?;
+        if let Err(NoMemory) = self.index.own.take(commitment, index) {
+            self.own.truncate(len);
+            return Err(NoMemory);
+        }
         Ok(())
     }
 

@@ -68,8 +68,7 @@ impl<H> Tally<H> {
     fn has_own_at(&self, index: u16, commitment: &Commitment) -> bool
         ensures { result ≡ list_any (is_own_at index commitment.now) self.now.own }
     {
-        self.own.as_slice().iter().any(|own| commitment.is_same(&own.commitment)
-            && own.index == index)
+        self.index.own.has(index, commitment)
     }
 
     // Whether the chunk of the proposal's payload at the member's own place came.

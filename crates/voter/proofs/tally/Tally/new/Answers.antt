@@ -5,9 +5,11 @@ use Rattle.cw_rules.specs.Accepted.{Ballot}
 use Rattle.note_scans.specs.Countable.{is_countable}
 use Rattle.voter.specs.Certs.{HasFirst}
 use Rattle.voter.specs.Facts.{HaveFacts}
+use Rattle.voter.specs.Own.{HasOwn}
 use Rattle.voter.specs.Signing.{HaveSigners}
 use Rattle.voter.specs.Standing.{is_formed, is_signed}
 use Rattle.voter.specs.Waiting.{AreWaiting}
+use Rattle.voter.specs.declared.own.OwnChunk.{OwnChunk}
 use Rattle.voter.proofs.tally.Tally.new.Goals as goal
 
 pub invariant_of-result : goal.invariant_of-result
@@ -35,6 +37,9 @@ invariant_of-result g c =
       places =
           subst (λ (bs : List Ballot). HasFirst bs c.new-4.result.certs.first.entries)
           (sym c.new-2.ensures) c.new-4.ensures.certs;
+      owned =
+          subst (λ (os : List OwnChunk). HasOwn os c.new-4.result.own.by_key.entries)
+          (sym c.new-3.ensures) c.new-4.ensures.own;
       waiting =
           subst
           (λ (ns : List Note). AreWaiting x c.args.id ns c.new-2.result

@@ -43,6 +43,7 @@ invariant_of-self-2 g c =
           subst (λ (bs : List Ballot). HasFirst bs c.take.new.self.first.entries) (sym more)
           (c.in_default.ensures.ok ballots c.args.cert.now c.self.invariant.places
           c.len-len.ensures refl);
+      owned = c.self.invariant.owned;
       waiting =
           subst
           (λ (bs : List Ballot). AreWaiting x id notes bs
@@ -81,6 +82,7 @@ invariant_of-self-in-Err g c =
           subst (λ (bs : List Ballot). HasFirst bs c.take.new.self.first.entries) (sym back)
           (subst (λ (es : List (VoteKey × ℕ)). HasFirst ballots es) (sym c.in-Err.ensures.err)
           c.self.invariant.places);
+      owned = c.self.invariant.owned;
       waiting =
           subst
           (λ (bs : List Ballot). AreWaiting x id notes bs

@@ -5,9 +5,11 @@ use Rattle.note_scans.specs.Countable.{is_countable}
 use Rattle.voter.specs.Certs.{HasFirst}
 use Rattle.voter.specs.Facts.{HaveFacts}
 use Rattle.voter.specs.Known.{Known}
+use Rattle.voter.specs.Own.{HasOwn}
 use Rattle.voter.specs.Signing.{HaveSigners, counted_vote}
 use Rattle.voter.specs.Waiting.{AreWaiting}
 use Rattle.voter.specs.declared.cert_places.Certs.{Certs}
+use Rattle.voter.specs.declared.own_keys.OwnKeys.{OwnKeys}
 use Rattle.voter.proofs.Taking.{all_more, taken_back}
 use Rattle.voter.proofs.tally.Tally.take_note.Goals as goal
 
@@ -42,6 +44,9 @@ invariant_of-self-in-Err g c =
           subst (λ (ns : List Note). HaveFacts ns said settled ended epoch) (sym back)
           (c.in-Err.ensures.refused notes c.self.invariant.facts);
       places = places;
+      owned =
+          subst (λ (o : OwnKeys). HasOwn c.self.inside.own o.by_key.entries)
+          (sym c.take_note.ensures.own) c.self.invariant.owned;
       waiting =
           subst
           (λ (ns : List Note). AreWaiting x id ns ballots
@@ -84,6 +89,9 @@ invariant_of-self-2 g c =
           subst (λ (ns : List Note). HaveFacts ns said settled ended epoch) (sym more)
           (c.in_default.ensures.facts x notes c.self.invariant.facts counted);
       places = places;
+      owned =
+          subst (λ (o : OwnKeys). HasOwn c.self.inside.own o.by_key.entries)
+          (sym c.take_note.ensures.own) c.self.invariant.owned;
       waiting =
           subst
           (λ (ns : List Note). AreWaiting x id ns ballots

@@ -6,12 +6,14 @@ use Rattle.cw_rules.specs.Owed.{is_single}
 use Rattle.voter.specs.Certs.{HasFirst}
 use Rattle.voter.specs.Facts.{HaveFacts}
 use Rattle.voter.specs.Known.{Known}
+use Rattle.voter.specs.Own.{HasOwn}
 use Rattle.voter.specs.Signing.{HaveSigners}
 use Rattle.voter.specs.Standing.{is_formed, is_signed}
 use Rattle.voter.specs.Waiting.{AreWaiting}
 use Rattle.voter.specs.declared.cert_places.Certs.{Certs}
 use Rattle.voter.specs.declared.facts.Facts.{Facts}
 use Rattle.voter.proofs.FirstCerts.{single_first}
+use Rattle.voter.specs.declared.own_keys.OwnKeys.{OwnKeys}
 use Rattle.voter.proofs.Taking.{all_more, taken_back}
 use Rattle.voter.proofs.tally.Tally.take_vote.Goals as goal
 
@@ -52,6 +54,9 @@ invariant_of-self-in-Err g c =
           (subst
           (λ (bs : List Ballot). HasFirst bs c.self.inside.index.certs.first.entries) (sym back)
           c.self.invariant.places);
+      owned =
+          subst (λ (o : OwnKeys). HasOwn c.self.inside.own o.by_key.entries)
+          (sym c.take_vote.ensures.own) c.self.invariant.owned;
       waiting =
           subst
           (λ (bs : List Ballot). AreWaiting x id notes bs
@@ -99,6 +104,9 @@ invariant_of-self-2 g c =
           (λ (bs : List Ballot). HasFirst bs c.self.inside.index.certs.first.entries) (sym more)
           (single_first ballots c.args.signer c.args.vote.now
           c.self.inside.index.certs.first.entries c.self.invariant.places));
+      owned =
+          subst (λ (o : OwnKeys). HasOwn c.self.inside.own o.by_key.entries)
+          (sym c.take_vote.ensures.own) c.self.invariant.owned;
       waiting =
           subst
           (λ (bs : List Ballot). AreWaiting x id notes bs
