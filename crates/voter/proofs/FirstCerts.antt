@@ -1,5 +1,5 @@
 -- Where the first certificate of a vote stands, and what it tells.
-use Rattle.std.proofs.Common.{◌≡◌, ℕ, suc, ◌+◌, ◌-◌, ◌<◌, ◌≤◌, ◌||◌, Bool, true, false, cond, if◌then◌else◌, refl, sym, ◌∙◌, ap, arith, List, [], ◌∷◌, ◌++◌, drop, length, Option, Some, None, slice_get}
+use Rattle.std.proofs.Common.{◌≡◌, ℕ, suc, ◌+◌, ◌-◌, ◌<◌, ◌≤◌, ◌||◌, Bool, true, false, cond, if◌then◌else◌, refl, sym, ◌∙◌, ap, arith, List, [], ◌∷◌, ◌++◌, drop, length, Some, None, slice_get}
 use Rattle.std.specs.List.{find, list_any, position_from}
 use Rattle.std.specs.Map.{lookup}
 use Rattle.std.specs.Option.{is_some, option_or}
@@ -14,10 +14,7 @@ use Rattle.voter.specs.Known.{is_cert_for}
 use Rattle.voter.specs.declared.key.VoteKey.{VoteKey}
 use Rattle.voter.proofs.Keys.{keys_of_same}
 use Rattle.voter.proofs.Saying.{PutFirst, first_put}
-
-or_none : {X : Type 0} (o : Option X) → option_or o None ≡ o
-or_none None = refl
-or_none (Some x) = refl
+use Rattle.voter.proofs.Settling.{or_none}
 
 module _ {X : Type 0} (p : X → Bool) where
   -- one more at the end
@@ -29,7 +26,8 @@ module _ {X : Type 0} (p : X → Bool) where
     where
       go : (b : Bool)
           → position_from p (i + 1) (ys ++ x ∷ [])
-          ≡ option_or (position_from p (i + 1) ys) (if p x then Some ((i + 1) + length ys) else None)
+          ≡ option_or (position_from p (i + 1) ys)
+          (if p x then Some ((i + 1) + length ys) else None)
           → cond b (Some i) (position_from p (i + 1) (ys ++ x ∷ []))
           ≡ option_or (cond b (Some i) (position_from p (i + 1) ys))
           (if p x then Some (i + length (y ∷ ys)) else None)

@@ -8,6 +8,10 @@ use Rattle.std.proofs.lemmas.List.Folds.{find-append, list_any-append}
 use Rattle.std.proofs.Math.Seq.{take-append_seam}
 use Rattle.voter.specs.Waiting.{once, undone, with_named, with_new}
 
+pub append_nil : {X : Type 0} (ys : List X) → ys ++ [] ≡ ys
+append_nil [] = refl
+append_nil (y ∷ ys) = ap (λ zs. y ∷ zs) (append_nil ys)
+
 -- ---- filters
 
 module _ {X : Type 0} where
@@ -237,10 +241,6 @@ module _ {X : Type 0} (same : X → X → Bool) (is : (a b : X) → same a b ≡
       (go (done x) (list_any (same x) (undone same done xs)) refl refl h)
       ∙ append_nil (undone same done xs))
     where
-      append_nil : (ys : List X) → ys ++ [] ≡ ys
-      append_nil [] = refl
-      append_nil (y ∷ ys) = ap (λ zs. y ∷ zs) (append_nil ys)
-
       none : (b : Bool) → (b && not true) ≡ false
       none true = refl
       none false = refl
@@ -292,10 +292,6 @@ module _ {X : Type 0} (same : X → X → Bool) (is : (a b : X) → same a b ≡
     where
       was : List X
       was = undone same done xs
-
-      append_nil : (ys : List X) → ys ++ [] ≡ ys
-      append_nil [] = refl
-      append_nil (y ∷ ys) = ap (λ zs. y ∷ zs) (append_nil ys)
 
       less : filter (λ y. not (now y)) was ≡ undone same now xs
       less = undone_less done now h xs
@@ -351,10 +347,6 @@ module _ {X : Type 0} (same : X → X → Bool) (is : (a b : X) → same a b ≡
   taken_named done now h old xs None e =
       ap (filter (λ y. not (now y))) e
       ∙ (undone_less done now h xs ∙ ap (undone same now) (sym (append_nil xs)))
-    where
-      append_nil : (ys : List X) → ys ++ [] ≡ ys
-      append_nil [] = refl
-      append_nil (y ∷ ys) = ap (λ zs. y ∷ zs) (append_nil ys)
   taken_named done now h old xs (Some x) e = taken done now h old xs x e
 
   -- ---- two lists behind one another

@@ -14,7 +14,7 @@ use Rattle.voter.specs.Own.{HasOwn, is_keyed, own_key}
 use Rattle.voter.specs.declared.key.VoteKey.{VoteKey}
 use Rattle.voter.specs.declared.own.OwnChunk.{OwnChunk}
 use Rattle.voter.proofs.Keys.{found_key, key_cmp}
-use Rattle.voter.proofs.Saying.{PutFirst, first_put}
+use Rattle.voter.proofs.Saying.{PutFirst, any_same, first_put}
 
 or_false : (b : Bool) → (b || false) ≡ b
 or_false true = refl
@@ -41,11 +41,6 @@ own_with own x c at k old new has e f key puts q =
     go None true = refl
     go None false = refl
     go (Some v) b = refl
-
-any_same : {X : Type 0} (p q : X → Bool) → ((x : X) → p x ≡ q x) → (xs : List X)
-    → list_any p xs ≡ list_any q xs
-any_same p q e [] = refl
-any_same p q e (x ∷ xs) = ap (λ b. b || list_any p xs) (e x) ∙ ap (λ b. q x || b) (any_same p q e xs)
 
 -- in the words of what is asked
 pub own_told : (own : List OwnChunk) (c : Commitment) (at : ℕ) (k : VoteKey)

@@ -130,10 +130,11 @@ said_same es notes note has none q =
 
 -- ---- in the words of the rules
 
-any_same : {X : Type 0} (p q : X → Bool) → ((x : X) → p x ≡ q x) → (xs : List X)
+pub any_same : {X : Type 0} (p q : X → Bool) → ((x : X) → p x ≡ q x) → (xs : List X)
     → list_any p xs ≡ list_any q xs
 any_same p q e [] = refl
-any_same p q e (x ∷ xs) = ap (λ b. b || list_any p xs) (e x) ∙ ap (λ b. q x || b) (any_same p q e xs)
+any_same p q e (x ∷ xs) =
+    ap (λ b. b || list_any p xs) (e x) ∙ ap (λ b. q x || b) (any_same p q e xs)
 
 any_or : {X : Type 0} (p q r : X → Bool) → ((x : X) → (p x || q x) ≡ r x) → (xs : List X)
     → (list_any p xs || list_any q xs) ≡ list_any r xs

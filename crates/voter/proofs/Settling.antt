@@ -21,7 +21,7 @@ use Rattle.voter.specs.Keys.{in_view, same_key}
 use Rattle.voter.specs.declared.key.VoteKey.{VoteKey}
 use Rattle.voter.proofs.Saying.{PutFirst, first_put, same_view, some_there}
 
-or_none : {X : Type 0} (o : Option X) → option_or o None ≡ o
+pub or_none : {X : Type 0} (o : Option X) → option_or o None ≡ o
 or_none None = refl
 or_none (Some x) = refl
 
@@ -74,7 +74,8 @@ settled_view epoch view (note ∷ notes) = go note (settled_view epoch view note
     put : (p : Proposal)
         → rest ≡ option_map (λ (p : Proposal). p.payload) (settler notes epoch view)
         → option_or
-        (if same_key (in_view 6 epoch view) (in_view 6 p.epoch p.view) then Some p.payload else None)
+        (if same_key (in_view 6 epoch view) (in_view 6 p.epoch p.view) then Some p.payload
+        else None)
         rest
         ≡ option_map (λ (p : Proposal). p.payload)
         (if (p.epoch == epoch) && (p.view == view) then Some p else settler notes epoch view)
@@ -93,7 +94,8 @@ settled_view epoch view (note ∷ notes) = go note (settled_view epoch view note
         → rest ≡ option_map (λ (p : Proposal). p.payload) (settler notes epoch view)
         → option_or
         (option_and_then
-        (λ (e : VoteKey × Commitment). if same_key (in_view 6 epoch view) e.0 then Some e.1 else None)
+        (λ (e : VoteKey × Commitment). if same_key (in_view 6 epoch view) e.0 then Some e.1
+        else None)
         (option_map settled_by (finalized v))) rest
         ≡ option_map (λ (p : Proposal). p.payload)
         (find (λ (p : Proposal). (p.epoch == epoch) && (p.view == view))

@@ -25,7 +25,7 @@ use Rattle.voter.specs.Owing.{is_uncertified, owes_finalize, owes_notarize}
 use Rattle.voter.specs.Waiting.{AreWaiting, is_done, is_done_by, is_uncertified_by, undone, with_named}
 use Rattle.voter.specs.declared.key.VoteKey.{VoteKey}
 use Rattle.voter.proofs.Certified.{cert_where}
-use Rattle.voter.proofs.Once.{filter_same_test, taken_named}
+use Rattle.voter.proofs.Once.{append_nil, filter_same_test, taken_named}
 use Rattle.voter.proofs.Saying.{said_cert, said_certified, said_closed}
 use Rattle.voter.proofs.Voted.{finalize_where, notarize_where}
 
@@ -226,10 +226,6 @@ module _ (x : Epochs) (id : ℕ) (notes : List Note) (said : List (VoteKey × Bo
       (λ p. ap not (done_by p)) (with_named same_proposal old o)
       ∙ taken_named same_proposal same_proposal-true (is_done x id was) (is_done x id notes) h old
       xs o e)
-
-append_nil : {X : Type 0} (ys : List X) → ys ++ [] ≡ ys
-append_nil [] = refl
-append_nil (y ∷ ys) = ap (λ zs. y ∷ zs) (append_nil ys)
 
 map_more : {X Y : Type 0} (f : X → Y) (xs : List X) (x : X)
     → map f (xs ++ x ∷ []) ≡ map f xs ++ f x ∷ []

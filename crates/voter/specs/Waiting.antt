@@ -32,7 +32,7 @@ abbrev pub with_named : {X : Type 0} → (X → X → Bool) → List X → Optio
 with_named same xs None = xs
 with_named same xs (Some x) = with_new same xs x
 
--- the proposal is certified, and a vote of the member's to finalize it isn't owed: nothing is owed of
+-- the proposal is certified, and no vote of the member's to finalize it is owed: nothing is owed of
 -- it any more
 abbrev pub is_done : Epochs → ℕ → List Note → Proposal → Bool
 is_done x id notes p =

@@ -1,11 +1,11 @@
 //! What a member knows of votes and certificates, and what it owes by it: the tally.
 //!
 //! Each call is a function of what the tally was told. `tally_stands` and `parent_stands` say how
-//! its answers are those of the cluster rules. Who signed a vote, which certificates and chunks came
-//! and what notes say of votes, proposals, views and epochs are looked up by key. What is owed is
-//! searched for among the votes and proposals of which something can still be owed; so a call costs
-//! the same however much came and was noted. Only for a proposal that is the last block of its epoch
-//! again are the notes searched.
+//! its answers are those of the cluster rules. Who signed a vote, which certificates and chunks
+//! came and what notes say of votes, proposals, views and epochs are looked up by key. What is owed
+//! is searched for among the votes without a noted certificate and the proposals that aren't done
+//! alone. So a call costs the same however much came, was noted and is done. Only for a proposal
+//! that is the last block of its epoch again are the notes searched.
 #![tactic(auto)]
 
 mod ballot;

@@ -109,7 +109,8 @@ impl Waiting {
 
     /// Makes room for one of each more by what comes.
     pub(crate) fn reserve_came(&mut self) -> Result<(), NoMemory>
-        ensures votes { OnOk result (vec_len self.new.votes_came < vec_capacity self.new.votes_came) }
+        ensures votes { OnOk result
+            (vec_len self.new.votes_came < vec_capacity self.new.votes_came) }
         ensures proposals { OnOk result (vec_len self.new.came < vec_capacity self.new.came) }
         ensures waiting { (x : Epochs) (id : ℕ) (notes : List NoteValue)
             (ballots : List BallotValue)

@@ -9,7 +9,9 @@ pub returns-clause-ok : goal.returns-clause-ok
 returns-clause-ok c = λ notes have said ended. record {
   saying = c.write.ensures.said notes have.saying said;
   settling =
-      subst (λ (es : List (VoteKey × Commitment)). HasSettled (notes ++ c.args.note.now ∷ []) es) (sym c.write.ensures.settled)
+      subst
+      (λ (es : List (VoteKey × Commitment)). HasSettled (notes ++ c.args.note.now ∷ []) es)
+      (sym c.write.ensures.settled)
       (c.in_ok-take.ensures.ok notes have.settling);
   ending_views = c.write.ensures.ended notes have.ending_views ended;
   entering =

@@ -9,8 +9,11 @@ pub returns : goal.returns
 returns c = λ notes have said ended none. record {
   saying = c.write.ensures.said notes have.saying said;
   settling =
-      subst (λ (es : List (VoteKey × Commitment)). HasSettled (notes ++ c.args.note.now ∷ []) es) (sym c.write.ensures.settled)
-      (settled_same c.args.self.now.settled.by_key.entries notes c.args.note.now have.settling none);
+      subst
+      (λ (es : List (VoteKey × Commitment)). HasSettled (notes ++ c.args.note.now ∷ []) es)
+      (sym c.write.ensures.settled)
+      (settled_same c.args.self.now.settled.by_key.entries notes c.args.note.now have.settling
+      none);
   ending_views = c.write.ensures.ended notes have.ending_views ended;
   entering =
       epoch_more c.args.self.now.epoch c.write.new.self.epoch notes c.args.note.now have.entering

@@ -13,7 +13,9 @@ returns-in-Some g c =
     (subst (λ (k : Known). HasFirst k.ballots c.self.inside.index.certs.first.entries)
     c.self.view_is c.self.invariant.places) in
     c.is_cert_from.ensures
-    ∙ (ap (λ (bs : List Ballot). list_any (same_ballot (Many c.args.cert.now)) (drop c.in-Some.place bs))
+    ∙ (ap
+    (λ (bs : List Ballot). list_any (same_ballot (Many c.args.cert.now))
+    (drop c.in-Some.place bs))
     (c.as_slice.ensures ∙ ap (λ (k : Known). k.ballots) c.self.view_is)
     ∙ same_any c.args.self.now.ballots c.args.cert.now c.in-Some.place (sym told ∙ c.in-Some.is))
 

@@ -16,7 +16,8 @@ returns c = λ notes ballots x has are is.
     c.args.self.now.votes_came.items c.args.self.now.votes_noted.items
     c.drop_votes.new.list.items pc c.args.self.now.noted.items c.drop_proposals.new.list.items has
     are is
-    (c.drop_votes.ensures ∙ ap (filter (λ (v : Vote). not (said_at (key_of v) said))) c.put_vote.ensures)
+    (c.drop_votes.ensures
+    ∙ ap (filter (λ (v : Vote). not (said_at (key_of v) said))) c.put_vote.ensures)
     (c.drop_proposals.ensures
     ∙ ap (filter (λ (p : Proposal). not (is_done_by c.args.committees.now c.args.id said p)))
     (c.put_proposal.ensures
