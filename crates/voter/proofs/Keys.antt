@@ -55,6 +55,9 @@ keys_tie a b =
 pub same_key_symm : (a b : VoteKey) → same_key a b ≡ same_key b a
 same_key_symm a b = keys_tie a b ∙ ((eq_by_cmp_equiv key_total).symm a b ∙ sym (keys_tie b a))
 
+pub same_key_self : (k : VoteKey) → same_key k k ≡ true
+same_key_self k = keys_tie k k ∙ (eq_by_cmp_equiv key_total).refl k
+
 pub same_key-true : (a b : VoteKey) → same_key a b ≡ true → a ≡ b
 same_key-true a b h =
     let p = and_parts (a.kind == b.kind) _ h in

@@ -2,6 +2,7 @@ pub mod Agreeing
 pub mod BestParent
 pub mod Candidates
 pub mod Certified
+pub mod FirstCerts
 pub mod Formed
 pub mod Heights
 pub mod InSets
@@ -9,10 +10,14 @@ pub mod Kept
 pub mod Keys
 pub mod KnownSigners
 pub mod Lists
-pub mod Places
+pub mod Once
+pub mod OwnKeys
 pub mod Rising
+pub mod Saying
+pub mod Settling
 pub mod Signers
 pub mod Signing
 pub mod StepDown
 pub mod Taking
+pub mod Undone
 pub mod Voted

@@ -26,11 +26,15 @@ keyed kind p = record {
   payload = p.payload;
 }
 
+-- that of a view of an epoch, of which it says something of this kind
+abbrev pub in_view : ℕ → ℕ → ℕ → VoteKey
+in_view kind epoch view =
+    record { kind = kind; epoch = epoch; view = view; parent = 0; payload = no_payload }
+
 -- that of a vote
 abbrev pub key_of : Vote → VoteKey
 key_of (Notarize p) = keyed 0 p
-key_of (Nullify epoch view) =
-    record { kind = 1; epoch = epoch; view = view; parent = 0; payload = no_payload }
+key_of (Nullify epoch view) = in_view 1 epoch view
 key_of (Finalize p) = keyed 2 p
 
 -- the keys of one vote

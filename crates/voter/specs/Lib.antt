@@ -1,7 +1,11 @@
+pub mod Certs
+pub mod Facts
 pub mod Keys
 pub mod Kinds
 pub mod Known
 pub mod Owing
+pub mod Own
 pub mod Sets
 pub mod Signing
 pub mod Standing
+pub mod Waiting

@@ -9,6 +9,7 @@ use Rattle.cw_types.specs.Epochs.{Epochs, is_member, place, rises_from}
 use Rattle.cw_types.specs.Votes.{vote_epoch, well_formed}
 use Rattle.cw_types.specs.declared.commitment.Commitment.{Commitment}
 use Rattle.cw_types.specs.declared.note.Note.{Note}
+use Rattle.cw_types.specs.declared.vote.Proposal.{Proposal}
 use Rattle.cw_types.specs.declared.vote.Vote.{Vote}
 use Rattle.cw_rules.specs.Accepted.{Ballot, Came, Many, Single, State}
 use Rattle.cw_rules.specs.Direct.{best_parent}
@@ -16,9 +17,14 @@ use Rattle.cw_rules.specs.Notes.{view_of}
 use Rattle.cw_rules.specs.Owed.{all_nullified, ballot_vote, is_row_at}
 use Rattle.cw_rules.specs.Rules.{Rules}
 use Rattle.note_scans.specs.Countable.{is_countable}
+use Rattle.voter.specs.Certs.{HasFirst}
+use Rattle.voter.specs.Facts.{HaveFacts}
 use Rattle.voter.specs.Known.{Known, is_own_at}
+use Rattle.voter.specs.Own.{HasOwn}
 use Rattle.voter.specs.Signing.{HaveSigners}
+use Rattle.voter.specs.Waiting.{AreWaiting}
 use Rattle.voter.specs.declared.key.VoteKey.{VoteKey}
+use Rattle.voter.specs.declared.own.OwnChunk.{OwnChunk}
 
 -- the tally has the member's committees, its notes, the votes and certificates that came to it, and
 -- those chunks that came and stand at its place of some epoch
@@ -45,13 +51,23 @@ abbrev pub is_signed : Epochs → Ballot → Bool
 is_signed x (Single i v) = true
 is_signed x (Many s) = are_signers x s.vote s.signers
 
--- what a tally holds may be counted, and its sets are those of the signers
+-- what a tally holds may be counted, its sets are those of the signers, its maps say what the notes
+-- say, and its lists have what isn't done
 pub record IsTally (epochs : Epochs) (id : ℕ) (notes : List Note) (ballots : List Ballot)
-    (came known : List (VoteKey × BTreeSet ℕ)) : Type 0 where
+    (came known : List (VoteKey × BTreeSet ℕ)) (said : List (VoteKey × Bool))
+    (settled : List (VoteKey × Commitment)) (ended : List (ℕ × ℕ)) (epoch : ℕ)
+    (first : List (VoteKey × ℕ)) (own : List OwnChunk) (own_keys : List (VoteKey × Bool))
+    (votes_came votes_noted : List Vote) (proposals_came proposals_noted : List Proposal)
+    : Type 0 where
   pub countable : IsTrue (list_all is_countable notes)
   pub formed : IsTrue (list_all is_formed ballots)
   pub signed : IsTrue (list_all (is_signed epochs) ballots)
   pub signers : HaveSigners epochs id notes ballots came known
+  pub facts : HaveFacts notes said settled ended epoch
+  pub places : HasFirst ballots first
+  pub owned : HasOwn own own_keys
+  pub waiting : AreWaiting epochs id notes ballots votes_came votes_noted proposals_came
+      proposals_noted
 
 -- the member once that came
 abbrev pub with_came : State → Came → State

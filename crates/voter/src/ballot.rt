@@ -1,13 +1,11 @@
 //! Votes and certificates that came.
 
-ghost use Rattle.std.specs.Prelude.{◌≡◌, Option, option_map};
+ghost use Rattle.std.specs.Prelude.{◌≡◌, ◌≤◌, drop, length, option_map, slice_get};
+ghost use Rattle.std.specs.List.{list_any};
 ghost use Rattle.cw_rules.specs.Accepted.{Many, Single, same_ballot};
-ghost use Rattle.cw_rules.specs.Owed as rule;
-ghost use Rattle.cw_types.specs.Votes as votes;
-ghost use Rattle.voter.specs.Known.{ballot_signers, is_cert_for};
+ghost use Rattle.voter.specs.Known.{ballot_signers};
 
-use cw_types::{Cert, Proposal, Vote};
-use note_scans::voted_proposal;
+use cw_types::{Cert, Vote};
 use std::marker::Model;
 
 /// Which of the two it is.
@@ -52,27 +50,6 @@ impl Ballot {
         }
     }
 
-    /// The vote that it names.
-    pub(crate) fn vote(&self) -> Vote
-        ensures { result ≡ rule.ballot_vote self.now }
-    {
-        match &self.kind {
-            Kind::Single(_, vote) => *vote,
-            Kind::Many(cert) => cert.vote,
-        }
-    }
-
-    /// The proposal that it names, where it stands.
-    pub(crate) fn proposal(&self) -> Option<&Proposal>
-        ensures { option_map (λ proposal. proposal.now) result
-            ≡ votes.proposal_of (rule.ballot_vote self.now) }
-    {
-        match &self.kind {
-            Kind::Single(_, vote) => voted_proposal(vote),
-            Kind::Many(cert) => voted_proposal(&cert.vote),
-        }
-    }
-
     /// Whether it is this certificate.
     pub(crate) fn is_cert(&self, cert: &Cert) -> bool
         ensures { result ≡ same_ballot (Many cert.now) self.now }
@@ -80,16 +57,6 @@ impl Ballot {
         match &self.kind {
             Kind::Single(_, _) => false,
             Kind::Many(other) => cert.is_same(other),
-        }
-    }
-
-    /// Whether it is a certificate of this vote.
-    pub(crate) fn is_cert_of(&self, vote: &Vote) -> bool
-        ensures { result ≡ is_cert_for vote.now self.now }
-    {
-        match &self.kind {
-            Kind::Single(_, _) => false,
-            Kind::Many(cert) => vote.is_same(&cert.vote),
         }
     }
 
@@ -102,4 +69,22 @@ impl Ballot {
             Kind::Many(cert) => cert.signers.as_slice(),
         }
     }
+}
+
+/// The one at a place.
+pub(crate) fn ballot_at(ballots: &[Ballot], place: usize) -> Option<&Ballot>
+    ensures { option_map (λ ballot. ballot.now) result ≡ slice_get ballots.now place }
+{
+    match ballots.get(place) {
+        Some(ballot) => Some(ballot),
+        None => None,
+    }
+}
+
+/// Whether one from a place on is this certificate.
+pub(crate) fn is_cert_from(ballots: &[Ballot], place: usize, cert: &Cert) -> bool
+    requires { place ≤ length ballots.now }
+    ensures { result ≡ list_any (same_ballot (Many cert.now)) (drop place ballots.now) }
+{
+    ballots[place..].iter().any(|ballot| ballot.is_cert(cert))
 }

@@ -1,14 +1,13 @@
 //! The certificate that a member owes.
 
 ghost use Rattle.std.specs.Prelude.{◌≡◌, ◌≤◌, ◌&&◌, ◌||◌, IfOk, IfSome, IsTrue, filter, find};
-ghost use Rattle.std.specs.Prelude.{length, nat_le, not, option_map, unwrap_or};
+ghost use Rattle.std.specs.Prelude.{length, not, option_map, unwrap_or};
 ghost use Rattle.std.specs.List.{list_any};
 ghost use Rattle.std.specs.Option.{is_some};
 ghost use Rattle.cw_rules.specs.Accepted.{Single, same_ballot};
 ghost use Rattle.cw_rules.specs.Notes.{has_cert};
 ghost use Rattle.cw_rules.specs.Owed as rule;
-ghost use Rattle.cw_types.specs.Epochs.{members_in, size};
-ghost use Rattle.cw_types.specs.Numbers.{quorum};
+ghost use Rattle.cw_types.specs.Epochs.{is_enough, members_in};
 ghost use Rattle.cw_types.specs.Votes.{vote_epoch, well_formed};
 ghost use Rattle.cw_types.specs.declared.note.Note.{Note};
 ghost use Rattle.note_scans.specs.Countable.{is_countable};
@@ -17,10 +16,10 @@ ghost use Rattle.voter.specs.Known.{vote_rules};
 ghost use Rattle.voter.specs.Owing as owing;
 ghost use Rattle.voter.specs.Standing.{are_signers};
 
-use crate::ballot::Ballot;
+use crate::ballot::{Ballot, ballot_at};
 use crate::tally::Tally;
 use cw_base::{Digest32, Hasher, Items, NoMemory};
-use cw_types::{Cert, Vote, quorum};
+use cw_types::{Cert, Vote};
 use std::alloc::Global;
 use std::collections::BTreeSet;
 
@@ -78,23 +77,29 @@ impl<H> Tally<H> {
         }
     }
 
+    // Whether a certificate of the vote is noted.
+    pub(crate) fn has_cert(&self, vote: &Vote) -> bool
+        ensures { result ≡ has_cert self.now.notes vote.now }
+    {
+        self.index.facts.said.has_cert(vote)
+    }
+
     // Whether no certificate of the vote is noted, and one came or a quorum is known.
     fn is_certifiable(&self, vote: &Vote) -> bool
         ensures { result ≡ (not (has_cert self.now.notes vote.now)
             && (is_some (find (is_cert_for vote.now) self.now.ballots)
-            || nat_le (quorum (size self.now.epochs (vote_epoch vote.now)))
+            || is_enough self.now.epochs (vote_epoch vote.now)
             (length (filter (rule.knows self.now.id (state_of self.now) vote.now)
             (members_in self.now.epochs (vote_epoch vote.now)))))) }
     {
-        !note_scans::has_cert(self.notes.as_slice(), vote)
-            && (self.has_arrived(vote) || self.is_signed(vote))
+        !self.has_cert(vote) && (self.has_arrived(vote) || self.is_signed(vote))
     }
 
     // Whether a certificate of the vote came.
     fn has_arrived(&self, vote: &Vote) -> bool
         ensures { result ≡ is_some (find (is_cert_for vote.now) self.now.ballots) }
     {
-        self.first_cert(vote).is_some()
+        self.index.certs.place(vote).is_some()
     }
 
     // The first certificate of the vote that came.
@@ -102,19 +107,20 @@ impl<H> Tally<H> {
         ensures { option_map (λ ballot. ballot.now) result
             ≡ find (is_cert_for vote.now) self.now.ballots }
     {
-        self.ballots
-            .as_slice()
-            .iter()
-            .find(|ballot| ballot.is_cert_of(vote))
+        match self.index.certs.place(vote) {
+            Some(place) => ballot_at(self.ballots.as_slice(), place),
+            None => None,
+        }
     }
 
     // Whether enough members of its epoch are known to have signed the vote.
     fn is_signed(&self, vote: &Vote) -> bool
-        ensures { result ≡ nat_le (quorum (size self.now.epochs (vote_epoch vote.now)))
+        ensures { result ≡ is_enough self.now.epochs (vote_epoch vote.now)
             (length (filter (rule.knows self.now.id (state_of self.now) vote.now)
             (members_in self.now.epochs (vote_epoch vote.now)))) }
     {
-        quorum(self.committees.size(vote.epoch())) as usize <= self.count_known(vote)
+        self.committees
+            .is_enough(vote.epoch(), self.count_known(vote))
     }
 }
 
@@ -131,16 +137,11 @@ impl<H: Hasher<Digest = Digest32>> Tally<H> {
         ensures { result ≡ find (owing.owes_cert H.digest_of self.now)
             (rule.named_votes (state_of self.now)) }
     {
-        self.ballots
-            .as_slice()
+        self.waiting
+            .votes_came
             .iter()
-            .map(|ballot| ballot.vote())
-            .chain(
-                self.notes
-                    .as_slice()
-                    .iter()
-                    .filter_map(|note| note_scans::vote_of(note)),
-            )
+            .copied()
+            .chain(self.waiting.votes_noted.iter().copied())
             .find(|vote| self.owes_cert(vote))
     }
 

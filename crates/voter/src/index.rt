@@ -1,4 +1,4 @@
-//! Who signed what, by vote: what a tally looks up in place of searches.
+//! What a tally looks up in place of searches: who signed what, and what notes say.
 
 ghost use Rattle.std.specs.Prelude.{◌≡◌, ◌++◌, ◌∷◌, [], ℕ, List, OnErr, OnOk, false, option_map};
 ghost use Rattle.std.specs.List.{list_any};
@@ -7,30 +7,47 @@ ghost use Rattle.cw_rules.specs.Owed.{is_single};
 ghost use Rattle.cw_types.specs.Epochs.{Epochs, is_member};
 ghost use Rattle.cw_types.specs.Votes.{vote_epoch};
 ghost use Rattle.cw_types.specs.declared.note.Note.{Note as NoteValue};
+ghost use Rattle.voter.specs.Certs.{HasFirst};
+ghost use Rattle.voter.specs.Facts.{HaveFacts};
+ghost use Rattle.voter.specs.Own.{HasOwn};
 ghost use Rattle.voter.specs.Signing.{HaveSigners, counted_vote};
 
+use crate::cert_places::Certs;
+use crate::facts::Facts;
+use crate::own_keys::OwnKeys;
 use crate::signer_sets::SignerSets;
 use cw_base::NoMemory;
-use cw_types::Vote;
+use cw_types::{Note, Vote};
 use std::alloc::Global;
 
 /// Who signed each vote that came, and the members that are known to have signed each vote. The two
-/// differ by the votes that the member noted, and by those of strangers.
+/// differ by the votes that the member noted, and by those of strangers. And what the notes say.
 #[derive(Drop)]
 pub(crate) struct Index {
     pub(crate) came: SignerSets,
     pub(crate) known: SignerSets,
+    pub(crate) facts: Facts,
+    pub(crate) certs: Certs,
+    pub(crate) own: OwnKeys,
 }
 
 impl Index {
     /// That of a tally that knows nothing.
     pub(crate) fn new(alloc: Global) -> Index
-        ensures { (x : Epochs) (id : ℕ) → HaveSigners x id [] [] result.came.by_vote.entries
-            result.known.by_vote.entries }
+        ensures signers { (x : Epochs) (id : ℕ) → HaveSigners x id [] []
+            result.came.by_vote.entries result.known.by_vote.entries }
+        ensures facts { HaveFacts [] result.facts.said.by_key.entries
+            result.facts.settled.by_key.entries result.facts.ended.by_epoch.entries
+            result.facts.epoch }
+        ensures certs { HasFirst [] result.certs.first.entries }
+        ensures own { HasOwn [] result.own.by_key.entries }
     {
         Index {
             came: SignerSets::new(alloc),
             known: SignerSets::new(alloc),
+            facts: Facts::new(alloc),
+            certs: Certs::new(alloc),
+            own: OwnKeys::new(alloc),
         }
     }
 
@@ -54,6 +71,9 @@ impl Index {
             → list_any (is_single signer vote.now) ballots ≡ false
             → OnErr result (HaveSigners x id notes ballots self.new.came.by_vote.entries
             self.new.known.by_vote.entries) }
+        ensures facts { self.new.facts ≡ self.old.facts }
+        ensures certs { self.new.certs ≡ self.old.certs }
+        ensures own { self.new.own ≡ self.old.own }
     {
         self.came.add(vote, signer)?;
         if !counts {
@@ -68,23 +88,49 @@ impl Index {
 
     /// The member `id` noted something; `counted` is the vote, where it is one of an epoch of the
     /// member's. Where memory is short nothing changes.
-    pub(crate) fn take_note(&mut self, id: u16, counted: Option<&Vote>) -> Result<(), NoMemory>
+    pub(crate) fn take_note(
+        &mut self,
+        id: u16,
+        note: &Note,
+        counted: Option<&Vote>,
+    ) -> Result<(), NoMemory>
         ensures ok { (x : Epochs) (notes : List NoteValue) (ballots : List BallotValue)
-            (note : NoteValue)
             → HaveSigners x id notes ballots self.old.came.by_vote.entries
             self.old.known.by_vote.entries
-            → option_map (λ vote. vote.now) counted.entry ≡ counted_vote x id note
-            → OnOk result (HaveSigners x id (notes ++ note ∷ []) ballots
+            → option_map (λ vote. vote.now) counted.entry ≡ counted_vote x id note.now
+            → OnOk result (HaveSigners x id (notes ++ note.now ∷ []) ballots
             self.new.came.by_vote.entries self.new.known.by_vote.entries) }
         ensures err { (x : Epochs) (notes : List NoteValue) (ballots : List BallotValue)
             → HaveSigners x id notes ballots self.old.came.by_vote.entries
             self.old.known.by_vote.entries
             → OnErr result (HaveSigners x id notes ballots self.new.came.by_vote.entries
             self.new.known.by_vote.entries) }
+        ensures facts { (x : Epochs) (notes : List NoteValue)
+            → HaveFacts notes self.old.facts.said.by_key.entries
+            self.old.facts.settled.by_key.entries self.old.facts.ended.by_epoch.entries
+            self.old.facts.epoch
+            → option_map (λ vote. vote.now) counted.entry ≡ counted_vote x id note.now
+            → OnOk result (HaveFacts (notes ++ note.now ∷ []) self.new.facts.said.by_key.entries
+            self.new.facts.settled.by_key.entries self.new.facts.ended.by_epoch.entries
+            self.new.facts.epoch) }
+        ensures refused { (notes : List NoteValue)
+            → HaveFacts notes self.old.facts.said.by_key.entries
+            self.old.facts.settled.by_key.entries self.old.facts.ended.by_epoch.entries
+            self.old.facts.epoch
+            → OnErr result (HaveFacts notes self.new.facts.said.by_key.entries
+            self.new.facts.settled.by_key.entries self.new.facts.ended.by_epoch.entries
+            self.new.facts.epoch) }
+        ensures certs { self.new.certs ≡ self.old.certs }
+        ensures own { self.new.own ≡ self.old.own }
     {
+        self.facts.prepare(note)?;
         match counted {
-            Some(vote) => self.known.add(vote, id),
-            None => Ok(()),
+            Some(vote) => {
+                self.known.add(vote, id)?;
+                self.facts.take_unsettling(note);
+                Ok(())
+            }
+            None => self.facts.take(note),
         }
     }
 }

@@ -1,14 +1,14 @@
-//! What names a vote in a map.
+//! What names a vote in a map, or something that notes say of a proposal or a view.
 
 ghost use Rattle.std.specs.Prelude.{◌≡◌};
-ghost use Rattle.voter.specs.Keys.{key_of, keyed, no_payload};
+ghost use Rattle.voter.specs.Keys.{in_view, key_of, keyed, no_payload};
 
 use cw_base::{Config, Digest, Digest32};
 use cw_types::{Commitment, Proposal, Vote};
 use std::num::NonZeroU16;
 
 /// The kind of a vote, and what it is on: of one to nullify an epoch and a view. Votes have one key
-/// exactly where they are the same.
+/// exactly where they are the same. Kinds above 2 are of what notes say otherwise.
 #[derive(Clone, Copy, Debug, PartialEq, Eq, PartialOrd, Ord)]
 pub(crate) struct VoteKey {
     pub(crate) kind: u8,
@@ -34,8 +34,8 @@ fn no_payload() -> Commitment
 }
 
 impl VoteKey {
-    // That of a vote of this kind on a proposal.
-    fn on(kind: u8, proposal: &Proposal) -> VoteKey
+    /// What is of this kind of a proposal.
+    pub(crate) fn on(kind: u8, proposal: &Proposal) -> VoteKey
         ensures { result ≡ keyed kind proposal.now }
     {
         VoteKey {
@@ -47,19 +47,26 @@ impl VoteKey {
         }
     }
 
+    /// What is of this kind of a view of an epoch.
+    pub(crate) fn in_view(kind: u8, epoch: u64, view: u64) -> VoteKey
+        ensures { result ≡ in_view kind epoch view }
+    {
+        VoteKey {
+            kind,
+            epoch,
+            view,
+            parent: 0,
+            payload: no_payload(),
+        }
+    }
+
     /// That of a vote.
     pub(crate) fn new(vote: &Vote) -> VoteKey
         ensures { result ≡ key_of vote.now }
     {
         match vote {
             Vote::Notarize(proposal) => VoteKey::on(0, proposal),
-            Vote::Nullify { epoch, view } => VoteKey {
-                kind: 1,
-                epoch: *epoch,
-                view: *view,
-                parent: 0,
-                payload: no_payload(),
-            },
+            Vote::Nullify { epoch, view } => VoteKey::in_view(1, *epoch, *view),
             Vote::Finalize(proposal) => VoteKey::on(2, proposal),
         }
     }

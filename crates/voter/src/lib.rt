@@ -1,21 +1,32 @@
 //! What a member knows of votes and certificates, and what it owes by it: the tally.
 //!
 //! Each call is a function of what the tally was told. `tally_stands` and `parent_stands` say how
-//! its answers are those of the cluster rules. Who signed a vote is one look-up; the other bodies
-//! scan plain lists.
+//! its answers are those of the cluster rules. Who signed a vote, which certificates and chunks
+//! came and what notes say of votes, proposals, views and epochs are looked up by key. What is owed
+//! is searched for among the votes without a noted certificate and the proposals that aren't done
+//! alone. So a call costs the same however much came, was noted and is done. Only for a proposal
+//! that is the last block of its epoch again are the notes searched.
 #![tactic(auto)]
 
 mod ballot;
+mod cert_places;
 mod certs;
+mod ended;
+mod facts;
 mod index;
 mod key;
 mod laws;
+mod maps;
 mod own;
+mod own_keys;
 mod parents;
 mod proposals;
+mod said;
+mod settled;
 mod signer_sets;
 mod tally;
 mod votes;
+mod waiting;
 
 pub use cw_rules::chain_laws;
 pub use laws::{

@@ -38,7 +38,7 @@ impl<H: Hasher<Digest = Digest32>> Tally<H> {
     {
         let view = self.view(epoch);
         let top = below.min(view);
-        if !note_scans::all_nullified(self.notes.as_slice(), epoch, top.saturating_sub(1), view) {
+        if !self.all_nullified(epoch, top.saturating_sub(1), view) {
             return None;
         }
         self.parent_below(epoch, top)

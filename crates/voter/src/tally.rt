@@ -11,9 +11,10 @@ ghost use Rattle.voter.specs.Known.{unknowing, with_ballot, with_note, with_own}
 ghost use Rattle.voter.specs.Signing.{counted_vote};
 ghost use Rattle.voter.specs.Standing.{are_signers};
 
-use crate::ballot::Ballot;
+use crate::ballot::{Ballot, is_cert_from};
 use crate::index::Index;
 use crate::own::OwnChunk;
+use crate::waiting::Waiting;
 use cw_base::{Digest32, Hasher, Items, NoMemory};
 use cw_types::{Cert, Commitment, Committees, Note, Vote, genesis_commitment};
 use std::alloc::Global;
@@ -45,8 +46,10 @@ pub struct Tally<H> {
     pub(crate) notes: Items<Note>,
     pub(crate) ballots: Items<Ballot>,
     pub(crate) own: Items<OwnChunk>,
-    // in place of searches for signers
+    // in place of searches
     pub(crate) index: Index,
+    // the only ones of which something can be owed
+    pub(crate) waiting: Waiting,
     alloc: Global,
     hasher: PhantomData<H>,
 }
@@ -61,7 +64,12 @@ impl<H> Model for Tally<H> {
         { epochs = t.committees; id = t.id; notes = t.notes; ballots = t.ballots; own = t.own } };
 
     ghost invariant = { λ t. IsTally t.committees t.id t.notes t.ballots
-        t.index.came.by_vote.entries t.index.known.by_vote.entries };
+        t.index.came.by_vote.entries t.index.known.by_vote.entries
+        t.index.facts.said.by_key.entries t.index.facts.settled.by_key.entries
+        t.index.facts.ended.by_epoch.entries t.index.facts.epoch t.index.certs.first.entries
+        t.own t.index.own.by_key.entries
+        t.waiting.votes_came.items t.waiting.votes_noted.items t.waiting.came.items
+        t.waiting.noted.items };
 }
 
 impl<H: Hasher<Digest = Digest32>> Tally<H> {
@@ -77,6 +85,7 @@ impl<H: Hasher<Digest = Digest32>> Tally<H> {
             ballots: Items::new(alloc),
             own: Items::new(alloc),
             index: Index::new(alloc),
+            waiting: Waiting::new(alloc),
             alloc,
             hasher: PhantomData,
         }
@@ -88,12 +97,13 @@ impl<H: Hasher<Digest = Digest32>> Tally<H> {
     pub fn settled(&self, epoch: u64, view: u64) -> Option<Commitment>
         ensures { result ≡ rule.settled (genesis_commitment H.digest_of) self.now.notes epoch view }
     {
-        note_scans::settled(
-            genesis_commitment::<H>(),
-            self.notes.as_slice(),
-            epoch,
-            view,
-        )
+        if view > 0 {
+            return self.index.facts.settled.of_view(epoch, view);
+        }
+        if epoch == 0 {
+            return Some(genesis_commitment::<H>());
+        }
+        self.index.facts.settled.of_epoch(epoch)
     }
 }
 
@@ -106,12 +116,16 @@ impl<H> Tally<H> {
     {
         let counted = self.counted_vote(note);
         let copy = note.copy(self.alloc)?;
+        self.waiting.reserve_noted()?;
         let len = self.notes.len();
         self.notes.push(copy)?;
-        if let Err(NoMemory) = self.index.take_note(self.id, counted) {
+        if let Err(NoMemory) = self.index.take_note(self.id, note, counted) {
             self.notes.truncate(len);
             return Err(NoMemory);
         }
+        let said = &self.index.facts.said;
+        self.waiting
+            .take_note(note, said, &self.committees, self.id);
         Ok(())
     }
 
@@ -146,12 +160,16 @@ impl<H> Tally<H> {
             return Ok(false);
         }
         let counts = self.committees.is_member(vote.epoch(), signer);
+        self.waiting.reserve_came()?;
         let len = self.ballots.len();
         self.ballots.push(Ballot::single(signer, *vote))?;
         if let Err(NoMemory) = self.index.take_vote(signer, vote, counts) {
             self.ballots.truncate(len);
             return Err(NoMemory);
         }
+        let said = &self.index.facts.said;
+        self.waiting
+            .take_came(vote, said, &self.committees, self.id);
         Ok(true)
     }
 
@@ -169,7 +187,16 @@ impl<H> Tally<H> {
             return Ok(false);
         }
         let copy = cert.copy(self.alloc)?;
+        self.waiting.reserve_came()?;
+        let len = self.ballots.len();
         self.ballots.push(Ballot::many(copy))?;
+        if let Err(NoMemory) = self.index.certs.take(&cert.vote, len) {
+            self.ballots.truncate(len);
+            return Err(NoMemory);
+        }
+        let said = &self.index.facts.said;
+        self.waiting
+            .take_came(&cert.vote, said, &self.committees, self.id);
         Ok(true)
     }
 
@@ -179,10 +206,15 @@ impl<H> Tally<H> {
         ensures ok { OnOk result (self.new ≡ with_own self.old commitment.now index) }
         ensures err { OnErr result (self.new ≡ self.old) }
     {
+        let len = self.own.len();
         self.own.push(OwnChunk {
             commitment: *commitment,
             index,
         })?;
+        if let Err(NoMemory) = self.index.own.take(commitment, index) {
+            self.own.truncate(len);
+            return Err(NoMemory);
+        }
         Ok(())
     }
 
@@ -190,17 +222,17 @@ impl<H> Tally<H> {
     fn has_same_cert(&self, cert: &Cert) -> bool
         ensures { result ≡ list_any (same_ballot (Many cert.now)) self.now.ballots }
     {
-        self.ballots
-            .as_slice()
-            .iter()
-            .any(|ballot| ballot.is_cert(cert))
+        match self.index.certs.place(&cert.vote) {
+            Some(place) => is_cert_from(self.ballots.as_slice(), place, cert),
+            None => false,
+        }
     }
 
     /// The epoch that the member is in: the greatest that a note enters. Takes no memory.
     pub fn epoch(&self) -> u64
         ensures { result ≡ rule.epoch_of self.now.notes }
     {
-        note_scans::epoch_of(self.notes.as_slice())
+        self.index.facts.epoch
     }
 
     /// The view of an epoch that the member is in: one above the greatest with a noted
@@ -208,13 +240,16 @@ impl<H> Tally<H> {
     pub fn view(&self, epoch: u64) -> u64
         ensures { result ≡ rule.view_of self.now.notes epoch }
     {
-        note_scans::view_of(self.notes.as_slice(), epoch)
+        1 + self.index.facts.ended.of(epoch)
     }
 
     /// Whether the nullification of a view of an epoch is noted. Takes no memory.
     pub fn nullified(&self, epoch: u64, view: u64) -> bool
         ensures { result ≡ rule.nullified self.now.notes epoch view }
     {
-        note_scans::nullified(self.notes.as_slice(), epoch, view)
+        self.index
+            .facts
+            .said
+            .has_cert(&Vote::Nullify { epoch, view })
     }
 }

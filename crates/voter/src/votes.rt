@@ -30,6 +30,30 @@ impl<H> Tally<H> {
         self.committees.is_member(epoch, self.id)
     }
 
+    // Whether a vote of the member's own in a view of an epoch is noted.
+    fn has_voted(&self, epoch: u64, view: u64) -> bool
+        ensures { result ≡ rule.has_voted self.now.notes epoch view }
+    {
+        self.index.facts.said.has_voted(epoch, view)
+    }
+
+    // Whether a vote of the member's own is noted that nullifies the view or finalizes in it.
+    fn has_closed(&self, epoch: u64, view: u64) -> bool
+        ensures { result ≡ rule.has_closed self.now.notes epoch view }
+    {
+        self.index.facts.said.has_closed(epoch, view)
+    }
+
+    // Whether each view of the epoch strictly between the two is nullified.
+    pub(crate) fn all_nullified(&self, epoch: u64, low: u64, high: u64) -> bool
+        ensures { result ≡ rule.all_nullified self.now.notes epoch low high }
+    {
+        if high <= low {
+            return true;
+        }
+        (low + 1..high).all(|view| self.nullified(epoch, view))
+    }
+
     // Whether the vote of the view's leader to notarize the proposal came.
     fn has_leaders_vote(&self, proposal: &Proposal) -> bool
         ensures { result ≡ list_any
@@ -44,8 +68,7 @@ impl<H> Tally<H> {
     fn has_own_at(&self, index: u16, commitment: &Commitment) -> bool
         ensures { result ≡ list_any (is_own_at index commitment.now) self.now.own }
     {
-        self.own.as_slice().iter().any(|own| commitment.is_same(&own.commitment)
-            && own.index == index)
+        self.index.own.has(index, commitment)
     }
 
     // Whether the chunk of the proposal's payload at the member's own place came.
@@ -77,9 +100,9 @@ impl<H> Tally<H> {
             && is_member self.now.epochs proposal.now.epoch self.now.id
             && not (rule.has_closed self.now.notes proposal.now.epoch proposal.now.view)) }
     {
-        note_scans::has_certified(self.notes.as_slice(), proposal)
+        self.has_certified(proposal)
             && self.is_member(proposal.epoch)
-            && !note_scans::has_closed(self.notes.as_slice(), proposal.epoch, proposal.view)
+            && !self.has_closed(proposal.epoch, proposal.view)
     }
 
     // Whether blocks of that epoch are cut so.
@@ -192,7 +215,7 @@ impl<H: Hasher<Digest = Digest32>> Tally<H> {
             && proposal.view == self.view(proposal.epoch)
             && self.is_member(proposal.epoch)
             && self.has_leaders_vote(proposal)
-            && !note_scans::has_voted(self.notes.as_slice(), proposal.epoch, proposal.view)
+            && !self.has_voted(proposal.epoch, proposal.view)
     }
 
     // Whether all is there for a vote to notarize the proposal.
@@ -204,12 +227,7 @@ impl<H: Hasher<Digest = Digest32>> Tally<H> {
     {
         self.is_turn(proposal)
             && self.is_ready_over_settled(proposal)
-            && note_scans::all_nullified(
-                self.notes.as_slice(),
-                proposal.epoch,
-                proposal.parent,
-                proposal.view,
-            )
+            && self.all_nullified(proposal.epoch, proposal.parent, proposal.view)
     }
 
     // Whether a vote to notarize the proposal is owed.
@@ -231,16 +249,11 @@ impl<H: Hasher<Digest = Digest32>> Tally<H> {
         ensures { result ≡ find (owing.owes_notarize H.digest_of self.now)
             (rule.named_proposals (state_of self.now)) }
     {
-        self.ballots
-            .as_slice()
+        self.waiting
+            .came
             .iter()
-            .filter_map(|ballot| ballot.proposal().copied())
-            .chain(
-                self.notes
-                    .as_slice()
-                    .iter()
-                    .filter_map(|note| note_scans::proposal_of(note).copied()),
-            )
+            .copied()
+            .chain(self.waiting.noted.iter().copied())
             .find(|proposal| self.owes_notarize(proposal))
     }
 
@@ -249,16 +262,11 @@ impl<H: Hasher<Digest = Digest32>> Tally<H> {
         ensures { result ≡ find (owing.owes_finalize H.digest_of self.now)
             (rule.named_proposals (state_of self.now)) }
     {
-        self.ballots
-            .as_slice()
+        self.waiting
+            .came
             .iter()
-            .filter_map(|ballot| ballot.proposal().copied())
-            .chain(
-                self.notes
-                    .as_slice()
-                    .iter()
-                    .filter_map(|note| note_scans::proposal_of(note).copied()),
-            )
+            .copied()
+            .chain(self.waiting.noted.iter().copied())
             .find(|proposal| self.owes_finalize(proposal))
     }
 

@@ -3,8 +3,13 @@ use Rattle.std.specs.List.{list_all}
 use Rattle.cw_types.specs.declared.note.Note.{Note}
 use Rattle.cw_rules.specs.Accepted.{Ballot}
 use Rattle.note_scans.specs.Countable.{is_countable}
+use Rattle.voter.specs.Certs.{HasFirst}
+use Rattle.voter.specs.Facts.{HaveFacts}
+use Rattle.voter.specs.Own.{HasOwn}
 use Rattle.voter.specs.Signing.{HaveSigners}
 use Rattle.voter.specs.Standing.{is_formed, is_signed}
+use Rattle.voter.specs.Waiting.{AreWaiting}
+use Rattle.voter.specs.declared.own.OwnChunk.{OwnChunk}
 use Rattle.voter.proofs.tally.Tally.new.Goals as goal
 
 pub invariant_of-result : goal.invariant_of-result
@@ -22,5 +27,27 @@ invariant_of-result g c =
           subst (λ (ns : List Note). HaveSigners x c.args.id ns c.new-2.result came known)
           (sym c.new.ensures)
           (subst (λ (bs : List Ballot). HaveSigners x c.args.id [] bs came known)
-          (sym c.new-2.ensures) (c.new-4.ensures x c.args.id));
+          (sym c.new-2.ensures) (c.new-4.ensures.signers x c.args.id));
+      facts =
+          subst
+          (λ (ns : List Note). HaveFacts ns c.new-4.result.facts.said.by_key.entries
+          c.new-4.result.facts.settled.by_key.entries
+          c.new-4.result.facts.ended.by_epoch.entries c.new-4.result.facts.epoch)
+          (sym c.new.ensures) c.new-4.ensures.facts;
+      places =
+          subst (λ (bs : List Ballot). HasFirst bs c.new-4.result.certs.first.entries)
+          (sym c.new-2.ensures) c.new-4.ensures.certs;
+      owned =
+          subst (λ (os : List OwnChunk). HasOwn os c.new-4.result.own.by_key.entries)
+          (sym c.new-3.ensures) c.new-4.ensures.own;
+      waiting =
+          subst
+          (λ (ns : List Note). AreWaiting x c.args.id ns c.new-2.result
+          c.new-5.result.votes_came.items c.new-5.result.votes_noted.items
+          c.new-5.result.came.items c.new-5.result.noted.items)
+          (sym c.new.ensures)
+          (subst
+          (λ (bs : List Ballot). AreWaiting x c.args.id [] bs c.new-5.result.votes_came.items
+          c.new-5.result.votes_noted.items c.new-5.result.came.items c.new-5.result.noted.items)
+          (sym c.new-2.ensures) (c.new-5.ensures x c.args.id));
     }

@@ -2,8 +2,14 @@ use Rattle.std.proofs.Common.{◌≡◌, ◌++◌, ◌∙◌, ◌∷◌, [], Lis
 use Rattle.std.specs.List.{list_all}
 use Rattle.cw_types.specs.declared.note.Note.{Note}
 use Rattle.note_scans.specs.Countable.{is_countable}
+use Rattle.voter.specs.Certs.{HasFirst}
+use Rattle.voter.specs.Facts.{HaveFacts}
 use Rattle.voter.specs.Known.{Known}
+use Rattle.voter.specs.Own.{HasOwn}
 use Rattle.voter.specs.Signing.{HaveSigners, counted_vote}
+use Rattle.voter.specs.Waiting.{AreWaiting}
+use Rattle.voter.specs.declared.cert_places.Certs.{Certs}
+use Rattle.voter.specs.declared.own_keys.OwnKeys.{OwnKeys}
 use Rattle.voter.proofs.Taking.{all_more, taken_back}
 use Rattle.voter.proofs.tally.Tally.take_note.Goals as goal
 
@@ -15,6 +21,13 @@ invariant_of-self-in-Err g c =
     let ballots = c.self.inside.ballots in
     let came = c.take_note.new.self.came.by_vote.entries in
     let known = c.take_note.new.self.known.by_vote.entries in
+    let said = c.take_note.new.self.facts.said.by_key.entries in
+    let places =
+    subst (λ (f : Certs). HasFirst ballots f.first.entries) (sym c.take_note.ensures.certs)
+    c.self.invariant.places in
+    let settled = c.take_note.new.self.facts.settled.by_key.entries in
+    let ended = c.take_note.new.self.facts.ended.by_epoch.entries in
+    let epoch = c.take_note.new.self.facts.epoch in
     let back : c.truncate.new.self ≡ notes =
     taken_back notes c.push.new.self c.truncate.new.self c.in_ok-copy.copy c.len-len.result
     c.in_ok-push.ensures.ok c.len-len.ensures c.truncate.ensures in
@@ -27,18 +40,42 @@ invariant_of-self-in-Err g c =
       signers =
           subst (λ (ns : List Note). HaveSigners x id ns ballots came known) (sym back)
           (c.in-Err.ensures.err x notes ballots c.self.invariant.signers);
+      facts =
+          subst (λ (ns : List Note). HaveFacts ns said settled ended epoch) (sym back)
+          (c.in-Err.ensures.refused notes c.self.invariant.facts);
+      places = places;
+      owned =
+          subst (λ (o : OwnKeys). HasOwn c.self.inside.own o.by_key.entries)
+          (sym c.take_note.ensures.own) c.self.invariant.owned;
+      waiting =
+          subst
+          (λ (ns : List Note). AreWaiting x id ns ballots
+          c.reserve_noted.new.self.votes_came.items c.reserve_noted.new.self.votes_noted.items
+          c.reserve_noted.new.self.came.items c.reserve_noted.new.self.noted.items)
+          (sym back)
+          (c.in_ok-reserve_noted.ensures.waiting x id notes ballots c.self.invariant.waiting);
     }
 
-pub invariant_of-self-in_default : goal.invariant_of-self-in_default
-invariant_of-self-in_default g c =
+pub invariant_of-self-2 : goal.invariant_of-self-2
+invariant_of-self-2 g c =
     let x = c.self.inside.committees in
     let id = c.self.inside.id in
     let notes = c.self.inside.notes in
     let ballots = c.self.inside.ballots in
     let came = c.take_note.new.self.came.by_vote.entries in
     let known = c.take_note.new.self.known.by_vote.entries in
+    let said = c.take_note.new.self.facts.said.by_key.entries in
+    let places =
+    subst (λ (f : Certs). HasFirst ballots f.first.entries) (sym c.take_note.ensures.certs)
+    c.self.invariant.places in
+    let settled = c.take_note.new.self.facts.settled.by_key.entries in
+    let ended = c.take_note.new.self.facts.ended.by_epoch.entries in
+    let epoch = c.take_note.new.self.facts.epoch in
     let more : c.push.new.self ≡ notes ++ c.args.note.now ∷ [] =
     c.in_ok-push.ensures.ok ∙ ap (λ (n : Note). notes ++ n ∷ []) c.in_ok-copy.ensures in
+    let counted =
+    c.counted_vote-counted.ensures
+    ∙ sym (ap (λ (k : Known). counted_vote k.epochs k.id c.args.note.now) c.self.view_is) in
     record {
       countable =
           subst (λ (ns : List Note). list_all is_countable ns ≡ true) (sym more)
@@ -47,7 +84,21 @@ invariant_of-self-in_default g c =
       signed = c.self.invariant.signed;
       signers =
           subst (λ (ns : List Note). HaveSigners x id ns ballots came known) (sym more)
-          (c.in_default.ensures.ok x notes ballots c.args.note.now c.self.invariant.signers
-          (c.counted_vote-counted.ensures
-          ∙ sym (ap (λ (k : Known). counted_vote k.epochs k.id c.args.note.now) c.self.view_is)));
+          (c.in_default.ensures.ok x notes ballots c.self.invariant.signers counted);
+      facts =
+          subst (λ (ns : List Note). HaveFacts ns said settled ended epoch) (sym more)
+          (c.in_default.ensures.facts x notes c.self.invariant.facts counted);
+      places = places;
+      owned =
+          subst (λ (o : OwnKeys). HasOwn c.self.inside.own o.by_key.entries)
+          (sym c.take_note.ensures.own) c.self.invariant.owned;
+      waiting =
+          subst
+          (λ (ns : List Note). AreWaiting x id ns ballots
+          c.take_note-2.new.self.votes_came.items c.take_note-2.new.self.votes_noted.items
+          c.take_note-2.new.self.came.items c.take_note-2.new.self.noted.items)
+          (sym more)
+          (c.take_note-2.ensures notes ballots
+          (c.in_default.ensures.facts x notes c.self.invariant.facts counted).saying
+          (c.in_ok-reserve_noted.ensures.waiting x id notes ballots c.self.invariant.waiting));
     }

@@ -3,9 +3,17 @@ use Rattle.std.specs.List.{list_all, list_any}
 use Rattle.cw_types.specs.Epochs.{is_member}
 use Rattle.cw_rules.specs.Accepted.{Ballot, Single}
 use Rattle.cw_rules.specs.Owed.{is_single}
+use Rattle.voter.specs.Certs.{HasFirst}
+use Rattle.voter.specs.Facts.{HaveFacts}
 use Rattle.voter.specs.Known.{Known}
+use Rattle.voter.specs.Own.{HasOwn}
 use Rattle.voter.specs.Signing.{HaveSigners}
 use Rattle.voter.specs.Standing.{is_formed, is_signed}
+use Rattle.voter.specs.Waiting.{AreWaiting}
+use Rattle.voter.specs.declared.cert_places.Certs.{Certs}
+use Rattle.voter.specs.declared.facts.Facts.{Facts}
+use Rattle.voter.proofs.FirstCerts.{single_first}
+use Rattle.voter.specs.declared.own_keys.OwnKeys.{OwnKeys}
 use Rattle.voter.proofs.Taking.{all_more, taken_back}
 use Rattle.voter.proofs.tally.Tally.take_vote.Goals as goal
 
@@ -17,6 +25,11 @@ invariant_of-self-in-Err g c =
     let ballots = c.self.inside.ballots in
     let came = c.take_vote.new.self.came.by_vote.entries in
     let known = c.take_vote.new.self.known.by_vote.entries in
+    let facts =
+    subst
+    (λ (f : Facts). HaveFacts notes f.said.by_key.entries f.settled.by_key.entries
+    f.ended.by_epoch.entries f.epoch)
+    (sym c.take_vote.ensures.facts) c.self.invariant.facts in
     let back : c.truncate.new.self ≡ ballots =
     taken_back ballots c.push.new.self c.truncate.new.self c.single.result c.len-len.result
     c.in_ok-push.ensures.ok c.len-len.ensures c.truncate.ensures in
@@ -34,16 +47,38 @@ invariant_of-self-in-Err g c =
           (ap (λ (k : Known). list_any (is_single c.args.signer c.args.vote.now) k.ballots)
           c.self.view_is
           ∙ (sym c.has_voted_so.ensures.vote ∙ c.if-has_voted_so.false)));
+      facts = facts;
+      places =
+          subst (λ (f : Certs). HasFirst c.truncate.new.self f.first.entries)
+          (sym c.take_vote.ensures.certs)
+          (subst
+          (λ (bs : List Ballot). HasFirst bs c.self.inside.index.certs.first.entries) (sym back)
+          c.self.invariant.places);
+      owned =
+          subst (λ (o : OwnKeys). HasOwn c.self.inside.own o.by_key.entries)
+          (sym c.take_vote.ensures.own) c.self.invariant.owned;
+      waiting =
+          subst
+          (λ (bs : List Ballot). AreWaiting x id notes bs
+          c.reserve_came.new.self.votes_came.items c.reserve_came.new.self.votes_noted.items
+          c.reserve_came.new.self.came.items c.reserve_came.new.self.noted.items)
+          (sym back)
+          (c.in_ok-reserve_came.ensures.waiting x id notes ballots c.self.invariant.waiting);
     }
 
-pub invariant_of-self-in_default : goal.invariant_of-self-in_default
-invariant_of-self-in_default g c =
+pub invariant_of-self-2 : goal.invariant_of-self-2
+invariant_of-self-2 g c =
     let x = c.self.inside.committees in
     let id = c.self.inside.id in
     let notes = c.self.inside.notes in
     let ballots = c.self.inside.ballots in
     let came = c.take_vote.new.self.came.by_vote.entries in
     let known = c.take_vote.new.self.known.by_vote.entries in
+    let facts =
+    subst
+    (λ (f : Facts). HaveFacts notes f.said.by_key.entries f.settled.by_key.entries
+    f.ended.by_epoch.entries f.epoch)
+    (sym c.take_vote.ensures.facts) c.self.invariant.facts in
     let more : c.push.new.self ≡ ballots ++ Single c.args.signer c.args.vote.now ∷ [] =
     c.in_ok-push.ensures.ok ∙ ap (λ (b : Ballot). ballots ++ b ∷ []) c.single.ensures in
     record {
@@ -61,4 +96,23 @@ invariant_of-self-in_default g c =
           (c.in_default.ensures.ok x id notes ballots c.self.invariant.signers
           (c.is_member-counts.ensures
           ∙ ap (λ (e : ℕ). is_member x e c.args.signer) c.epoch.ensures));
+      facts = facts;
+      places =
+          subst (λ (f : Certs). HasFirst c.push.new.self f.first.entries)
+          (sym c.take_vote.ensures.certs)
+          (subst
+          (λ (bs : List Ballot). HasFirst bs c.self.inside.index.certs.first.entries) (sym more)
+          (single_first ballots c.args.signer c.args.vote.now
+          c.self.inside.index.certs.first.entries c.self.invariant.places));
+      owned =
+          subst (λ (o : OwnKeys). HasOwn c.self.inside.own o.by_key.entries)
+          (sym c.take_vote.ensures.own) c.self.invariant.owned;
+      waiting =
+          subst
+          (λ (bs : List Ballot). AreWaiting x id notes bs
+          c.take_came.new.self.votes_came.items c.take_came.new.self.votes_noted.items
+          c.take_came.new.self.came.items c.take_came.new.self.noted.items)
+          (sym more)
+          (c.take_came.ensures notes ballots (Single c.args.signer c.args.vote.now) facts.saying
+          (c.in_ok-reserve_came.ensures.waiting x id notes ballots c.self.invariant.waiting) refl);
     }

@@ -1,0 +1,16 @@
+use Rattle.std.proofs.Common.{◌∙◌, ap}
+use Rattle.std.specs.Map.{lookup}
+use Rattle.voter.specs.Keys.{same_key}
+use Rattle.voter.specs.declared.key.VoteKey.{VoteKey}
+use Rattle.voter.proofs.FirstCerts.{first_told}
+use Rattle.voter.proofs.Keys.{found_key}
+use Rattle.voter.proofs.cert_places.Certs.place.Goals as goal
+
+pub returns : goal.returns
+returns c = λ ballots has.
+    let es = c.args.self.now.first.entries in
+    c.copied.ensures
+    ∙ (c.get.ensures.value
+    ∙ (found_key es c.new.result
+    ∙ (ap (λ (q : VoteKey). lookup (same_key q) es) c.new.ensures
+    ∙ first_told ballots c.args.vote.now es has)))

@@ -1,0 +1,16 @@
+use Rattle.std.proofs.Common.{◌∙◌, ap}
+use Rattle.std.specs.Map.{lookup}
+use Rattle.voter.specs.Keys.{in_view, same_key}
+use Rattle.voter.specs.declared.key.VoteKey.{VoteKey}
+use Rattle.voter.proofs.Keys.{found_key}
+use Rattle.voter.proofs.Settling.{settled_epoch}
+use Rattle.voter.proofs.settled.Settled.of_epoch.Goals as goal
+
+pub returns : goal.returns
+returns c = λ notes has.
+    let es = c.args.self.now.by_key.entries in
+    c.copied.ensures
+    ∙ (c.get.ensures.value
+    ∙ (found_key es c.in_view.result
+    ∙ (ap (λ (q : VoteKey). lookup (same_key q) es) c.in_view.ensures
+    ∙ (has (in_view 7 c.args.epoch 0) ∙ settled_epoch c.args.epoch notes))))
