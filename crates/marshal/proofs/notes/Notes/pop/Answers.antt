@@ -27,6 +27,7 @@ invariant_of-self g c =
           (subst (λ (ns : List Note). HasPlaces c.self.inside.places.entries ns) split
           c.self.invariant.placed)
           at;
+      topped = search rules;
       first_block = c.self.invariant.first_block;
       first_commitment = c.self.invariant.first_commitment;
     }
