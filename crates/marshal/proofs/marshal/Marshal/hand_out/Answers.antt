@@ -1,4 +1,4 @@
-use Rattle.std.proofs.Common.{◌≡◌, ◌∙◌, ◌++◌, [], ◌∷◌, Some, None, refl, rules, sym}
+use Rattle.std.proofs.Common.{◌≡◌, ◌∙◌, ◌++◌, [], ◌∷◌, None, refl, rules, sym}
 use Rattle.cw_tree.proofs.Written.{on_err}
 use Rattle.cw_rules.proofs.Deliveries.{falls}
 use Rattle.marshal.specs.Stored.{rules_of, state_of}

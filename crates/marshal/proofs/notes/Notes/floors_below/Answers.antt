@@ -1,4 +1,4 @@
-use Rattle.std.proofs.Common.{Some, nat_lt, ap, sym, true, ◌∙◌}
+use Rattle.std.proofs.Common.{nat_lt, ap, sym, true, ◌∙◌}
 use Rattle.std.specs.List.{filter_map}
 use Rattle.std.specs.Option.{option_map_or}
 use Rattle.cw_rules.specs.Held.{floor_height}

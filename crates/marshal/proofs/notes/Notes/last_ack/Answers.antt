@@ -1,7 +1,5 @@
-use Rattle.std.proofs.Common.{◌≡◌, ◌-◌, ◌^◌, ◌<◌, IfSome, List, None, subst, sym, ◌∙◌}
-use Rattle.std.specs.List.{AllByRecursion, filter_map}
-use Rattle.cw_types.specs.Values.{IsNote}
-use Rattle.cw_types.specs.declared.note.Note.{Note}
+use Rattle.std.proofs.Common.{◌-◌, ◌^◌, None}
+use Rattle.std.specs.List.{filter_map}
 use Rattle.cw_rules.specs.Held.{acked_height}
 use Rattle.note_scans.proofs.Least.{acks_below, last_below}
 use Rattle.marshal.proofs.notes.Notes.last_ack.Goals as goal
