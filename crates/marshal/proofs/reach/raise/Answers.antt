@@ -1,6 +1,6 @@
 use Rattle.std.proofs.Common.{◌∙◌, sym}
 use Rattle.cw_types.proofs.Ordered.{found_same}
-use Rattle.marshal.proofs.Reaching.{no_final, raised_block}
+use Rattle.marshal.proofs.Raising.{no_final, raised_block}
 use Rattle.marshal.proofs.reach.raise.Goals as goal
 
 pub returns-in-Some-clause-block : goal.returns-in-Some-clause-block

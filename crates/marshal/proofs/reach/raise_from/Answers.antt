@@ -1,6 +1,6 @@
 use Rattle.std.proofs.Common.{◌≡◌, ◌<◌, arith, length, rules}
 use Rattle.std.proofs.lemmas.List.{get_or_default}
-use Rattle.marshal.proofs.Reaching.{raised_all, raised_on, raising}
+use Rattle.marshal.proofs.Raising.{raised_all, raised_on, raising}
 use Rattle.marshal.proofs.reach.raise_from.Goals as goal
 
 pub loop-place-init : goal.loop-place-init

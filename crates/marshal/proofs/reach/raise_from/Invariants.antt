@@ -1,4 +1,4 @@
-use Rattle.marshal.proofs.Reaching.{Raising}
+use Rattle.marshal.proofs.Raising.{Raising}
 use Rattle.marshal.proofs.reach.raise_from.Given as goal
 
 abbrev pub invariant-loop-place : goal.invariant-loop-place

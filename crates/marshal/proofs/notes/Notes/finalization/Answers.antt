@@ -4,7 +4,7 @@ use Rattle.cw_rules.specs.Accepted.{first_some}
 use Rattle.cw_rules.specs.Sends.{finalization_at}
 use Rattle.cw_rules.proofs.Lists.{first_here}
 use Rattle.marshal.specs.Bare.{bare}
-use Rattle.marshal.proofs.Reaching.{skip_finalized}
+use Rattle.marshal.proofs.Searching.{skip_finalized}
 use Rattle.marshal.proofs.notes.Notes.finalization.Goals as goal
 
 pub returns-in-Some : goal.returns-in-Some

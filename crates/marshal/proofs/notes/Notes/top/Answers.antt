@@ -2,7 +2,7 @@ use Rattle.std.proofs.Common.{◌≡◌, ◌∙◌, ◌<◌, ◌≤◌, IfSome, 
 use Rattle.std.specs.List.{AllByRecursion}
 use Rattle.marshal.specs.Bare.{bare}
 use Rattle.marshal.specs.Finding.{final_block}
-use Rattle.marshal.proofs.Reaching.{highest_at}
+use Rattle.marshal.proofs.Searching.{highest_at}
 use Rattle.marshal.proofs.notes.Notes.top.Goals as goal
 
 pub returns-then-height-clause-block : goal.returns-then-height-clause-block
