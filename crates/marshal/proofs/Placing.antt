@@ -8,7 +8,6 @@ use Rattle.std.proofs.lemmas.Bool.{cases_lt, false≢true, le-ltb, lt-ltb}
 use Rattle.std.proofs.lemmas.Bool.Decides.{nat_tests}
 use Rattle.std.proofs.lemmas.List.Folds.{find_at}
 use Rattle.std.proofs.lemmas.Option.{same_Some, slice_get_past}
-use Rattle.cw_types.specs.Block.{Block}
 use Rattle.cw_types.specs.Order.{commitment_cmp}
 use Rattle.cw_types.specs.OrderLaws.{commitments_are_told, commitments_tie}
 use Rattle.cw_types.specs.Same.{same_commitment}
@@ -18,7 +17,7 @@ use Rattle.cw_types.proofs.Ordered.{found_same}
 use Rattle.cw_types.proofs.Same.{same_commitment-true}
 use Rattle.cw_rules.specs.Accepted.{first_some}
 use Rattle.cw_rules.specs.Held.{noted_block_of}
-use Rattle.cw_rules.specs.Notes.{has_block, is_block}
+use Rattle.cw_rules.specs.Notes.{is_block}
 use Rattle.marshal.specs.Placed.{HasFirsts, KeepsFirst, LetsGo}
 
 -- ---- the place of the first
@@ -151,7 +150,7 @@ block_at_place c notes =
 abbrev pub Entries : Type 0
 Entries = List (Commitment × ℕ)
 
-or_none : {X : Type 0} (o : Option X) → option_or o None ≡ o
+pub or_none : {X : Type 0} (o : Option X) → option_or o None ≡ o
 or_none None = refl
 or_none (Some x) = refl
 

@@ -5,8 +5,8 @@ use Rattle.marshal.specs.Placed.{HasPlaces}
 use Rattle.marshal.proofs.Placing.{kept_first}
 use Rattle.marshal.proofs.places.put_place.Goals as goal
 
-pub returns-in_ok-put_first-in-Block-clause-ok : goal.returns-in_ok-put_first-in-Block-clause-ok
-returns-in_ok-put_first-in-Block-clause-ok c = λ notes has at.
+pub returns-in_ok-put_first-in-Block-clause-places : goal.returns-in_ok-put_first-in-Block-clause-places
+returns-in_ok-put_first-in-Block-clause-places c = λ notes has at.
     subst (λ (n : Note). HasPlaces c.put_first.new.places.entries (notes ++ n ∷ []))
     (sym c.in-Block.is)
     (kept_first is_block c.args.places.now.entries c.put_first.new.places.entries notes

@@ -1,4 +1,4 @@
-use Rattle.std.proofs.Common.{◌≡◌, ◌∙◌, List, Option, None, Some, ap, option_and_then, slice_get, sym}
+use Rattle.std.proofs.Common.{◌≡◌, ◌∙◌, List, None, Some, ap, option_and_then, slice_get, sym}
 use Rattle.std.specs.List.{position}
 use Rattle.cw_types.proofs.Ordered.{found_same}
 use Rattle.cw_rules.specs.Accepted.{first_some}

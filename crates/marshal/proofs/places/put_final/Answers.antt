@@ -1,0 +1,13 @@
+use Rattle.std.proofs.Common.{ap, false, sym}
+use Rattle.std.specs.Option.{option_map_or}
+use Rattle.cw_types.specs.Same.{same_commitment}
+use Rattle.marshal.specs.Reach.{is_final}
+use Rattle.marshal.proofs.Placing.{kept_first}
+use Rattle.marshal.proofs.places.put_final.Goals as goal
+
+pub returns-in_ok-put_first-in-Some-clause-ok : goal.returns-in_ok-put_first-in-Some-clause-ok
+returns-in_ok-put_first-in-Some-clause-ok c = λ notes has at.
+    kept_first is_final c.args.finals.now.entries c.put_first.new.places.entries notes
+    c.args.note.now c.in-Some.proposal.payload c.args.place
+    (λ d. ap (λ o. option_map_or (λ p. same_commitment d p.payload) o false) (sym c.in-Some.ensures))
+    has c.in_ok-put_first-in-Some.ensures.ok at
