@@ -23,7 +23,6 @@ use cw_types::{
     Application, ChainBlock, Commitment, Event, Note, Payload, Proposal, Vote, committees,
 };
 use node_disk::Disk;
-use note_scans::{has_closed, has_voted};
 use shards::cut_block;
 use std::alloc::Global;
 use std::thread::Threads;
@@ -175,13 +174,14 @@ impl<H: Hasher<Digest = Digest32>, D: Disk, A: Application> Holding<H, D, A> {
 
     // Whether the member leads that view, and has no vote in it.
     fn may_propose(&self, epoch: u64, view: u64) -> bool
+        requires { PartsStand H.digest_of A.accepts self.now }
         ensures { result ≡ ((epochs_rule.leader self.now.epochs epoch view == self.now.id)
             && nat_lt view (2 ^ 64 - 1)
             && not (owed_rule.has_voted (stored_notes self.now.store) epoch view)) }
     {
         committees::leader(&self.committees, epoch, view) == self.id
             && view < u64::MAX
-            && !has_voted(self.store.notes(), epoch, view)
+            && !self.tally.has_voted(epoch, view)
     }
 
     // What the member proposes in its view.
@@ -243,7 +243,7 @@ impl<H: Hasher<Digest = Digest32>, D: Disk, A: Application> Holding<H, D, A> {
         view == self.tally.view(epoch)
             && view < u64::MAX
             && self.committees.is_member(epoch, self.id)
-            && !has_closed(self.store.notes(), epoch, view)
+            && !self.tally.has_closed(epoch, view)
     }
 
     fn time_out(&mut self, view: u64) -> Result<(), NoMemory>

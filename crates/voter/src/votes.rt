@@ -30,15 +30,16 @@ impl<H> Tally<H> {
         self.committees.is_member(epoch, self.id)
     }
 
-    // Whether a vote of the member's own in a view of an epoch is noted.
-    fn has_voted(&self, epoch: u64, view: u64) -> bool
+    /// Whether a vote of the member's own in a view of an epoch is noted. Takes no memory.
+    pub fn has_voted(&self, epoch: u64, view: u64) -> bool
         ensures { result ≡ rule.has_voted self.now.notes epoch view }
     {
         self.index.facts.said.has_voted(epoch, view)
     }
 
-    // Whether a vote of the member's own is noted that nullifies the view or finalizes in it.
-    fn has_closed(&self, epoch: u64, view: u64) -> bool
+    /// Whether a vote of the member's own is noted that nullifies a view of an epoch or finalizes in
+    /// it. Takes no memory.
+    pub fn has_closed(&self, epoch: u64, view: u64) -> bool
         ensures { result ≡ rule.has_closed self.now.notes epoch view }
     {
         self.index.facts.said.has_closed(epoch, view)
