@@ -1,4 +1,4 @@
-use Rattle.std.proofs.Common.{◌≡◌, ℕ, ◌+◌, ◌*◌, ◌++◌, List, length, take_at, length-append, ap, ap₂, ◌∙◌, arith}
+use Rattle.std.proofs.Common.{◌≡◌, ℕ, ◌+◌, ◌*◌, ◌++◌, List, take_at, length-append, ap, ◌∙◌, arith}
 use Rattle.rs_code.specs.Rows.{joined, code_row}
 use Rattle.rs_code.proofs.RecoveryColumns.{all_columns}
 use Rattle.rs_code.proofs.RowFronts.{front}
