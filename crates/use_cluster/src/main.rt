@@ -78,6 +78,22 @@ impl<R: Print + Threads + Sync> Cluster<'_, R> {
         }
         Ok(())
     }
+
+    // Two blocks, between which a member crashes, and one that isn't accepted.
+    fn play(&mut self) -> Result<()> {
+        for id in 0..4 {
+            self.start(id, MemoryDisk::new(self.alloc, Vec::new(self.alloc)))?;
+        }
+        self.propose(1, "one")?;
+
+        // All that a crash leaves of a member is its disk.
+        let stopped = self.members.remove(&2).context("no member")?;
+        println!(self.rt; "member 2 stops with {} notes", stopped.notes().len())?;
+        self.start(2, stopped.into_disk().reopen())?;
+
+        self.propose(2, "and two")?;
+        self.propose(3, "three?")
+    }
 }
 
 fn main(rt: HostRuntime) -> Result<()> {
@@ -90,18 +106,5 @@ fn main(rt: HostRuntime) -> Result<()> {
         signed: Signed::new(alloc),
         due: VecDeque::new(alloc),
     };
-    for id in 0..4 {
-        cluster.start(id, MemoryDisk::new(alloc, Vec::new(alloc)))?;
-    }
-    cluster.propose(1, "one")?;
-
-    let crashed = cluster.members.remove(&2).context("no member")?;
-    println!(rt; "member 2 stops with {} notes", crashed.notes().len())?;
-    cluster.start(2, crashed.into_disk().reopen())?;
-    cluster.propose(2, "and two")?;
-
-    cluster.propose(3, "three?")?;
-    let first = cluster.members.get(&0).context("no member")?;
-    println!(rt; "next height: {}", first.marshal().next_height())?;
-    Ok(())
+    cluster.play()
 }
