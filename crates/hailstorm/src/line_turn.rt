@@ -14,14 +14,14 @@ ghost use Rattle.hailstorm.specs.Turns.{Begin, HavePlayed};
 
 use crate::clash::find_clash;
 use crate::place::Place;
-use crate::play::{member_of, play};
+use crate::play::play;
 use crate::pool::Pool;
 use crate::report::Entry;
 use crate::seat::Seat;
 use crate::world::notes_before;
 use cw_base::{Digest32, Hasher, Strategy};
 use cw_rules::cluster_laws;
-use hail_script::{EventLine, RunError, Script};
+use hail_script::{EventLine, RunError, Script, member_of};
 use std::alloc::Global;
 use std::thread::Threads;
 

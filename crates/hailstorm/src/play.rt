@@ -22,7 +22,7 @@ use crate::seat::Seat;
 use crate::turn::{found_at, take_turn};
 use cw_base::{Digest32, Hasher, Items, NoMemory, Strategy};
 use cw_types::StepOut;
-use hail_script::{EventLine, Fault, Script};
+use hail_script::{EventLine, Fault, Script, member_of};
 use std::alloc::Global;
 use std::mem;
 use std::thread::Threads;
@@ -125,18 +125,6 @@ fn play_fault<H: Hasher<Digest = Digest32>, R: Threads + Sync, S: Strategy>(
         Items::new(alloc),
     )?;
     Ok(entry)
-}
-
-/// The member that a line names.
-pub(crate) fn member_of(line: &EventLine) -> u64
-    ensures { result ≡ admission.member_of line.now }
-{
-    match line {
-        EventLine::Do(member, _) => *member,
-        EventLine::Cut(_, member, _) => *member,
-        EventLine::Restart(member) => *member,
-        EventLine::Faulty(member, _) => *member,
-    }
 }
 
 /// A line of a script: the cluster after it, and its entry.
