@@ -36,6 +36,8 @@ use std::thread::Threads;
 /// let found = archive.get(&rt, alloc, &commitment, &Sequential)?;
 /// assert!(rt; found == Some(block));
 /// ```
+///
+/// `crates/use_products` puts four chunks into one with room for two, and has the block shown.
 #[derive(Drop)]
 pub struct Archive<H: Hasher<Digest = Digest32>> {
     limit: u64,

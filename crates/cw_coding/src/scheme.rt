@@ -31,12 +31,14 @@ use std::thread::Threads;
 /// type Rs = ReedSolomon<Sha256>;
 /// let (root, chunks) = Rs::encode(&rt, alloc, &config, b"some data", &Sequential)?;
 /// let mut checked = Vec::new(alloc);
-/// for chunk in &chunks[1..] {
+/// for chunk in chunks.iter().skip(1) {
 ///     checked.push(Rs::check(alloc, &config, &root, chunk.index(), chunk, &Sequential)?)?;
 /// }
 /// let data = Rs::decode(&rt, alloc, &config, &root, checked.iter(), &Sequential)?;
 /// assert_eq!(rt; data.as_slice(), b"some data"); // where the config has a shard to spare
 /// ```
+///
+/// `crates/use_coding` is a whole program.
 pub trait Scheme {
     /// The hash function of the commitments.
     type Hasher: Hasher;

@@ -49,6 +49,8 @@ pub enum Applied {
 /// let amount = replica.balance(7);
 /// let disk = replica.into_disk(); // a start on it finds all of this
 /// ```
+///
+/// `crates/use_products` gives one a block too early, in its turn and again, and restarts it.
 #[derive(Drop)]
 pub struct Replica<D: Disk> {
     log: Log<D>,

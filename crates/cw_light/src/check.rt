@@ -36,11 +36,12 @@ pub enum Answer {
 /// that the block before names, one height lower. Genesis has a commitment of its own; every other
 /// block is named by `commit` among the members of its epoch.
 ///
+/// A part of `crates/use_products`, which also has a forged signer refused:
+///
 /// ```text
-/// // a finalization of block 2, and the blocks 2, 1 and genesis, by whoever hands them over
-/// match light_check::<Sha256, _, _, _>(&rt, alloc, &committees, &cert, &path, &v, &Sequential)? {
-///     Answer::Yes { height, digest } => trust(height, digest), // 0, and genesis's digest
-///     told => refuse(told),
+/// let told = light_check::<Sha256, _, _, _>(rt, alloc, &all, &cert, &path, &signed, &Sequential)?;
+/// if let Answer::Yes { height, digest } = told {
+///     println!(rt; "height {height} is {digest}")?;
 /// }
 /// ```
 pub fn light_check<H: Hasher<Digest = Digest32>, R: Threads + Sync, V: Verifier, S: Strategy>(

@@ -27,15 +27,15 @@ pub type NodeError = StoreError;
 /// A member of a cluster, with all that it knows, on its disk. Contracts see it as its number, the
 /// committees, the backlog, the application, the member of the rules and the log of its notes.
 ///
-/// ```
-/// let committees = Committees::single(alloc, 4)?;
-/// let disk = MemoryDisk::new(alloc, Vec::new(alloc));
-/// // the member handed out genesis, unless its disk says that it did before
-/// let (mut node, out) = Node::<SumHasher, MemoryDisk, AcceptAll>::start(
-///     &rt, alloc, 0, committees, 3, disk, AcceptAll, &Sequential)?;
-/// let out = node.step(&rt, alloc, &Event::Timeout(1), &verifier, &Sequential)?;
-/// // the vote to nullify view 1 is on the disk: send it
-/// for out in out.sent.as_slice() { .. }
+/// `crates/use_cluster` runs four members; a part of it:
+///
+/// ```text
+/// // on an empty disk, or on what a crash left
+/// let started = Node::start(self.rt, self.alloc, id, all, 3, disk, Rising, &Sequential);
+/// let (member, out) = started.map_err(|(_disk, error)| error)?;
+/// // once it answers, the notes of the step lie on the disk
+/// let out = member.step(self.rt, self.alloc, &event, &self.signed, &Sequential)?;
+/// self.take(id, &out)?; // sends, hands out, then gives `Event::Ack`
 /// ```
 #[derive(Drop)]
 pub struct Node<H: Hasher<Digest = Digest32>, D: Disk, A: Application + Drop> {
