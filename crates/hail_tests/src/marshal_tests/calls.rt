@@ -1,10 +1,10 @@
 //! Calls of a store on blocks by their places in a list, and what each answers, as text.
 
-use super::blocks::{Made, at, chain, chain_and_one, finalization, rivals};
+use super::blocks::{Made, at, chain, chain_and_one, finalization, notarization, rivals};
 use super::store::Store;
 use crate::tables::{Call, call_and_answer, call_in, head_and_rest, two};
 use cw_base::Digest32;
-use cw_types::{ChainBlock, Commitment, Height};
+use cw_types::{ChainBlock, Commitment, Epoch, Height, Round, View};
 use marshal::Identifier;
 use std::alloc::Global;
 use std::fmt::Debug;
@@ -22,6 +22,8 @@ pub(crate) enum StoreCall {
     Certify(usize, u64),
     /// Notes the finalization of a block in a view: whether it did.
     Report(usize, u64),
+    /// Notes the notarization of a block in a view: whether it did.
+    Notarize(usize, u64),
     /// Notes the finalizations of the blocks at 1 to a place, each in its block's view: how many.
     ReportTo(usize),
     /// Asks for the floor of a block's finalization in a view: whether it stands at once.
@@ -44,8 +46,12 @@ pub(crate) enum StoreCall {
     Cancel(u64),
     /// The tickets that are served, each with the place of its block.
     Tickets,
-    /// Starts anew on the disk: the height that was acknowledged last.
+    /// Starts anew on what a crash leaves of the disk: the height that was acknowledged last.
     Restart,
+    /// The block that was verified last in a view.
+    Verified(u64),
+    /// The height that was acknowledged last, or the floor, with its block.
+    Anchor,
     /// The block of the greatest finalized height.
     Latest,
     /// The block at a height.
@@ -56,6 +62,8 @@ pub(crate) enum StoreCall {
     Of(usize),
     /// Whether a block is found by its commitment and by its digest.
     Has(usize),
+    /// The blocks that are noted, each with the place of the first such note.
+    Places,
     /// How many of the blocks are at their heights.
     Final,
     /// The view of the finalization of a height.
@@ -121,6 +129,7 @@ fn call_of(call: Call) -> Result<StoreCall, Fail> {
         "certify" => StoreCall::Certify(place, second),
         "report" => StoreCall::Report(place, second),
         "report_to" => StoreCall::ReportTo(place),
+        "notarize" => StoreCall::Notarize(place, second),
         "set_floor" => StoreCall::SetFloor(place, second),
         "acknowledge" => StoreCall::Acknowledge,
         "process" => StoreCall::Process,
@@ -141,11 +150,14 @@ fn asking(call: Call) -> Result<StoreCall, Fail> {
         "cancel" => StoreCall::Cancel(first),
         "tickets" => StoreCall::Tickets,
         "restart" => StoreCall::Restart,
+        "verified" => StoreCall::Verified(first),
+        "anchor" => StoreCall::Anchor,
         "latest" => StoreCall::Latest,
         "at" => StoreCall::At(first),
         "count_at" => StoreCall::CountAt(first, second),
         "of" => StoreCall::Of(place),
         "has" => StoreCall::Has(place),
+        "places" => StoreCall::Places,
         "final" => StoreCall::Final,
         "finalization" => StoreCall::Finalization(first),
         "floor" => StoreCall::Floor,
@@ -171,6 +183,10 @@ fn answer<R: Threads + Sync>(
         ),
         StoreCall::Report(place, view) => {
             let cert = finalization(alloc, at(blocks, place)?, view)?;
+            text(alloc, store.report(&cert)?)
+        }
+        StoreCall::Notarize(place, view) => {
+            let cert = notarization(alloc, at(blocks, place)?, view)?;
             text(alloc, store.report(&cert)?)
         }
         StoreCall::ReportTo(last) => text(alloc, report_to(alloc, store, blocks, last)?),
@@ -213,6 +229,8 @@ fn given(
 // What it answers where it only reads.
 fn known(alloc: Global, store: &Store, blocks: &[Made], call: StoreCall) -> Result<String, Fail> {
     match call {
+        StoreCall::Verified(view) => text(alloc, block_verified(store, blocks, view)?),
+        StoreCall::Anchor => text(alloc, anchor(store, blocks)?),
         StoreCall::Latest => text(alloc, block_found(store, blocks, Identifier::Latest)?),
         StoreCall::At(height) => text(
             alloc,
@@ -224,6 +242,7 @@ fn known(alloc: Global, store: &Store, blocks: &[Made], call: StoreCall) -> Resu
             text(alloc, block_found(store, blocks, id)?)
         }
         StoreCall::Has(place) => text(alloc, store.has(at(blocks, place)?)),
+        StoreCall::Places => text(alloc, places(alloc, store, blocks)?),
         StoreCall::Final => text(alloc, count_final(store, blocks)),
         StoreCall::Finalization(height) => text(alloc, store.finalized_in(height)),
         StoreCall::Floor => text(alloc, store.floor()),
@@ -303,6 +322,14 @@ fn served(alloc: Global, store: &mut Store, blocks: &[Made]) -> Result<Vec<(u64,
     Ok(served)
 }
 
+fn places(alloc: Global, store: &Store, blocks: &[Made]) -> Result<Vec<(usize, u64)>, Fail> {
+    let mut places = Vec::new(alloc);
+    for (commitment, place) in store.get().places() {
+        places.push((named(blocks, commitment)?, *place))?;
+    }
+    Ok(places)
+}
+
 // The place of a block under its commitment.
 fn named(blocks: &[Made], commitment: &Commitment) -> Result<usize, Fail> {
     for (place, made) in blocks.iter().enumerate() {
@@ -330,6 +357,29 @@ fn place_of(blocks: &[Made], info: (Height, Digest32), block: &ChainBlock) -> Re
         }
     }
     Err("a block of the list".into())
+}
+
+// The place of the block that was verified last in a view.
+fn block_verified(store: &Store, blocks: &[Made], view: u64) -> Result<Option<usize>, Fail> {
+    let round = Round::new(Epoch::new(0), View::new(view));
+    match store.get().get_verified(round) {
+        Some(block) => Ok(Some(place_among(blocks, block)?)),
+        None => Ok(None),
+    }
+}
+
+fn anchor(store: &Store, blocks: &[Made]) -> Result<Option<(u64, usize)>, Fail> {
+    match store.get().get_anchor() {
+        Some((height, block)) => Ok(Some((height.get(), place_among(blocks, block)?))),
+        None => Ok(None),
+    }
+}
+
+fn place_among(blocks: &[Made], block: &ChainBlock) -> Result<usize, Fail> {
+    match blocks.iter().position(|made| *block == made.block) {
+        Some(place) => Ok(place),
+        None => Err("a block of the list".into()),
+    }
 }
 
 fn count_final(store: &Store, blocks: &[Made]) -> usize {
