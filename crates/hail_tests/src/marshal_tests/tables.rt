@@ -168,23 +168,26 @@ verify 5: true
 report 5 5: true
 latest: Some(5)
 at 1: Some(1)
+at 2: Some(2)
 at 3: Some(3)
+at 4: Some(4)
 at 5: Some(5)
 at 6: None
 == get_block_by_height_and_latest
 3 chain 1 3
+at 1: None
 latest: None
-at 0: Some(0)
 verify_to 3: 3
 report_to 3: 3
 at 1: Some(1)
 at 2: Some(2)
 at 3: Some(3)
-at 4: None
 latest: Some(3)
+at 10: None
 == get_block_by_commitment_from_sources_and_missing
 3 chain 1 4
 verify 1: true
+report 1 1: true
 certify 2 2: true
 report 3 3: true
 has 3: false
@@ -225,15 +228,25 @@ report_to 20: 20
 process: 21
 prune 25: false
 final: 20
+finalization 5: Some(5)
 prune 10: true
 final: 11
+has 9: false
+finalization 5: None
+finalization 9: None
+has 10: true
 prune 10: false
 final: 11
 prune 20: true
 final: 1
+has 19: false
+finalization 10: None
+finalization 19: None
 restart: Some(20)
 final: 1
 at 20: Some(20)
+finalization 19: None
+finalization 20: Some(20)
 == ancestry_goes_down_to_genesis
 3 chain 1 5
 ancestry 5: []
@@ -267,15 +280,17 @@ report_to 2: 2
 tickets: [(0, 1)]
 cancel 0: false
 == subscribe_blocks_from_different_sources
-3 chain 1 5
+3 chain 1 6
 watch_digest 1: 0
 watch_digest 2: 1
 watch_digest 3: 2
 watch_digest 4: 3
 watch_digest 5: 4
+watch_digest 6: 5
 verify 1: true
 tickets: [(0, 1)]
-certify 2 2: true
+verify 2: true
+verify 2: true
 tickets: [(1, 2)]
 notarize 3 3: true
 tickets: []
@@ -290,6 +305,8 @@ report 5 5: true
 tickets: []
 verify 5: true
 tickets: [(4, 5)]
+certify 6 6: true
+tickets: [(5, 6)]
 tickets: []
 == noted_block_has_its_place
 3 chain 1 2
