@@ -5,7 +5,7 @@ use super::calls::{NodeCall, event_of};
 use super::said::text_of;
 use crate::disks::{Started, start};
 use cw_base::{Sequential, SumHasher};
-use cw_types::{AcceptAll, StepOut};
+use cw_types::{AcceptAll, Event, Note, StepOut};
 use node::{Node, NodeError};
 use node_disk::MemoryDisk;
 use std::alloc::Global;
@@ -78,11 +78,28 @@ impl Member {
         self.node.notes().len()
     }
 
+    /// Its notes.
+    pub(crate) fn all_notes(&self) -> &[Note] {
+        self.node.notes()
+    }
+
     fn stop_at(&mut self, call: u64, cut: u64, fill: u8) {
         self.node.stop_at(call, cut, fill);
     }
 
-    // What it answers to an event.
+    /// What it answers to an event.
+    pub(crate) fn take<R: Threads + Sync>(
+        &mut self,
+        rt: &R,
+        alloc: Global,
+        scene: &Scene,
+        event: &Event,
+    ) -> Result<StepOut, NodeError> {
+        self.node
+            .step(rt, alloc, event, scene.signed(), &Sequential)
+    }
+
+    // What it answers to the event of a call.
     fn step<R: Threads + Sync>(
         &mut self,
         rt: &R,
@@ -91,10 +108,7 @@ impl Member {
         call: NodeCall,
     ) -> Result<Result<StepOut, NodeError>, Fail> {
         let event = event_of(alloc, scene, call)?;
-        Ok(
-            self.node
-                .step(rt, alloc, &event, scene.signed(), &Sequential),
-        )
+        Ok(self.take(rt, alloc, scene, &event))
     }
 
     // The text of what it answers to an event.
