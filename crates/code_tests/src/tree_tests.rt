@@ -1,0 +1,211 @@
+//! Tests of cw_tree: the ways up a tree of three digests, which are bytes of 1, of 2 and of 3, their
+//! bytes and sizes; and shards that outlive their chunks.
+
+ghost use Rattle.std.specs.Prelude.{◌≡◌, IfOk, length};
+
+use bytes::Bytes;
+use cw_base::{CodecError, Digest32, Hasher, Items, Reader, Sha256, SumHasher};
+use cw_tree::Chunk;
+use cw_tree::bmt::{Builder, Proof, Tree};
+use std::alloc::Global;
+use std::test::Fail;
+
+fn tree<H: Hasher<Digest = Digest32>>(alloc: Global) -> Result<Tree<H>, Fail>
+    ensures { IfOk result (λ tree. length tree ≡ 3) }
+{
+    let mut digests = Items::new(alloc);
+    digests.push(Digest32([1; 32]))?;
+    digests.push(Digest32([2; 32]))?;
+    digests.push(Digest32([3; 32]))?;
+    Ok(Builder::<H>::of(digests).build(alloc)?)
+}
+
+// The way up from the last of three, where it has so many siblings. By sums the right one is 32.
+fn last_way(alloc: Global, siblings: usize) -> Result<Proof<Digest32>, Fail> {
+    Ok(Proof {
+        leaf_count: 3,
+        siblings: Items::from_vec(vec![in alloc; Digest32([32; 32]); siblings]?),
+    })
+}
+
+// The root by sums, and whether the last way is that with one sibling.
+fn sum_root(alloc: Global) -> Result<(Digest32, bool), Fail> {
+    let tree = tree::<SumHasher>(alloc)?;
+    let root = tree.root();
+    let way = tree.proof(alloc, 2);
+    drop(tree);
+    Ok((root, way? == last_way(alloc, 1)?))
+}
+
+#[test]
+fn the_last_of_three_is_paired_with_itself(rt: HostRuntime) -> Result<(), Fail> {
+    assert_eq!(rt; sum_root(rt.alloc())?, (Digest32([3; 32]), true));
+    Ok(())
+}
+
+// The way up from each of the three, and the root.
+fn all_ways(alloc: Global) -> Result<([Proof<Digest32>; 3], Digest32), Fail> {
+    let tree = tree::<Sha256>(alloc)?;
+    let ways = [
+        tree.proof(alloc, 0)?,
+        tree.proof(alloc, 1)?,
+        tree.proof(alloc, 2)?,
+    ];
+    let root = tree.root();
+    drop(tree);
+    Ok((ways, root))
+}
+
+// The places at which a way leads digests of one byte to a root, each with the byte.
+fn led(alloc: Global, way: &Proof<Digest32>, root: &Digest32) -> Result<Vec<(u32, u8)>, Fail> {
+    let mut led = Vec::new(alloc);
+    for index in 0..4u32 {
+        for byte in 1..5u8 {
+            if way.verify_element_inclusion::<Sha256>(&Digest32([byte; 32]), index, root) {
+                led.push((index, byte))?;
+            }
+        }
+    }
+    Ok(led)
+}
+
+fn led_by_all(alloc: Global) -> Result<String, Fail> {
+    let (ways, root) = all_ways(alloc)?;
+    let mut text = String::new(alloc);
+    for way in &ways {
+        text.push_str(&format!(in alloc; "{:?}", led(alloc, way, &root)?)?)?;
+    }
+    let short = led(alloc, &last_way(alloc, 0)?, &root)?;
+    let long = led(alloc, &last_way(alloc, 2)?, &root)?;
+    let other = led(alloc, &ways[2], &Digest32([3; 32]))?;
+    Ok(format!(in alloc; "{text} {short:?}{long:?}{other:?}")?)
+}
+
+#[test]
+fn a_way_leads_one_digest_from_one_place_to_one_root(rt: HostRuntime) -> Result<(), Fail> {
+    assert_eq!(rt;
+        led_by_all(rt.alloc())?.as_str(),
+        "[(0, 1)][(1, 2)][(2, 3)] [][][]"
+    );
+    Ok(())
+}
+
+// What is hashed on the last way, each text in two parts: the leaf with its place, the node with
+// itself, its partner and the node, and the number of leaves with the node under the root.
+const HASHED: [(&[u8], &[u8]); 4] = [
+    (&[0, 0, 0, 2], &[3; 32]),
+    (&[98; 32], &[98; 32]),
+    (&[32; 32], &[128; 32]),
+    (&[0, 0, 0, 3], &[0; 32]),
+];
+
+fn are_hashed(texts: &[Items<u8>]) -> bool {
+    for (place, (front, back)) in HASHED.iter().enumerate() {
+        let Some(text) = texts.get(place) else {
+            return false;
+        };
+        if text.as_slice().strip_prefix(front) != Some(*back) {
+            return false;
+        }
+    }
+    texts.len() == HASHED.len()
+}
+
+// Whether these are hashed from the digest of 3s; none where no such way is.
+fn hashed(alloc: Global, siblings: usize, index: u32) -> Result<Option<bool>, Fail> {
+    let way = last_way(alloc, siblings)?;
+    let texts = way.hashed_texts::<SumHasher>(alloc, &Digest32([3; 32]), index);
+    drop(way);
+    match texts? {
+        Some(texts) => Ok(Some(are_hashed(&texts))),
+        None => Ok(None),
+    }
+}
+
+#[test]
+fn a_way_tells_what_is_hashed(rt: HostRuntime) -> Result<(), Fail> {
+    for (siblings, index, want) in [
+        (1, 2, Some(true)),
+        (2, 0, Some(false)),
+        (0, 2, None),
+        (2, 2, None),
+        (1, 0, None),
+        (1, 3, None),
+    ] {
+        assert_eq!(rt;
+            hashed(rt.alloc(), siblings, index)?,
+            want,
+            "{siblings} {index}"
+        );
+    }
+    Ok(())
+}
+
+// How many bytes a way is written in, and whether it is read back from them and has an equal copy.
+fn read_back(alloc: Global, siblings: usize) -> Result<(usize, bool), Fail> {
+    let way = last_way(alloc, siblings)?;
+    let mut out = Vec::new(alloc);
+    way.write(&mut out)?;
+    let mut reader = Reader::new(&out);
+    let read = Proof::<Digest32>::read(alloc, &mut reader)?;
+    let is_same = read == way && reader.finish() == Ok(()) && way.copy(alloc)? == way;
+    Ok((out.len(), is_same))
+}
+
+#[test]
+fn a_way_has_at_most_so_many_bytes(rt: HostRuntime) -> Result<(), Fail> {
+    let most = Proof::<Digest32>::max_encode_size(1);
+    assert_eq!(rt; read_back(rt.alloc(), 1)?, (most, true));
+    let most = Proof::<Digest32>::max_encode_size(32);
+    assert_eq!(rt; read_back(rt.alloc(), 32)?, (most, true));
+    assert_eq!(rt;
+        (most, Chunk::<Digest32>::max_encode_size(4, 2)),
+        (1029, 80)
+    );
+    Ok(())
+}
+
+// Whether the last way is written in its number of leaves, its number of siblings, and these.
+fn is_spelled(alloc: Global) -> Result<bool, Fail> {
+    let mut out = Vec::new(alloc);
+    last_way(alloc, 1)?.write(&mut out)?;
+    Ok(out.as_slice().strip_prefix(&[0, 0, 0, 3, 1]) == Some([32; 32].as_slice()))
+}
+
+// Why bytes are no way, and how many are left then.
+fn refusal(alloc: Global, bytes: &[u8]) -> (Option<CodecError>, usize) {
+    let mut reader = Reader::new(bytes);
+    let read = Proof::<Digest32>::read(alloc, &mut reader);
+    (read.err(), reader.rest().len())
+}
+
+#[test]
+fn a_way_is_written_in_its_format(rt: HostRuntime) -> Result<(), Fail> {
+    assert!(rt; is_spelled(rt.alloc())?);
+    let cases: [(&[u8], CodecError, usize); 4] = [
+        (&[0, 0, 3], CodecError::EndOfBuffer, 3),
+        (&[0, 0, 0, 3], CodecError::EndOfBuffer, 0),
+        (&[0, 0, 0, 3, 33, 9], CodecError::TooLong, 1),
+        (&[0, 0, 0, 3, 1, 9], CodecError::EndOfBuffer, 1),
+    ];
+    for (bytes, error, left) in cases {
+        assert_eq!(rt; refusal(rt.alloc(), bytes), (Some(error), left));
+    }
+    Ok(())
+}
+
+// The bytes of a shard whose chunk is gone.
+fn left_over(alloc: Global) -> Result<Bytes, Fail> {
+    let shard = Bytes::copy_from_slice(alloc, &[1, 2, 3, 4])?;
+    let chunk = Chunk::new(shard, 5, last_way(alloc, 1)?);
+    let shared = chunk.shared();
+    drop(chunk);
+    Ok(shared?)
+}
+
+#[test]
+fn a_shard_outlives_its_chunk(rt: HostRuntime) -> Result<(), Fail> {
+    let shard = left_over(rt.alloc())?;
+    assert!(rt; shard.as_slice() == [1, 2, 3, 4].as_slice());
+    Ok(())
+}
