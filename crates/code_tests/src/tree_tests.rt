@@ -43,50 +43,50 @@ fn the_last_of_three_is_paired_with_itself(rt: HostRuntime) -> Result<(), Fail> 
     Ok(())
 }
 
-// The way up from each of the three, and the root.
-fn all_ways(alloc: Global) -> Result<([Proof<Digest32>; 3], Digest32), Fail> {
+// The way up from each of the three, then the last one with no sibling and with two; and the root.
+fn all_ways(alloc: Global) -> Result<(Vec<Proof<Digest32>>, Digest32), Fail> {
     let tree = tree::<Sha256>(alloc)?;
-    let ways = [
-        tree.proof(alloc, 0)?,
-        tree.proof(alloc, 1)?,
-        tree.proof(alloc, 2)?,
-    ];
-    let root = tree.root();
-    drop(tree);
-    Ok((ways, root))
+    let mut ways = Vec::new(alloc);
+    for at in 0..3u32 {
+        ways.push(tree.proof(alloc, at)?)?;
+    }
+    ways.push(last_way(alloc, 0)?)?;
+    ways.push(last_way(alloc, 2)?)?;
+    Ok((ways, tree.root()))
 }
 
-// The places at which a way leads digests of one byte to a root, each with the byte.
-fn led(alloc: Global, way: &Proof<Digest32>, root: &Digest32) -> Result<Vec<(u32, u8)>, Fail> {
+// At which places each of the ways leads which digests to a root, a digest by its byte.
+fn led(
+    alloc: Global,
+    ways: &[Proof<Digest32>],
+    root: &Digest32,
+) -> Result<Vec<(usize, u32, u8)>, Fail> {
     let mut led = Vec::new(alloc);
-    for index in 0..4u32 {
-        for byte in 1..5u8 {
-            if way.verify_element_inclusion::<Sha256>(&Digest32([byte; 32]), index, root) {
-                led.push((index, byte))?;
+    for (number, way) in ways.iter().enumerate() {
+        for index in 0..4u32 {
+            for byte in 1..5u8 {
+                if way.verify_element_inclusion::<Sha256>(&Digest32([byte; 32]), index, root) {
+                    led.push((number, index, byte))?;
+                }
             }
         }
     }
     Ok(led)
 }
 
-fn led_by_all(alloc: Global) -> Result<String, Fail> {
+// That of all the ways, and the root of the tree or another.
+fn led_by_all(alloc: Global, other: Option<Digest32>) -> Result<Vec<(usize, u32, u8)>, Fail> {
     let (ways, root) = all_ways(alloc)?;
-    let mut text = String::new(alloc);
-    for way in &ways {
-        text.push_str(&format!(in alloc; "{:?}", led(alloc, way, &root)?)?)?;
-    }
-    let short = led(alloc, &last_way(alloc, 0)?, &root)?;
-    let long = led(alloc, &last_way(alloc, 2)?, &root)?;
-    let other = led(alloc, &ways[2], &Digest32([3; 32]))?;
-    Ok(format!(in alloc; "{text} {short:?}{long:?}{other:?}")?)
+    let led = led(alloc, &ways, &other.unwrap_or(root));
+    drop(ways);
+    led
 }
 
 #[test]
 fn a_way_leads_one_digest_from_one_place_to_one_root(rt: HostRuntime) -> Result<(), Fail> {
-    assert_eq!(rt;
-        led_by_all(rt.alloc())?.as_str(),
-        "[(0, 1)][(1, 2)][(2, 3)] [][][]"
-    );
+    let all = led_by_all(rt.alloc(), None)?;
+    assert!(rt; all.as_slice() == [(0, 0, 1), (1, 1, 2), (2, 2, 3)].as_slice());
+    assert_eq!(rt; led_by_all(rt.alloc(), Some(Digest32([3; 32])))?.len(), 0);
     Ok(())
 }
 
@@ -141,27 +141,36 @@ fn a_way_tells_what_is_hashed(rt: HostRuntime) -> Result<(), Fail> {
     Ok(())
 }
 
-// How many bytes a way is written in, and whether it is read back from them and has an equal copy.
-fn read_back(alloc: Global, siblings: usize) -> Result<(usize, bool), Fail> {
-    let way = last_way(alloc, siblings)?;
+// Whether a way is written in so many bytes, and read back from them.
+fn is_read_back(alloc: Global, way: &Proof<Digest32>, size: usize) -> Result<bool, Fail> {
     let mut out = Vec::new(alloc);
     way.write(&mut out)?;
     let mut reader = Reader::new(&out);
     let read = Proof::<Digest32>::read(alloc, &mut reader)?;
-    let is_same = read == way && reader.finish() == Ok(()) && way.copy(alloc)? == way;
-    Ok((out.len(), is_same))
+    Ok(out.len() == size && read == *way && reader.finish() == Ok(()))
+}
+
+fn is_copied(alloc: Global, way: &Proof<Digest32>) -> Result<bool, Fail> {
+    Ok(way.copy(alloc)? == *way)
+}
+
+// Whether the last way with so many siblings has so many bytes, is read back and copied.
+fn is_had_again(alloc: Global, siblings: usize, size: usize) -> Result<bool, Fail> {
+    let way = last_way(alloc, siblings)?;
+    let read = is_read_back(alloc, &way, size);
+    let copied = is_copied(alloc, &way);
+    drop(way);
+    Ok(read? && copied?)
 }
 
 #[test]
 fn a_way_has_at_most_so_many_bytes(rt: HostRuntime) -> Result<(), Fail> {
-    let most = Proof::<Digest32>::max_encode_size(1);
-    assert_eq!(rt; read_back(rt.alloc(), 1)?, (most, true));
+    let one = Proof::<Digest32>::max_encode_size(1);
     let most = Proof::<Digest32>::max_encode_size(32);
-    assert_eq!(rt; read_back(rt.alloc(), 32)?, (most, true));
-    assert_eq!(rt;
-        (most, Chunk::<Digest32>::max_encode_size(4, 2)),
-        (1029, 80)
-    );
+    let chunk = Chunk::<Digest32>::max_encode_size(4, 2);
+    assert_eq!(rt; (one, most, chunk), (37, 1029, 80));
+    assert!(rt; is_had_again(rt.alloc(), 1, one)?);
+    assert!(rt; is_had_again(rt.alloc(), 32, most)?);
     Ok(())
 }
 

@@ -37,9 +37,11 @@ fn refused_by<R: Threads + Sync>(
     rt: &R,
     alloc: Global,
     node: &mut SumNode,
-    event: &Event,
+    event: Event,
 ) -> Option<NodeError> {
-    match node.step(rt, alloc, event, &Nobody, &Sequential) {
+    let answer = node.step(rt, alloc, &event, &Nobody, &Sequential);
+    drop(event);
+    match answer {
         Ok(_) => None,
         Err(error) => Some(error),
     }
@@ -52,10 +54,10 @@ type Refusals = [Option<NodeError>; 5];
 fn refused_steps<R: Threads + Sync>(rt: &R, alloc: Global, node: &mut SumNode) -> Refusals {
     [
         None,
-        refused_by(rt, alloc, node, &Event::Timeout(1)),
-        refused_by(rt, alloc, node, &Event::Timeout(2)),
-        refused_by(rt, alloc, node, &Event::Hint(1)),
-        refused_by(rt, alloc, node, &Event::Ack),
+        refused_by(rt, alloc, node, Event::Timeout(1)),
+        refused_by(rt, alloc, node, Event::Timeout(2)),
+        refused_by(rt, alloc, node, Event::Hint(1)),
+        refused_by(rt, alloc, node, Event::Ack),
     ]
 }
 

@@ -142,7 +142,7 @@ fn with_failing(
     match open(alloc, 3, disk)? {
         Ok(mut marshal) => {
             let (first, second) = commit_twice(&mut marshal)?;
-            let notes = found_on(alloc, marshal.into_disk().reopen())?;
+            let notes = found_on(alloc, marshal.into_disk())?;
             Ok((first, second, notes))
         }
         Err(error) => Ok((Err(error), Err(error), 0)),
