@@ -1,5 +1,5 @@
-//! Tests of cw_tree: the ways up a tree of three digests, which are bytes of 1, of 2 and of 3, their
-//! bytes and sizes; and shards that outlive their chunks.
+//! Tests of cw_tree: the ways up a tree over digests of 1s, of 2s and of 3s, what they are written
+//! in, and shards that outlive their chunks.
 
 ghost use Rattle.std.specs.Prelude.{◌≡◌, IfOk, length};
 

@@ -1,5 +1,5 @@
 //! Worked runs under SHA-256, whose digests see the order of bytes: scripts, and the reports of
-//! their runs. The texts are those of a program that is no part of this one.
+//! their runs, which an independent program gave.
 
 /// Runs of four members, and of five in two epochs.
 pub(crate) const HASHED: &str = "== 0 sixteen messages, a block is handed out
