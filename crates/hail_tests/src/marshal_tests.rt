@@ -1,5 +1,6 @@
 //! Tests of a store: its disk, the contracts of the harness, and the worked rows.
 
+mod answers;
 mod blocks;
 mod calls;
 mod store;
@@ -7,7 +8,7 @@ mod tables;
 
 use crate::disks::disk_of;
 use crate::tables::{count_of, head_and_rest};
-use calls::first_wrong;
+use answers::first_wrong;
 use cw_base::SumHasher;
 use cw_types::{Note, Vote};
 use marshal::{Marshal, MarshalError, notes_on};
