@@ -5,10 +5,11 @@ ghost use Rattle.cw_types.specs.Values as values;
 ghost use Rattle.cw_types.specs.declared.note.Note.{Note};
 
 use super::blocks::Made;
+use crate::disks::crashed;
 use cw_base::{Sequential, SumHasher};
-use cw_types::{Cert, Commitment, Committees, Epoch, Height, Note, Round, View, Vote, well_formed};
+use cw_types::{Cert, Commitment, Committees, Epoch, Height, Round, View, Vote, well_formed};
 use marshal::{Identifier, Marshal, MarshalError};
-use node_disk::{MemoryDisk, StoreError};
+use node_disk::MemoryDisk;
 use std::alloc::Global;
 use std::mem;
 use std::test::Fail;
@@ -29,12 +30,11 @@ impl Store {
         Ok(Store { backlog, marshal })
     }
 
-    /// Starts it again on what a crash in its next device call leaves of its disk: what was not
-    /// synced is overwritten by 255s. Another stands in its place meanwhile.
+    /// Starts it again on what a crash leaves of its disk. Another stands in its place meanwhile.
     pub(crate) fn restart(&mut self, alloc: Global) -> Result<(), Fail> {
         let other = opened(alloc, self.backlog, MemoryDisk::new(alloc, Vec::new(alloc)))?;
-        let disk = stopped(mem::replace(&mut self.marshal, other))?;
-        self.marshal = opened(alloc, self.backlog, disk.reopen())?;
+        let disk = mem::replace(&mut self.marshal, other).into_disk();
+        self.marshal = opened(alloc, self.backlog, crashed(disk)?)?;
         Ok(())
     }
 
@@ -172,16 +172,6 @@ impl Store {
             && self.marshal.commitment_at(height) == Some(made.commitment)
             && self.marshal.get_finalization(height).is_some()
             && !self.marshal.hint_finalized(height)
-    }
-}
-
-// The disk of a store that a stop meets at the first device call of a frame.
-fn stopped(mut marshal: Marshal<SumHasher, MemoryDisk>) -> Result<MemoryDisk, Fail> {
-    marshal.stop_at(1, 0, 255);
-    marshal.stage(Note::Vote(Vote::Nullify { epoch: 0, view: 1 }))?;
-    match marshal.commit() {
-        Err(StoreError::Disk) => Ok(marshal.into_disk()),
-        _ => Err("a stop".into()),
     }
 }
 

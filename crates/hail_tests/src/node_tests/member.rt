@@ -3,7 +3,7 @@
 use super::blocks::Scene;
 use super::calls::{NodeCall, event_of};
 use super::said::text_of;
-use crate::disks::{Started, start};
+use crate::disks::{Started, crashed, start};
 use cw_base::{Sequential, SumHasher};
 use cw_types::{AcceptAll, Event, Note, StepOut};
 use node::{Node, NodeError};
@@ -56,7 +56,7 @@ impl Member {
         Ok(Member { id, node, opening })
     }
 
-    // Starts it again on its disk. Another node stands in its place meanwhile.
+    // Starts it again on what a crash leaves of its disk. Another node stands in its place meanwhile.
     fn restart<R: Threads + Sync>(
         &mut self,
         rt: &R,
@@ -66,7 +66,7 @@ impl Member {
         let new_disk = MemoryDisk::new(alloc, Vec::new(alloc));
         let (other, opening) = started(rt, alloc, scene, self.id, new_disk)?;
         drop(opening);
-        let disk = mem::replace(&mut self.node, other).into_disk().reopen();
+        let disk = crashed(mem::replace(&mut self.node, other).into_disk())?;
         let (node, opening) = started(rt, alloc, scene, self.id, disk)?;
         drop(mem::replace(&mut self.node, node));
         drop(mem::replace(&mut self.opening, opening));
