@@ -1,5 +1,5 @@
-//! Tests of the public calls of `cw_base` (three files), `rs_code` (`code`) and `cw_coding`
-//! (`coding`).
+//! Tests of the public calls of `cw_base` (three files), `rs_code` (`code`), `cw_tree` and
+//! `cw_coding` (`coding`).
 #![tactic(auto)]
 
 #[cfg(test)]
@@ -16,3 +16,5 @@ mod reader_tests;
 mod standard_tests;
 #[cfg(test)]
 mod tables;
+#[cfg(test)]
+mod tree_tests;

@@ -10,6 +10,8 @@ mod ledger_tests;
 #[cfg(test)]
 mod light_tests;
 #[cfg(test)]
+mod payload_tests;
+#[cfg(test)]
 mod shards_tests;
 #[cfg(test)]
 mod shown_tests;

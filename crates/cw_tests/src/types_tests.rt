@@ -1,5 +1,6 @@
 //! Worked bytes of values, committees, equality and copies.
 
+mod numbers;
 mod reading;
 mod surface;
 

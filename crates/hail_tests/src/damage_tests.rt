@@ -24,9 +24,9 @@ fn start_first<R: Threads + Sync>(
     }
 }
 
-// What is found on a disk once it is started again.
+// How many notes a start finds on a disk that was given back.
 fn found_again<R: Threads + Sync>(rt: &R, alloc: Global, disk: MemoryDisk) -> Result<usize, Fail> {
-    match start_first(rt, alloc, disk.reopen())? {
+    match start_first(rt, alloc, disk)? {
         Ok(node) => Ok(node.notes().len()),
         Err((_, error)) => Err(Fail::from(error)),
     }
@@ -37,31 +37,46 @@ fn refused_by<R: Threads + Sync>(
     rt: &R,
     alloc: Global,
     node: &mut SumNode,
-    view: u64,
+    event: Event,
 ) -> Option<NodeError> {
-    match node.step(rt, alloc, &Event::Timeout(view), &Nobody, &Sequential) {
+    let answer = node.step(rt, alloc, &event, &Nobody, &Sequential);
+    drop(event);
+    match answer {
         Ok(_) => None,
         Err(error) => Some(error),
     }
 }
 
-// What a start answers where the device call of this number fails, the first two steps after it,
-// and how many notes a start on the disk finds then.
+// What a start answers, the first step, which notes a vote, and three later ones: one with nothing
+// to do, one that only asks, and one that notes an acknowledgement.
+type Refusals = [Option<NodeError>; 5];
+
+fn refused_steps<R: Threads + Sync>(rt: &R, alloc: Global, node: &mut SumNode) -> Refusals {
+    [
+        None,
+        refused_by(rt, alloc, node, Event::Timeout(1)),
+        refused_by(rt, alloc, node, Event::Timeout(2)),
+        refused_by(rt, alloc, node, Event::Hint(1)),
+        refused_by(rt, alloc, node, Event::Ack),
+    ]
+}
+
+// These where the device call of this number fails, and how many notes a start finds then on the
+// disk that comes back.
 fn with_failing<R: Threads + Sync>(
     rt: &R,
     alloc: Global,
     call: u64,
-) -> Result<([Option<NodeError>; 3], usize), Fail> {
+) -> Result<(Refusals, usize), Fail> {
     let disk = MemoryDisk::new(alloc, vec![in alloc; call]?);
     match start_first(rt, alloc, disk)? {
-        Err((disk, error)) => Ok(([Some(error), None, None], found_again(rt, alloc, disk)?)),
+        Err((disk, error)) => Ok((
+            [Some(error), None, None, None, None],
+            found_again(rt, alloc, disk)?,
+        )),
         Ok(mut node) => {
-            let first = refused_by(rt, alloc, &mut node, 1);
-            let second = refused_by(rt, alloc, &mut node, 2);
-            Ok((
-                [None, first, second],
-                found_again(rt, alloc, node.into_disk())?,
-            ))
+            let refusals = refused_steps(rt, alloc, &mut node);
+            Ok((refusals, found_again(rt, alloc, node.into_disk())?))
         }
     }
 }
@@ -72,14 +87,14 @@ fn a_node_says_where_its_disk_fails(rt: HostRuntime) -> Result<(), Fail> {
     let disk = Some(StoreError::Disk);
     let failed = Some(StoreError::Failed);
     for (call, answers, notes) in [
-        (1, [disk, None, None], 0),
-        (2, [disk, None, None], 0),
-        (3, [disk, None, None], 0),
-        (4, [None, disk, failed], 0),
-        (5, [None, disk, failed], 0),
-        (6, [None, disk, failed], 0),
-        (7, [None, disk, failed], 1),
-        (20, [None, None, None], 1),
+        (1, [disk, None, None, None, None], 0),
+        (2, [disk, None, None, None, None], 0),
+        (3, [disk, None, None, None, None], 0),
+        (4, [None, disk, failed, failed, failed], 0),
+        (5, [None, disk, failed, failed, failed], 0),
+        (6, [None, disk, failed, failed, failed], 0),
+        (7, [None, disk, failed, failed, failed], 1),
+        (20, [None; 5], 2),
     ] {
         assert_eq!(rt;
             with_failing(&rt, rt.alloc(), call)?,
@@ -97,12 +112,20 @@ const EMPTY_FRAME: [u8; 10] = [1, 0, 0, 0, 0, 0, 0, 0, 0, 0];
 
 const UNKNOWN_BYTE: [u8; 11] = [1, 0, 0, 0, 0, 0, 0, 0, 1, 9, 0];
 
-// How many frames a log finds on a disk of these bytes, or how it refuses them.
-fn frames_on(alloc: Global, bytes: &[u8]) -> Result<Result<usize, StoreError>, Fail> {
+// The frames that a log finds on a disk of these bytes, or how it refuses them.
+fn frames_on(alloc: Global, bytes: &[u8]) -> Result<String, Fail> {
     match Log::start(alloc, disk_of(alloc, bytes)?) {
-        Ok(log) => Ok(Ok(log.frames())),
-        Err((_, error)) => Ok(Err(error)),
+        Ok(log) => frames_of(alloc, &log),
+        Err((_, error)) => Ok(format!(in alloc; "{error:?}")?),
     }
+}
+
+fn frames_of(alloc: Global, log: &Log<MemoryDisk>) -> Result<String, Fail> {
+    let mut frames = Vec::new(alloc);
+    for place in 0..log.frames() {
+        frames.push(log.frame(place))?;
+    }
+    Ok(format!(in alloc; "{frames:?}")?)
 }
 
 // How a store and a node refuse a disk of these bytes, twice each.
@@ -141,11 +164,11 @@ fn node_on<R: Threads + Sync>(
 fn damaged_disks_are_foreign(rt: HostRuntime) -> Result<(), Fail> {
     let alloc = rt.alloc();
     for (bytes, frames, place) in [
-        (EMPTY_FRAME.as_slice(), Ok(1), 0),
-        (UNKNOWN_BYTE.as_slice(), Ok(1), 0),
-        (OPEN_END.as_slice(), Err(StoreError::Foreign(19)), 19),
+        (EMPTY_FRAME.as_slice(), "[[]]", 0),
+        (UNKNOWN_BYTE.as_slice(), "[[9]]", 0),
+        (OPEN_END.as_slice(), "Foreign(19)", 19),
     ] {
-        assert_eq!(rt; frames_on(alloc, bytes)?, frames);
+        assert_eq!(rt; frames_on(alloc, bytes)?.as_str(), frames);
         let foreign = Some(StoreError::Foreign(place));
         assert_eq!(rt; refused_on(&rt, alloc, bytes)?, [foreign; 4]);
     }

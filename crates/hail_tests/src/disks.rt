@@ -1,4 +1,4 @@
-//! Disks that hold given bytes, and members that are started on disks.
+//! Disks that hold given bytes or lost some, and members that are started on disks.
 
 ghost use Rattle.std.specs.Prelude.{false};
 
@@ -16,6 +16,16 @@ pub(crate) fn disk_of(alloc: Global, bytes: &[u8]) -> Result<MemoryDisk, Fail> {
     disk.write_at(0, bytes)?;
     disk.sync()?;
     Ok(disk)
+}
+
+/// What a crash leaves of a disk: what was written since the last sync is overwritten by 255s. A
+/// disk that stopped before is left as it stopped.
+pub(crate) fn crashed(mut disk: MemoryDisk) -> Result<MemoryDisk, Fail> {
+    disk.stop_at(1, 0, 255);
+    match disk.sync() {
+        Err(_) => Ok(disk.reopen()),
+        Ok(()) => Err("a crash".into()),
+    }
 }
 
 /// A node, and what its start gave.

@@ -39,26 +39,29 @@ impl TurnAlone for Counter {
     }
 }
 
-// Holds lane 0 until lane 1 arrives, for so many turns.
+// Holds lane 0 until lane 1 arrives, for so many turns; counts who came, and how often lane 0 found
+// lane 1 there.
 #[derive(Drop)]
 struct Door {
     open: AtomicU64,
-    late: AtomicU64,
+    came: AtomicU64,
+    passed: AtomicU64,
 }
 
 impl Gate for Door {
     fn arrive(&self, piece: usize) {
+        self.came.fetch_add(1, Ordering::SeqCst);
         if piece == 1 {
             self.open.store(1, Ordering::SeqCst);
         }
         if piece == 0 {
             for _ in 0..10_000_000u64 {
                 if self.open.load(Ordering::SeqCst) == 1 {
+                    self.passed.fetch_add(1, Ordering::SeqCst);
                     return;
                 }
                 thread::yield_now();
             }
-            self.late.store(1, Ordering::SeqCst);
         }
     }
 }
@@ -139,6 +142,32 @@ fn one_left_out<L: Session<Counter>, R: Wait>(
     }
 }
 
+// What a close that comes too early is told as.
+fn open_told<L: Session<Counter>, R: Wait>(
+    rt: &R,
+    alloc: Global,
+    blank: Blank,
+) -> Result<String, Fail>
+    requires name { blank.name ≡ L.name }
+    requires blank { blank.parts ≡ L.parts }
+    requires agreed { L.all ≡ L.parts }
+    requires parts { L.all ≡ 2 }
+    requires opening { L.opening ≡ Some (record { value = 0 }) }
+{
+    let mut mailbox: Mailbox<Counter, L> = Mailbox::new(alloc, 2, blank, Counter { value: 0 })?;
+    let other = mailbox.split(alloc)?;
+    let told = match mailbox.close(rt) {
+        Err(error) => format!(in alloc; "{error}: {error:?}")?,
+        Ok(_) => String::new(alloc),
+    };
+    drop(other);
+    Ok(told)
+}
+
+fn told_early<R: Wait>(rt: &R, alloc: Global) -> Result<String, Fail> {
+    open_told::<Brand, R>(rt, alloc, Blank::new(2))
+}
+
 fn gated<G: Gate, R: Threads + Wait + Sync>(
     rt: &R,
     gate: &G,
@@ -155,15 +184,24 @@ fn left_out<R: Wait>(rt: &R, alloc: Global) -> Result<(u64, usize), NoMemory> {
 fn lanes_run_beside_each_other(rt: HostRuntime) -> Result<(), Fail> {
     let door = Door {
         open: AtomicU64::new(0),
-        late: AtomicU64::new(0),
+        came: AtomicU64::new(0),
+        passed: AtomicU64::new(0),
     };
     assert_eq!(rt; gated(&rt, &door, rt.alloc())?, Some((24, 4)));
-    assert_eq!(rt; door.late.load(Ordering::SeqCst), 0);
+    assert_eq!(rt; door.came.load(Ordering::SeqCst), 2);
+    assert_eq!(rt; door.passed.load(Ordering::SeqCst), 1);
     Ok(())
 }
 
 #[test]
 fn open_until_all_are_joined(rt: HostRuntime) -> Result<(), Fail> {
     assert_eq!(rt; left_out(&rt, rt.alloc())?, (1, 1));
+    Ok(())
+}
+
+#[test]
+fn a_close_tells_what_is_missing(rt: HostRuntime) -> Result<(), Fail> {
+    let want = "not all parts of the session are here: Open(1 of 2)";
+    assert_eq!(rt; told_early(&rt, rt.alloc())?.as_str(), want);
     Ok(())
 }

@@ -1,5 +1,6 @@
 //! Tests of a store: its disk, the contracts of the harness, and the worked rows.
 
+mod answers;
 mod blocks;
 mod calls;
 mod store;
@@ -7,7 +8,7 @@ mod tables;
 
 use crate::disks::disk_of;
 use crate::tables::{count_of, head_and_rest};
-use calls::first_wrong;
+use answers::first_wrong;
 use cw_base::SumHasher;
 use cw_types::{Note, Vote};
 use marshal::{Marshal, MarshalError, notes_on};
@@ -142,7 +143,7 @@ fn with_failing(
     match open(alloc, 3, disk)? {
         Ok(mut marshal) => {
             let (first, second) = commit_twice(&mut marshal)?;
-            let notes = found_on(alloc, marshal.into_disk().reopen())?;
+            let notes = found_on(alloc, marshal.into_disk())?;
             Ok((first, second, notes))
         }
         Err(error) => Ok((Err(error), Err(error), 0)),
@@ -233,6 +234,6 @@ fn stores_answer_by_the_tables(rt: HostRuntime) -> Result<(), Fail> {
         let (name, table) = head_and_rest(part)?;
         assert_eq!(rt; first_wrong(&rt, alloc, table)?, None, "{name}");
     }
-    assert_eq!(rt; count_of(STORES), 19);
+    assert_eq!(rt; count_of(STORES), 21);
     Ok(())
 }

@@ -3,12 +3,14 @@
 
 mod blocks;
 mod calls;
+mod copies;
 mod member;
 mod play;
 mod said;
 mod scenes;
 mod tree;
 
+use copies::first_uncopied;
 use play::{first_changed, first_wrong, found_after};
 use scenes::{one_epoch, short_epochs, two_epochs};
 use std::test::Fail;
@@ -57,6 +59,16 @@ fn an_event_that_comes_twice_changes_nothing(rt: HostRuntime) -> Result<(), Fail
     let scene = one_epoch(&rt, alloc)?;
     for (id, table) in [(0, FIRST), (1, SECOND), (2, THIRD)] {
         assert_eq!(rt; first_changed(&rt, alloc, &scene, id, table)?, None);
+    }
+    Ok(())
+}
+
+#[test]
+fn copies_of_all_in_the_run_are_equal(rt: HostRuntime) -> Result<(), Fail> {
+    let alloc = rt.alloc();
+    let scene = one_epoch(&rt, alloc)?;
+    for (id, table) in [(0, FIRST), (1, SECOND), (2, THIRD)] {
+        assert_eq!(rt; first_uncopied(&rt, alloc, &scene, id, table)?, None);
     }
     Ok(())
 }

@@ -3,6 +3,7 @@
 use crate::cases::{Case, cases, two};
 use crate::runs::{Ended, run};
 use crate::tables::WORKED;
+use cw_base::SumHasher;
 use cw_types::Message;
 use hailstorm::Entry;
 use std::alloc::Global;
@@ -46,7 +47,7 @@ fn idle_and_end<R: Threads + Sync>(
     empty_and_end(alloc, &ended)
 }
 
-fn empty_and_end(alloc: Global, ended: &Ended) -> Result<(u64, String), Fail> {
+fn empty_and_end(alloc: Global, ended: &Ended<SumHasher>) -> Result<(u64, String), Fail> {
     let (_, end) = two(&ended.text, "member 0 ")?;
     Ok((empty_ones(ended)?, String::from_str(alloc, end)?))
 }
@@ -65,7 +66,7 @@ fn script_of(alloc: Global, case: Option<&Case>) -> Result<String, Fail> {
 }
 
 // In how many entries nothing was sent or handed out.
-fn empty_ones(ended: &Ended) -> Result<u64, Fail> {
+fn empty_ones(ended: &Ended<SumHasher>) -> Result<u64, Fail> {
     let mut count = 0u64;
     for entry in ended.report()?.steps.as_slice() {
         if entry.sent.is_empty() && entry.handed.is_empty() {
@@ -77,7 +78,7 @@ fn empty_ones(ended: &Ended) -> Result<u64, Fail> {
 
 // A script, lines by which a faulty member sends each message of its run in each form, and lines
 // that deliver these.
-fn fuzzed(alloc: Global, script: &str, ended: &Ended) -> Result<String, Fail> {
+fn fuzzed(alloc: Global, script: &str, ended: &Ended<SumHasher>) -> Result<String, Fail> {
     let mut lines = String::from_str(alloc, script)?;
     for entry in ended.report()?.steps.as_slice() {
         put_entry(alloc, &mut lines, entry)?;

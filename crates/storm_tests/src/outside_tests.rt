@@ -1,7 +1,7 @@
 //! Tests of what comes from outside: words, sources and sinks that fail, and sizes.
 
 use crate::runs::{source_of, told_from, told_into};
-use cw_base::{MemorySink, MemorySource};
+use cw_base::{MemorySink, MemorySource, SumHasher};
 use std::alloc::Global;
 use std::test::Fail;
 
@@ -65,7 +65,13 @@ fn a_sink_that_fails_has_a_front_of_the_text(rt: HostRuntime) -> Result<(), Fail
     let alloc = rt.alloc();
     for (call, want) in [(1u64, ""), (2, "open 0\nhan"), (3, "open 0\nhand 0 0 0202")] {
         let sink = MemorySink::new(alloc, 10, vec![in alloc; call]?)?;
-        let (status, text) = told_into(&rt, alloc, &[], source_of(alloc, HEADER)?, sink)?;
+        let (status, text) = told_into::<SumHasher, _>(
+            &rt,
+            alloc,
+            &[],
+            source_of(alloc, HEADER)?,
+            sink,
+        )?;
         assert_eq!(rt; (status, text.as_str()), (6, want), "at {call}");
     }
     Ok(())

@@ -1,6 +1,6 @@
 //! Runs of the program on a text in memory.
 
-use cw_base::{MemorySink, MemorySource, Sequential, SumHasher};
+use cw_base::{Digest32, Hasher, MemorySink, MemorySource, Sequential, SumHasher};
 use hailstorm::{Exit, Report, run_program};
 use std::alloc::Global;
 use std::test::Fail;
@@ -8,15 +8,15 @@ use std::thread::Threads;
 
 /// How a run ended.
 #[derive(Drop)]
-pub(crate) struct Ended {
-    pub exit: Exit<Report<SumHasher>>,
+pub(crate) struct Ended<H: Hasher<Digest = Digest32>> {
+    pub exit: Exit<Report<H>>,
     /// What was written.
     pub text: String,
 }
 
-impl Ended {
+impl<H: Hasher<Digest = Digest32>> Ended<H> {
     /// The report of a run that is done.
-    pub(crate) fn report(&self) -> Result<&Report<SumHasher>, Fail> {
+    pub(crate) fn report(&self) -> Result<&Report<H>, Fail> {
         match &self.exit {
             Exit::Done(report) => Ok(report),
             _ => Err("a run that is done".into()),
@@ -35,7 +35,11 @@ impl Ended {
 }
 
 /// Runs a script.
-pub(crate) fn run<R: Threads + Sync>(rt: &R, alloc: Global, script: &str) -> Result<Ended, Fail> {
+pub(crate) fn run<R: Threads + Sync>(
+    rt: &R,
+    alloc: Global,
+    script: &str,
+) -> Result<Ended<SumHasher>, Fail> {
     let source = source_of(alloc, script)?;
     run_into(rt, alloc, &[], source, sink_of(alloc)?)
 }
@@ -46,8 +50,17 @@ pub(crate) fn told<R: Threads + Sync>(
     alloc: Global,
     script: &str,
 ) -> Result<(u8, String), Fail> {
+    told_by::<SumHasher, R>(rt, alloc, script)
+}
+
+/// The same under any hasher.
+pub(crate) fn told_by<H: Hasher<Digest = Digest32>, R: Threads + Sync>(
+    rt: &R,
+    alloc: Global,
+    script: &str,
+) -> Result<(u8, String), Fail> {
     let source = source_of(alloc, script)?;
-    told_from(rt, alloc, &[], source)
+    told_into::<H, R>(rt, alloc, &[], source, sink_of(alloc)?)
 }
 
 /// A source of that text.
@@ -69,33 +82,33 @@ pub(crate) fn told_from<R: Threads + Sync>(
     source: MemorySource,
 ) -> Result<(u8, String), Fail> {
     let sink = sink_of(alloc)?;
-    told_into(rt, alloc, words, source, sink)
+    told_into::<SumHasher, R>(rt, alloc, words, source, sink)
 }
 
 /// The same on words, a source and a sink.
-pub(crate) fn told_into<R: Threads + Sync>(
+pub(crate) fn told_into<H: Hasher<Digest = Digest32>, R: Threads + Sync>(
     rt: &R,
     alloc: Global,
     words: &[String],
     source: MemorySource,
     sink: MemorySink,
 ) -> Result<(u8, String), Fail> {
-    let Ended { exit, text } = run_into(rt, alloc, words, source, sink)?;
+    let Ended { exit, text } = run_into::<H, R>(rt, alloc, words, source, sink)?;
     Ok((exit.status(), text))
 }
 
 // Runs the program on words, a source and a sink.
-fn run_into<R: Threads + Sync>(
+fn run_into<H: Hasher<Digest = Digest32>, R: Threads + Sync>(
     rt: &R,
     alloc: Global,
     words: &[String],
     source: MemorySource,
     sink: MemorySink,
-) -> Result<Ended, Fail> {
+) -> Result<Ended<H>, Fail> {
     let mut source = source;
     let mut sink = sink;
     sink.reserve(65_536)?;
-    let exit = run_program::<SumHasher, R, MemorySource, MemorySink, Sequential>(
+    let exit = run_program::<H, R, MemorySource, MemorySink, Sequential>(
         rt,
         alloc,
         words,
@@ -107,11 +120,11 @@ fn run_into<R: Threads + Sync>(
 }
 
 // A run that ended so, and wrote into that sink.
-fn with_text(
+fn with_text<H: Hasher<Digest = Digest32>>(
     alloc: Global,
-    exit: Exit<Report<SumHasher>>,
+    exit: Exit<Report<H>>,
     sink: &MemorySink,
-) -> Result<Ended, Fail> {
+) -> Result<Ended<H>, Fail> {
     let text = String::from_utf8_lossy(alloc, sink.bytes())?;
     Ok(Ended { exit, text })
 }

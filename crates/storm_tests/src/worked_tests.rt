@@ -1,8 +1,9 @@
 //! Tests of runs whose texts are known.
 
 use crate::cases::{Case, cases};
-use crate::runs::{run, told};
-use crate::tables::{BOUNDARY, REFUSED, REPEATED, WORKED};
+use crate::runs::{run, told_by};
+use crate::tables::{BOUNDARY, HASHED, REFUSED, REPEATED, WORKED};
+use cw_base::{Digest32, Hasher, Sha256, SumHasher};
 use std::alloc::Global;
 use std::test::Fail;
 use std::thread::Threads;
@@ -10,22 +11,39 @@ use std::thread::Threads;
 #[test]
 fn runs_end_with_the_texts_of_the_tables(rt: HostRuntime) -> Result<(), Fail> {
     for table in [WORKED, BOUNDARY, REFUSED, REPEATED] {
-        let wrong = first_wrong(&rt, rt.alloc(), table)?;
+        let wrong = first_wrong::<SumHasher, _>(&rt, rt.alloc(), table)?;
         assert_eq!(rt; wrong.as_str(), "");
     }
     Ok(())
 }
 
-// The name of the first run of a table that ends otherwise, and what it wrote; empty where all end
-// so.
-fn first_wrong<R: Threads + Sync>(rt: &R, alloc: Global, table: &str) -> Result<String, Fail> {
-    let cases = cases(alloc, table)?;
-    wrong_of(rt, alloc, &cases)
+#[test]
+fn runs_under_sha_256_end_with_the_texts_of_an_independent_program(
+    rt: HostRuntime,
+) -> Result<(), Fail> {
+    let wrong = first_wrong::<Sha256, _>(&rt, rt.alloc(), HASHED)?;
+    assert_eq!(rt; wrong.as_str(), "");
+    Ok(())
 }
 
-fn wrong_of<R: Threads + Sync>(rt: &R, alloc: Global, cases: &[Case]) -> Result<String, Fail> {
+// The name of the first run of a table that ends otherwise, and what it wrote; empty where all end
+// so.
+fn first_wrong<H: Hasher<Digest = Digest32>, R: Threads + Sync>(
+    rt: &R,
+    alloc: Global,
+    table: &str,
+) -> Result<String, Fail> {
+    let cases = cases(alloc, table)?;
+    wrong_of::<H, R>(rt, alloc, &cases)
+}
+
+fn wrong_of<H: Hasher<Digest = Digest32>, R: Threads + Sync>(
+    rt: &R,
+    alloc: Global,
+    cases: &[Case],
+) -> Result<String, Fail> {
     for case in cases {
-        let wrong = wrong_text(rt, alloc, case)?;
+        let wrong = wrong_text::<H, R>(rt, alloc, case)?;
         if !wrong.is_empty() {
             return Ok(wrong);
         }
@@ -34,8 +52,12 @@ fn wrong_of<R: Threads + Sync>(rt: &R, alloc: Global, cases: &[Case]) -> Result<
 }
 
 // The same of one run.
-fn wrong_text<R: Threads + Sync>(rt: &R, alloc: Global, case: &Case) -> Result<String, Fail> {
-    let (status, text) = told(rt, alloc, case.script)?;
+fn wrong_text<H: Hasher<Digest = Digest32>, R: Threads + Sync>(
+    rt: &R,
+    alloc: Global,
+    case: &Case,
+) -> Result<String, Fail> {
+    let (status, text) = told_by::<H, R>(rt, alloc, case.script)?;
     let name = case.name;
     let found = format!(in alloc; "{status} {name}:\n{text}")?;
     let want = format!(in alloc; "{} {name}:\n{}", case.status, case.text)?;

@@ -1,6 +1,6 @@
 //! Each format read back, cut, changed and refused.
 
-use super::is_junk;
+use super::{first_block, is_junk};
 use crate::tables::case_in;
 use cw_base::{CodecError, Reader};
 use cw_types::{Cert, ChainBlock, Commitment, Context, Message, Note, Proposal, Vote};
@@ -176,5 +176,37 @@ fn values_are_refused_at_their_first_fault(rt: HostRuntime) -> Result<(), Fail> 
         count = count.wrapping_add(1);
     }
     assert_eq!(rt; count, 12);
+    Ok(())
+}
+
+// whether bytes are those of a block; none where they are no block's
+fn is_block(alloc: Global, bytes: &[u8], block: &ChainBlock) -> Result<Option<bool>, Fail> {
+    match ChainBlock::of_bytes(alloc, bytes)? {
+        Some(found) => Ok(Some(found == *block)),
+        None => Ok(None),
+    }
+}
+
+// that of the bytes of a block as they are, with one more behind them, and cut
+fn told_of(alloc: Global, block: &ChainBlock) -> Result<[Option<bool>; 3], Fail> {
+    let mut bytes = Vec::new(alloc);
+    block.write(&mut bytes)?;
+    let whole = is_block(alloc, &bytes, block)?;
+    bytes.push(0)?;
+    let longer = is_block(alloc, &bytes, block)?;
+    bytes.truncate(168);
+    Ok([whole, longer, is_block(alloc, &bytes, block)?])
+}
+
+fn told_of_first(alloc: Global) -> Result<[Option<bool>; 3], Fail> {
+    let block = first_block(alloc)?;
+    let told = told_of(alloc, &block);
+    drop(block);
+    told
+}
+
+#[test]
+fn a_block_is_of_all_its_bytes(rt: HostRuntime) -> Result<(), Fail> {
+    assert_eq!(rt; told_of_first(rt.alloc())?, [Some(true), None, None]);
     Ok(())
 }

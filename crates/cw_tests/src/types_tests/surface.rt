@@ -2,8 +2,8 @@
 
 use cw_base::NoMemory;
 use cw_types::{
-    AcceptAll, Application, Automaton, CertifiableAutomaton, Context, Feedback, Handoff, Monitor,
-    Relay, Reporter, Round, To, Vote,
+    AcceptAll, Application, Automaton, CertifiableAutomaton, ChainBlock, Context, Feedback,
+    Handoff, Monitor, Relay, Reporter, Round, To, Vote,
 };
 use std::alloc::Global;
 use std::test::Fail;
@@ -89,11 +89,33 @@ fn an_automaton_waits_and_certifies_unless_it_says_otherwise(rt: HostRuntime) ->
     let seen = (counter.last, verified, prepared, certified);
     assert_eq!(rt; seen, (7, true, Handoff::Wait, true));
     let ready = (is_made_ready(&mut counter), is_made_ready(&mut Stager));
-    assert_eq!(rt;
-        (ready, AcceptAll.prepare().is_wait()),
-        ((false, true), true)
-    );
+    assert_eq!(rt; ready, (false, true));
     Ok(())
+}
+
+// lets no block stand, and has one made ready
+struct Refuser;
+
+impl Application for Refuser {
+    ghost use Rattle.std.specs.Prelude.{false};
+
+    ghost accepts = { λ refuser block parent. false };
+
+    ghost waits = { λ refuser. ⊥ };
+
+    fn verify(&self, _block: &ChainBlock, _parent: &ChainBlock) -> bool {
+        false
+    }
+
+    fn prepare(&self) -> Handoff<()> {
+        Handoff::Stage(())
+    }
+}
+
+#[test]
+fn an_application_waits_unless_it_says_otherwise(rt: HostRuntime) {
+    let prepared = (AcceptAll.prepare(), Refuser.prepare());
+    assert_eq!(rt; prepared, (Handoff::Wait, Handoff::Stage(())));
 }
 
 // takes so many, and is then closed

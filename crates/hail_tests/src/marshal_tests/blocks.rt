@@ -101,13 +101,24 @@ pub(crate) fn at(blocks: &[Made], place: usize) -> Result<&Made, Fail> {
 
 /// The finalization of a block in a view, by members 0, 1 and 2.
 pub(crate) fn finalization(alloc: Global, made: &Made, view: u64) -> Result<Cert, Fail> {
-    Ok(Cert {
-        vote: Vote::Finalize(Proposal {
-            epoch: 0,
-            view,
-            parent: made.block.context().parent_view,
-            payload: made.commitment,
-        }),
-        signers: Items::from_vec(vec![in alloc; 0, 1, 2]?),
-    })
+    signed(alloc, Vote::Finalize(proposal(made, view)))
+}
+
+/// Its notarization in a view, by the same.
+pub(crate) fn notarization(alloc: Global, made: &Made, view: u64) -> Result<Cert, Fail> {
+    signed(alloc, Vote::Notarize(proposal(made, view)))
+}
+
+fn proposal(made: &Made, view: u64) -> Proposal {
+    Proposal {
+        epoch: 0,
+        view,
+        parent: made.block.context().parent_view,
+        payload: made.commitment,
+    }
+}
+
+fn signed(alloc: Global, vote: Vote) -> Result<Cert, Fail> {
+    let signers = Items::from_vec(vec![in alloc; 0, 1, 2]?);
+    Ok(Cert { vote, signers })
 }

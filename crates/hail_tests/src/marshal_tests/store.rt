@@ -5,6 +5,7 @@ ghost use Rattle.cw_types.specs.Values as values;
 ghost use Rattle.cw_types.specs.declared.note.Note.{Note};
 
 use super::blocks::Made;
+use crate::disks::crashed;
 use cw_base::{Sequential, SumHasher};
 use cw_types::{Cert, Commitment, Committees, Epoch, Height, Round, View, Vote, well_formed};
 use marshal::{Identifier, Marshal, MarshalError};
@@ -29,11 +30,11 @@ impl Store {
         Ok(Store { backlog, marshal })
     }
 
-    /// Starts it again on its disk. Another stands in its place meanwhile.
+    /// Starts it again on what a crash leaves of its disk. Another stands in its place meanwhile.
     pub(crate) fn restart(&mut self, alloc: Global) -> Result<(), Fail> {
         let other = opened(alloc, self.backlog, MemoryDisk::new(alloc, Vec::new(alloc)))?;
         let disk = mem::replace(&mut self.marshal, other).into_disk();
-        self.marshal = opened(alloc, self.backlog, disk.reopen())?;
+        self.marshal = opened(alloc, self.backlog, crashed(disk)?)?;
         Ok(())
     }
 

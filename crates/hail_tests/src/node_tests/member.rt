@@ -3,9 +3,9 @@
 use super::blocks::Scene;
 use super::calls::{NodeCall, event_of};
 use super::said::text_of;
-use crate::disks::{Started, start};
+use crate::disks::{Started, crashed, start};
 use cw_base::{Sequential, SumHasher};
-use cw_types::{AcceptAll, StepOut};
+use cw_types::{AcceptAll, Event, Note, StepOut};
 use node::{Node, NodeError};
 use node_disk::MemoryDisk;
 use std::alloc::Global;
@@ -56,7 +56,7 @@ impl Member {
         Ok(Member { id, node, opening })
     }
 
-    // Starts it again on its disk. Another node stands in its place meanwhile.
+    // Starts it again on what a crash leaves of its disk. Another node stands in its place meanwhile.
     fn restart<R: Threads + Sync>(
         &mut self,
         rt: &R,
@@ -66,7 +66,7 @@ impl Member {
         let new_disk = MemoryDisk::new(alloc, Vec::new(alloc));
         let (other, opening) = started(rt, alloc, scene, self.id, new_disk)?;
         drop(opening);
-        let disk = mem::replace(&mut self.node, other).into_disk().reopen();
+        let disk = crashed(mem::replace(&mut self.node, other).into_disk())?;
         let (node, opening) = started(rt, alloc, scene, self.id, disk)?;
         drop(mem::replace(&mut self.node, node));
         drop(mem::replace(&mut self.opening, opening));
@@ -78,11 +78,28 @@ impl Member {
         self.node.notes().len()
     }
 
+    /// Its notes.
+    pub(crate) fn all_notes(&self) -> &[Note] {
+        self.node.notes()
+    }
+
     fn stop_at(&mut self, call: u64, cut: u64, fill: u8) {
         self.node.stop_at(call, cut, fill);
     }
 
-    // What it answers to an event.
+    /// What it answers to an event.
+    pub(crate) fn take<R: Threads + Sync>(
+        &mut self,
+        rt: &R,
+        alloc: Global,
+        scene: &Scene,
+        event: &Event,
+    ) -> Result<StepOut, NodeError> {
+        self.node
+            .step(rt, alloc, event, scene.signed(), &Sequential)
+    }
+
+    // What it answers to the event of a call.
     fn step<R: Threads + Sync>(
         &mut self,
         rt: &R,
@@ -91,10 +108,7 @@ impl Member {
         call: NodeCall,
     ) -> Result<Result<StepOut, NodeError>, Fail> {
         let event = event_of(alloc, scene, call)?;
-        Ok(
-            self.node
-                .step(rt, alloc, &event, scene.signed(), &Sequential),
-        )
+        Ok(self.take(rt, alloc, scene, &event))
     }
 
     // The text of what it answers to an event.

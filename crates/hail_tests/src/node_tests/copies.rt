@@ -1,0 +1,122 @@
+//! Copies of all that a member takes, notes and gives.
+
+use super::blocks::Scene;
+use super::calls::{NodeCall, event_of, told_by};
+use super::member::Member;
+use cw_types::{ChainBlock, Event, Message, Note, StepOut};
+use std::alloc::Global;
+use std::test::Fail;
+use std::thread::Threads;
+
+/// The place of the first line of a table at which a copy is another thing for a new member: of an
+/// event, of what it gives, or, where its notes are counted, of one of these; none where all are
+/// equal.
+pub(crate) fn first_uncopied<R: Threads + Sync>(
+    rt: &R,
+    alloc: Global,
+    scene: &Scene,
+    id: u16,
+    table: &str,
+) -> Result<Option<usize>, Fail> {
+    let mut member = Member::new(rt, alloc, scene, id)?;
+    let place = uncopied_at(rt, alloc, scene, &mut member, table);
+    drop(member);
+    place
+}
+
+fn uncopied_at<R: Threads + Sync>(
+    rt: &R,
+    alloc: Global,
+    scene: &Scene,
+    member: &mut Member,
+    table: &str,
+) -> Result<Option<usize>, Fail> {
+    for (place, line) in table.lines().enumerate() {
+        let (call, _) = told_by(line)?;
+        if !is_copied(rt, alloc, scene, member, call)? {
+            return Ok(Some(place));
+        }
+    }
+    Ok(None)
+}
+
+fn is_copied<R: Threads + Sync>(
+    rt: &R,
+    alloc: Global,
+    scene: &Scene,
+    member: &mut Member,
+    call: NodeCall,
+) -> Result<bool, Fail> {
+    match call {
+        NodeCall::Notes => are_notes_copied(alloc, member.all_notes()),
+        _ => {
+            let event = event_of(alloc, scene, call)?;
+            let same = is_step_copied(rt, alloc, scene, member, &event);
+            drop(event);
+            same
+        }
+    }
+}
+
+// Whether the copies of an event and of what the member answers to it equal them.
+fn is_step_copied<R: Threads + Sync>(
+    rt: &R,
+    alloc: Global,
+    scene: &Scene,
+    member: &mut Member,
+    event: &Event,
+) -> Result<bool, Fail> {
+    let out = member.take(rt, alloc, scene, event)?;
+    let same = is_answer_copied(alloc, &out);
+    drop(out);
+    Ok(same? && is_event_copied(alloc, event)?)
+}
+
+fn is_event_copied(alloc: Global, event: &Event) -> Result<bool, Fail> {
+    Ok(event.copy(alloc)? == *event)
+}
+
+// The answer itself, and each message that it has.
+fn is_answer_copied(alloc: Global, out: &StepOut) -> Result<bool, Fail> {
+    for sent in out.sent.as_slice() {
+        if !is_message_copied(alloc, &sent.message)? {
+            return Ok(false);
+        }
+    }
+    Ok(out.copy(alloc)? == *out)
+}
+
+fn is_message_copied(alloc: Global, message: &Message) -> Result<bool, Fail> {
+    Ok(message.copy(alloc)? == *message)
+}
+
+fn are_notes_copied(alloc: Global, notes: &[Note]) -> Result<bool, Fail> {
+    for note in notes {
+        if !is_inner_copied(alloc, note)? || !is_note_copied(alloc, note)? {
+            return Ok(false);
+        }
+    }
+    Ok(true)
+}
+
+fn is_note_copied(alloc: Global, note: &Note) -> Result<bool, Fail> {
+    Ok(note.copy(alloc)? == *note)
+}
+
+// The block or the certificate that is noted.
+fn is_inner_copied(alloc: Global, note: &Note) -> Result<bool, Fail> {
+    match note {
+        Note::Block(_, block) => is_block_copied(alloc, block),
+        Note::Cert(cert) => Ok(cert.copy(alloc)? == *cert),
+        _ => Ok(true),
+    }
+}
+
+// A block, and its payload.
+fn is_block_copied(alloc: Global, block: &ChainBlock) -> Result<bool, Fail> {
+    let payload = block.payload();
+    if payload.copy(alloc)? != *payload {
+        return Ok(false);
+    }
+    Ok(block.copy(alloc)? == *block)
+}
