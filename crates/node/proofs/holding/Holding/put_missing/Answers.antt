@@ -36,7 +36,7 @@ returns-clause-asked g c = λ old on place from.
     let all =
     c.deref-3.ensures.value
     ∙ (c.in_ok-asked.ensures
-    ∙ ((λ i. rule.once (c.genesis_commitment.ensures i ∷ []) (c.deref-2.ensures.value i))
+    ∙ (ap (rule.once (genesis_commitment r ∷ [])) c.deref-2.ensures.value
     ∙ asked_once r old (state_of h) entries on c.args.place c.in_ok-led.led.items place led
     c.args.height c.in_ok-new.new.items from new)) in
     c.in_ok-put_asks.ensures
