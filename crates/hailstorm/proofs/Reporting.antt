@@ -74,8 +74,7 @@ pub caused : (hash : List ℕ → Digest32) (text : List ℕ) (s : Scenario) (e 
     → IsStopped (rules_of hash s) (opened hash s) s.lines e → IsCause hash text e
 caused hash text s error.NoMemory spells law differ h = tt
 caused hash text s (error.HashClash earlier later) spells law differ h =
-    let shows = law earlier later h in
-    (
+    let shows = law earlier later h in (
       s,
       spells,
       record {

@@ -222,13 +222,15 @@ cuts a c x m some fits_a fits_c fits_x known =
       one =
           lacks_both 10 (codes "cut ") behind (refl, (refl, (refl, (refl, tt))))
           (lacks_both 10 (decimal a) (32 ∷ (decimal c ++ 32 ∷ last))
-          (lacks_decimal 10 a (omega arith) fits_a)
-          (refl,
-          lacks_both 10 (decimal c) (32 ∷ last) (lacks_decimal 10 c (omega arith) fits_c)
-          (refl,
-          lacks_both 10 (decimal x) (codes " ack " ++ decimal m)
-          (lacks_decimal 10 x (omega arith) (omega arith))
-          (refl, (refl, (refl, (refl, (refl, lacks_decimal 10 m (omega arith) (omega arith)))))))));
+          (lacks_decimal 10 a (omega arith) fits_a) (
+            refl,
+            lacks_both 10 (decimal c) (32 ∷ last) (lacks_decimal 10 c (omega arith) fits_c) (
+              refl,
+              lacks_both 10 (decimal x) (codes " ack " ++ decimal m)
+                  (lacks_decimal 10 x (omega arith) (omega arith))
+                  (refl, (refl, (refl, (refl, (refl, lacks_decimal 10 m (omega arith) (omega arith)))))),
+            ),
+          ));
       event = Cut a c x m Ack;
       read = ap event_in split ∙ is_read;
       known = known_of m known;
@@ -482,7 +484,7 @@ storm_runs number =
     let has = storm_lines number in (
       script has.storm.parts has.storm.each,
       ap script_of (has.text ∙ ap (λ (l : List ℕ). head ++ l) has.storm.whole)
-      ∙ is_script has.storm.parts has.storm.each,
+          ∙ is_script has.storm.parts has.storm.each,
     )
 
 pub storm_short : (number : ℕ) → length (lines (storm_script number)) ≤ 6313
@@ -493,5 +495,5 @@ storm_short number =
       has.storm.few,
       ap (λ (l : List ℕ). length (lines l))
           (has.text ∙ ap (λ (l : List ℕ). head ++ l) has.storm.whole)
-      ∙ ap (λ (l : List (List ℕ)). length l) (lines_are has.storm.parts has.storm.each),
+          ∙ ap (λ (l : List (List ℕ)). length l) (lines_are has.storm.parts has.storm.each),
     )

@@ -16,9 +16,9 @@ returns-in-Ok-clause-run g c =
     let (text, read) = c.in-Ok.ensures.read in
     input_run hash (g.O.Sink.held c.args.output.now) (g.O.Sink.held c.end_with.new.output) text
     (g.I.Source.left c.run_source.new.input) c.end_with.result
-    (done_means hash text _ _ _ _ _ c.in-Ok.ran c.end_with.result read c.end_with.ensures)
+    (done_means hash text _ _ _ _ _ c.in-Ok.field-0 c.end_with.result read c.end_with.ensures)
 
-pub returns-in-Err-clause-run : goal.returns-in-Err-clause-run
-returns-in-Err-clause-run g c =
+pub returns-clause-run : goal.returns-clause-run
+returns-clause-run g c =
     early_run (IsRunOf g.H.Hasher.digest_of None) _ _ _ _ c.in-Err.early c.end_early.result
     c.end_early.ensures
