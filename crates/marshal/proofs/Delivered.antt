@@ -1,7 +1,7 @@
 -- What is handed out: each block is held and reached, the heights rise, and no more are pending
 -- than may be.
 use Rattle.std.proofs.Common.{◌≡◌, ◌⊎◌, inl, inr, ℕ, zero, suc, ◌+◌, ◌<◌, ◌≤◌, ◌==◌, ◌&&◌, Bool, true, false, cond, max, nat_lt, nat_le, List, [], ◌∷◌, length, map, filter, Option, Some, None, option_and_then, option_map, refl, sym, ◌∙◌, ap, subst, arith, append_assoc, append-nil, ltb-true, length-append}
-use Rattle.std.specs.List.{filter_map, last_or}
+use Rattle.std.specs.List.{filter_map, last_or, range_with_len}
 use Rattle.std.specs.Option.{option_map_or}
 use Rattle.std.proofs.lemmas.Bool.{and_from, cases_Bool, cond-false, cond-true, eqb-true, le-leb}
 use Rattle.std.proofs.lemmas.List.Elements.{filter-append}
@@ -149,6 +149,39 @@ module _ (r : Rules) where
   pub delivered_rises : (s : State)
       → rises_from (next s) (map (λ h. h.height) (deliveries r s)) ≡ true
   delivered_rises s = within_rises (most_delivered r s) s
+
+  -- ---- and go up by one
+
+  one_higher : (s : State) (h : ℕ) → h ≡ next s → next (with_given s h) ≡ h + 1
+  one_higher s h here = omega (arith, here, next_given r s h)
+
+  within_go_up : (steps : ℕ) (s : State)
+      → map (λ h. h.height) (deliveries_within r steps s)
+      ≡ range_with_len (next s) (length (deliveries_within r steps s))
+  within_go_up zero s = refl
+  within_go_up (suc steps) s = go (delivery r s) refl (λ k. within_go_up steps (with_given s k))
+    where
+      go : (o : Option Handed) → delivery r s ≡ o
+          → ((k : ℕ) → map (λ h. h.height) (deliveries_within r steps (with_given s k))
+          ≡ range_with_len (next (with_given s k))
+          (length (deliveries_within r steps (with_given s k))))
+          → map (λ h. h.height)
+          (option_map_or (λ x. x ∷ deliveries_within r steps (with_given s x.height)) o [])
+          ≡ range_with_len (next s)
+          (length
+          (option_map_or (λ x. x ∷ deliveries_within r steps (with_given s x.height)) o []))
+      go None is later = refl
+      go (Some x) is later =
+          let here = (handed s x is).height in
+          let more = deliveries_within r steps (with_given s x.height) in
+          ap (λ hs. x.height ∷ hs)
+          (later x.height ∙ ap (λ n. range_with_len n (length more)) (one_higher s x.height here))
+          ∙ ap (λ n. range_with_len n (suc (length more))) here
+
+  pub delivered_go_up : (s : State)
+      → map (λ h. h.height) (deliveries r s)
+      ≡ range_with_len (next s) (length (deliveries r s))
+  delivered_go_up s = within_go_up (most_delivered r s) s
 
   -- what was acknowledged isn't handed out by the next start
   pub resumes_above : (s : State) (a : ℕ) → s.given ≡ [] → last_ack s.notes ≡ Some a

@@ -5,7 +5,7 @@
 
 ghost use Rattle.std.specs.Prelude.{◌≡◌, ◌≢◌, ◌≤◌, ◌<◌, ◌+◌, ◌++◌, ◌∷◌, [], IsTrue, List, None};
 ghost use Rattle.std.specs.Prelude.{Some, filter_map, length, map, ℕ};
-ghost use Rattle.std.specs.List.{last_or};
+ghost use Rattle.std.specs.List.{last_or, range_with_len};
 ghost use Rattle.cw_types.specs.Block.{Block};
 ghost use Rattle.cw_types.specs.Epochs.{rises_from, size};
 ghost use Rattle.cw_types.specs.declared.commitment.Commitment.{Commitment};
@@ -51,8 +51,9 @@ pub fn law_of_recovery()
 {}
 
 /// What is handed out is held, and above genesis a noted finalization reaches it; both stay so
-/// until it is pruned. No height is handed out twice in a start, and none up to the last
-/// acknowledged one is handed out after the next start, so an acknowledged genesis isn't.
+/// until it is pruned. The heights of one call go up by one from the next height. No height is
+/// handed out twice in a start, and none up to the last acknowledged one is handed out after the
+/// next start, so an acknowledged genesis isn't.
 pub fn law_of_deliveries()
     ensures held { (r : Rules) (s : State) (h : Handed) → In h (deliveries r s)
         → (b : Block) × (held r s.notes h.commitment ≡ Some b) × (b.height ≡ h.height)
@@ -67,6 +68,8 @@ pub fn law_of_deliveries()
         → greatest_prune (notes ++ more) ≤ height → IsReached r (notes ++ more) height c }
     ensures rising { (r : Rules) (s : State)
         → IsTrue (rises_from (next s) (map (λ h. h.height) (deliveries r s))) }
+    ensures by_one { (r : Rules) (s : State) → map (λ h. h.height) (deliveries r s)
+        ≡ range_with_len (next s) (length (deliveries r s)) }
     ensures once { (r : Rules) (s : State) (given : ℕ) → last_or None s.given ≡ Some given
         → IsTrue (rises_from (given + 1) (map (λ h. h.height) (deliveries r s))) }
     ensures resumed { (r : Rules) (s : State) (acked : ℕ) → s.given ≡ []
