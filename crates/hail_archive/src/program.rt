@@ -2,7 +2,7 @@
 
 ghost use Rattle.std.specs.Prelude.{◌≡◌, IfOk, List, None, Option, Some, map, string_bytes, ℕ};
 ghost use Rattle.hailstorm.specs.Reports.{shown_report};
-ghost use Rattle.hailstorm.specs.Programs.{AnswersBy, HasFault, WasRun, IsSilent, UsageOf};
+ghost use Rattle.hailstorm.specs.Programs.{AnswersBy, HasFault, HasRun, WasRun, IsSilent, UsageOf};
 ghost use Rattle.hail_archive.specs.Program as spec;
 ghost use Rattle.hail_archive.specs.Program.{IsDone, usage_line};
 
@@ -46,6 +46,14 @@ pub fn archive_program<
         → AnswersBy H.digest_of (IsDone H.digest_of limit) text (I.left input.new)
         (O.held output.old) (O.held output.new) result }
 
+    // Whether or not the source tells its bytes: the usage is the answer to other words alone.
+    ensures usage_only { result ≡ Exit.Usage → spec.limit_of (map string_bytes words.now) ≡ None }
+
+    // Whether or not the source tells its bytes: done is told with what some text's run gives, whose
+    // text was written.
+    ensures run { (limit : ℕ) → spec.limit_of (map string_bytes words.now) ≡ Some limit
+        → HasRun (IsDone H.digest_of limit) (O.held output.old) (O.held output.new) result }
+
     // A fault is told only where the source or the sink has failed in this call.
     ensures fault { HasFault (I.faults input.old) (I.faults input.new)
         (O.faults output.old) (O.faults output.new) result }
@@ -82,6 +90,8 @@ fn run_input<H: Hasher<Digest = Digest32>, R: Threads + Sync, I: Source, O: Sink
     ensures answer { (text : List ℕ) → I.left input.old ≡ Some text
         → AnswersBy H.digest_of (IsDone H.digest_of limit) text (I.left input.new)
         (O.held output.old) (O.held output.new) result }
+    ensures run { HasRun (IsDone H.digest_of limit) (O.held output.old) (O.held output.new)
+        result }
     ensures fault { HasFault (I.faults input.old) (I.faults input.new)
         (O.faults output.old) (O.faults output.new) result }
     ensures silent { IsSilent (O.held output.old) (O.held output.new) result }

@@ -1,5 +1,5 @@
 -- What the lines of a script that is run bring in can be written.
-use Rattle.std.proofs.Common.{◌≡◌, ℕ, zero, suc, ◌+◌, ◌-◌, ◌*◌, ◌<◌, ◌≤◌, ◌==◌, ◌&&◌, Bool, true, false, nat_le, nat_lt, List, [], ◌∷◌, length, drop, Option, Some, None, Result, Ok, Err, refl, sym, ap, subst, ◌∙◌, arith}
+use Rattle.std.proofs.Common.{◌≡◌, ℕ, zero, suc, ◌+◌, ◌-◌, ◌*◌, ◌<◌, ◌≤◌, ◌==◌, ◌&&◌, Bool, true, false, nat_le, nat_lt, List, [], ◌∷◌, length, drop, map, Option, Some, None, Result, Ok, Err, refl, sym, ap, subst, ◌∙◌, arith}
 use Rattle.std.specs.Prelude.{bytes_eq, codes, if◌then◌else◌, option_map}
 use Rattle.std.specs.List.{AllByRecursion, list_all}
 use Rattle.std.proofs.lemmas.Bool.Decides.{nat_tests}
@@ -17,6 +17,7 @@ use Rattle.hail_script.specs.declared.headers.Header.{Header}
 use Rattle.hail_script.specs.declared.headers.Header.TheVariants.{Cluster, Several}
 use Rattle.hail_script.specs.Grammar as grammar
 use Rattle.hail_script.specs.Headers.{header_in, lists_in}
+use Rattle.hail_script.specs.Lanes.{Laned, head_in, laned_by, laned_of, others_in, sizes_in, told}
 use Rattle.hail_script.specs.Lines as lines
 use Rattle.hail_script.specs.Lines.{asking, event_in}
 use Rattle.hail_script.specs.Pieces.{bytes_in, fields, number, ok}
@@ -316,3 +317,23 @@ all_fit (Err e) t h raw = absurd (let no : Err e ≡ Ok t = h in cc)
 pub fits : (text : List ℕ) (s : Scenario) → grammar.script_of text ≡ Ok s
     → AllByRecursion FitsLine s.lines
 fits text s h = all_fit (grammar.spelled text) s h (spelled_raw (pieces.lines text))
+
+-- ---- a script with lanes
+
+script_by : (head : ℕ) (numbers sizes : List ℕ) (r : Result Scenario RunError) (x : Laned)
+    → laned_by head numbers sizes r ≡ Ok x → r ≡ Ok x.script
+script_by head numbers sizes (Ok s) x h =
+    let same : record { script = s; numbers = drop head numbers; sizes = sizes } ≡ x = cc in
+    ap (λ (y : Laned). let r : Result Scenario RunError = Ok y.script in r) same
+script_by head numbers sizes (Err e) x h =
+    absurd (let no : Err (told numbers e) ≡ Ok x = h in cc)
+
+pub laned_fits : (text : List ℕ) (x : Laned) → laned_of text ≡ Ok x
+    → AllByRecursion FitsLine x.script.lines
+laned_fits text x h =
+    let rows = others_in (pieces.lines text) in
+    let plain = map (λ (row : ℕ × List ℕ). row.1) rows in
+    all_fit (grammar.spelled_in plain) x.script
+    (script_by (head_in (pieces.lines text)) (map (λ (row : ℕ × List ℕ). row.0) rows)
+    (sizes_in (pieces.lines text)) (grammar.if_admitted (grammar.spelled_in plain)) x h)
+    (spelled_raw plain)

@@ -21,7 +21,7 @@ use Rattle.hailstorm.specs.Runs.{GoesBy, opened}
 use Rattle.hailstorm.specs.Seats.{Seat}
 use Rattle.hailstorm.specs.Turns.{IsBetween, IsOver, IsReportOf, IsTurnBy, IsTurnOf, IsTurning, Turning, between, told_order}
 use Rattle.hailstorm.proofs.Known.{count_lines}
-use Rattle.hailstorm.proofs.Laned.{count_rows, lanes_clashed, lanes_reported}
+use Rattle.hailstorm.proofs.Laned.{TellsApart, count_rows, lanes_clashed, lanes_reported}
 use Rattle.hailstorm.proofs.Merging.{fewer_left, left_more}
 
 pub none_when : {X : Type 0} (o : Option X) → ((x : X) → o ≡ Some x → ⊥) → o ≡ None
@@ -134,15 +134,16 @@ pub over_cause : (hash : List ℕ → Digest32) (text : List ℕ) (x : Laned) (o
     → ((r : Rules) (script : List Line) (earlier later : List ℕ)
     → outcome r (opening r script) script ≡ Clashes earlier later
     → (w : World) × Reaches r script w × IsClash r w earlier later)
+    → TellsApart (rules_of hash x.script) x.script.lines
     → IsLanesCause hash text (told_order order e) e
-over_cause hash text x order error.NoMemory spells h law = refl
-over_cause hash text x order (error.HashClash earlier later) spells h law =
-    lanes_clashed hash text x order earlier later spells h law
-over_cause hash text x order error.BadCommittee spells h law = absurd h
-over_cause hash text x order error.TooManyFaulty spells h law = absurd h
-over_cause hash text x order (error.Syntax line) spells h law = absurd h
-over_cause hash text x order (error.UnknownMember line) spells h law = absurd h
-over_cause hash text x order (error.OversizeBlock line) spells h law = absurd h
+over_cause hash text x order error.NoMemory spells h law apart = refl
+over_cause hash text x order (error.HashClash earlier later) spells h law apart =
+    lanes_clashed hash text x order earlier later spells h law apart
+over_cause hash text x order error.BadCommittee spells h law apart = absurd h
+over_cause hash text x order error.TooManyFaulty spells h law apart = absurd h
+over_cause hash text x order (error.Syntax line) spells h law apart = absurd h
+over_cause hash text x order (error.UnknownMember line) spells h law apart = absurd h
+over_cause hash text x order (error.OversizeBlock line) spells h law apart = absurd h
 
 -- ---- how many turns may come
 

@@ -1,7 +1,7 @@
 -- A script whose lanes are merged in an order.
-use Rattle.std.proofs.Common.{◌≡◌, ℕ, zero, suc, ◌+◌, ◌-◌, ◌<◌, ◌≤◌, ◌||◌, Bool, true, false, not, List, [], ◌∷◌, ◌++◌, length, map, take, drop, Option, Some, None, Result, Ok, Err, refl, sym, ap, subst, ◌∙◌, arith, append_assoc, append-nil, length-append, ◌⊎◌, inl, inr}
+use Rattle.std.proofs.Common.{◌≡◌, ◌≢◌, ℕ, zero, suc, ◌+◌, ◌-◌, ◌<◌, ◌≤◌, ◌||◌, Bool, true, false, not, List, [], ◌∷◌, ◌++◌, length, map, take, drop, Option, Some, None, Result, Ok, Err, refl, sym, ap, subst, ◌∙◌, arith, append_assoc, append-nil, length-append, ◌⊎◌, inl, inr}
 use Rattle.std.specs.Prelude.{cond, count_by, filter, filter_map, flat_map, is_none, slice_get, slice_index, slice_set}
-use Rattle.std.specs.List.{enumerate_from, list_any, range_with_len}
+use Rattle.std.specs.List.{AllByRecursion, enumerate_from, list_any, range_with_len}
 use Rattle.std.specs.Option.{option_map_or}
 use Rattle.std.proofs.Math.Path.{fun_ext}
 use Rattle.std.proofs.lemmas.List.Folds.{list_any-append}
@@ -14,6 +14,7 @@ use Rattle.cw_rules.specs.Reached.{IsClash, IsCluster, IsReported, Reaches}
 use Rattle.cw_rules.specs.Report.{Acked, Entry, Report as Reported, acked_at, entries_from, entry_of, first_line, handed_in, highest, opening_entries, opening_entry, report_of}
 use Rattle.cw_rules.specs.Rules.{Rules}
 use Rattle.cw_rules.specs.Step.{Member, start}
+use Rattle.cw_rules.specs.Telling.{FitsLine, TellsBlocks}
 use Rattle.cw_rules.specs.World.{Line, World, faults, happens, opening, run}
 use Rattle.hail_script.specs.Grammar.{first_event}
 use Rattle.hail_script.specs.Lanes.{Laned, cut, laned_of, lanes, prefix, rows}
@@ -22,7 +23,7 @@ use Rattle.hail_script.specs.declared.error.RunError.{RunError}
 use Rattle.hail_script.specs.declared.error.RunError.TheVariants as error
 use Rattle.hailstorm.specs.declared.place.Place.{Place}
 use Rattle.hailstorm.specs.declared.report.Report.{Report}
-use Rattle.hailstorm.specs.Lanes.{IsLanesCause, IsLanesClash, IsLanesReport, as_plain, but_last, lane_at, left, lines_of, merged, played, renumbered, script_with, turns_of, whole}
+use Rattle.hailstorm.specs.Lanes.{IsLanesCause, IsLanesClash, IsLanesReport, as_plain, but_last, lane_at, left, lines_of, merged, played, renumbered, script_with, turns_of, whole, without_next}
 use Rattle.hailstorm.specs.Places.{WorkBy, rules_of}
 use Rattle.hailstorm.specs.Reports.{IsClashOf, IsRun}
 use Rattle.hailstorm.specs.Runs.{IsStopped, chain_from, opened}
@@ -129,6 +130,73 @@ same_entries r a b same =
     })) in o)
     (range_with_len 0 r.epochs.total))
     same
+
+-- ---- what holds of each line holds in another order
+
+module _ (P : Line → Type 0) where
+  abbrev Holds : ℕ × Line → Type 0
+  Holds row = P row.1
+
+  all_joined : (a b : List (ℕ × Line)) → AllByRecursion Holds a → AllByRecursion Holds b
+      → AllByRecursion Holds (a ++ b)
+  all_joined [] b p q = q
+  all_joined (row ∷ a) b p q = (p.0, all_joined a b p.1 q)
+
+  all_apart : (a b : List (ℕ × Line)) → AllByRecursion Holds (a ++ b)
+      → AllByRecursion Holds a × AllByRecursion Holds b
+  all_apart [] b p = (tt, p)
+  all_apart (row ∷ a) b p = let more = all_apart a b p.1 in ((p.0, more.0), more.1)
+
+  all_taken : (a : List (ℕ × Line)) → AllByRecursion Holds a
+      → AllByRecursion Holds (take 1 a) × AllByRecursion Holds (drop 1 a)
+  all_taken [] p = (tt, tt)
+  all_taken (row ∷ a) p = ((p.0, tt), p.1)
+
+  -- the next line of a lane, and the lanes without it
+  all_next : (lanes : List (List (ℕ × Line))) (k : ℕ)
+      → AllByRecursion Holds (flat_map (λ lane. lane) lanes)
+      → AllByRecursion Holds (take 1 (lane_at lanes k))
+      × AllByRecursion Holds (flat_map (λ lane. lane) (without_next lanes k))
+  all_next [] k p = (tt, tt)
+  all_next (lane ∷ lanes) zero p =
+      let both = all_apart lane (flat_map (λ lane. lane) lanes) p in
+      let parts = all_taken lane both.0 in
+      (parts.0, all_joined (drop 1 lane) (flat_map (λ lane. lane) lanes) parts.1 both.1)
+  all_next (lane ∷ lanes) (suc k) p =
+      let both = all_apart lane (flat_map (λ lane. lane) lanes) p in
+      let more = all_next lanes k both.1 in
+      (more.0, all_joined lane (flat_map (λ lane. lane) (without_next lanes k)) both.0 more.1)
+
+  all_merged : (lanes : List (List (ℕ × Line))) (order : List ℕ)
+      → AllByRecursion Holds (flat_map (λ lane. lane) lanes)
+      → AllByRecursion Holds (merged lanes order)
+      × AllByRecursion Holds (flat_map (λ lane. lane) (left lanes order))
+  all_merged lanes [] p = (tt, p)
+  all_merged lanes (k ∷ order) p =
+      let next = all_next lanes k p in
+      let more = all_merged (without_next lanes k) order next.1 in
+      (all_joined (take 1 (lane_at lanes k)) (merged (without_next lanes k) order) next.0 more.0, more.1)
+
+  all_rows : (a : List (ℕ × Line)) → AllByRecursion P (lines_of a) → AllByRecursion Holds a
+  all_rows [] p = tt
+  all_rows (row ∷ a) p = (p.0, all_rows a p.1)
+
+  all_lines_of : (a : List (ℕ × Line)) → AllByRecursion Holds a → AllByRecursion P (lines_of a)
+  all_lines_of [] p = tt
+  all_lines_of (row ∷ a) p = (p.0, all_lines_of a p.1)
+
+  same_all : (x : Laned) (order : List ℕ) → AllByRecursion P x.script.lines
+      → AllByRecursion P (lines_of (whole x order))
+  same_all x order p =
+      let rest = flat_map (λ lane. lane) (left (lanes x) order) in
+      let all = all_rows (rows x) (subst (AllByRecursion P) (sym (all_lines x)) p) in
+      let both =
+      all_apart (prefix x) (flat_map (λ lane. lane) (lanes x))
+      (subst (AllByRecursion Holds) (sym (parts x)) all) in
+      let turned = all_merged (lanes x) order both.1 in
+      all_lines_of (whole x order)
+      (all_joined (played x order) rest
+      (all_joined (prefix x) (merged (lanes x) order) both.0 turned.0) turned.1)
 
 -- ---- a turn
 
@@ -390,14 +458,37 @@ lanes_reported hash text x order opens steps cursors places faulty report spells
 
 -- ---- a clash
 
+-- the lines of a cluster's script fit, and a clash is of two different texts where they do, in any
+-- order
+pub record TellsApart (r : Rules) (lines : List Line) : Type 0 where
+  pub cluster : IsCluster r lines
+  pub fits : AllByRecursion FitsLine lines
+  pub law : (script : List Line) (earlier later : List ℕ) → IsCluster r script
+      → AllByRecursion FitsLine script → outcome r (opening r script) script ≡ Clashes earlier later
+      → earlier ≢ later
+
+pub tells_apart : (hash : List ℕ → Digest32) (x : Laned) → TellsBlocks (rules_of hash x.script)
+    → IsCluster (rules_of hash x.script) x.script.lines → AllByRecursion FitsLine x.script.lines
+    → ((r : Rules) (script : List Line) (earlier later : List ℕ) → TellsBlocks r → IsCluster r script
+    → AllByRecursion FitsLine script → outcome r (opening r script) script ≡ Clashes earlier later
+    → earlier ≢ later)
+    → TellsApart (rules_of hash x.script) x.script.lines
+tells_apart hash x tells cluster fits law = record {
+  cluster = cluster;
+  fits = fits;
+  law =
+      λ script earlier later c f h. law (rules_of hash x.script) script earlier later tells c f h;
+}
+
 clash_of_whole : (hash : List ℕ → Digest32) (x : Laned) (order earlier later : List ℕ)
     → outcome (rules_of hash x.script) (opened hash x.script) (lines_of (played x order))
     ≡ Clashes earlier later
     → ((r : Rules) (script : List Line) (earlier later : List ℕ)
     → outcome r (opening r script) script ≡ Clashes earlier later
     → (w : World) × Reaches r script w × IsClash r w earlier later)
+    → TellsApart (rules_of hash x.script) x.script.lines
     → IsClashOf hash (script_with x (whole x order)) earlier later
-clash_of_whole hash x order earlier later met law =
+clash_of_whole hash x order earlier later met law apart =
     let r = rules_of hash x.script in
     let rest = flat_map (λ lane. lane) (left (lanes x) order) in
     let all = lines_of (whole x order) in
@@ -410,7 +501,16 @@ clash_of_whole hash x order earlier later met law =
     subst (λ (v : World). outcome r v all ≡ Clashes earlier later)
     (same_opening r x.script.lines all (same_faults x order)) behind in
     let shows = law r all earlier later ends in
-    record { ends = ends; world = shows.0; reached = shows.1; shown = shows.2 }
+    record {
+      ends = ends;
+      world = shows.0;
+      reached = shows.1;
+      shown = shows.2;
+      texts =
+          apart.law all earlier later
+          (same_cluster r x.script.lines all (same_faults x order) apart.cluster)
+          (same_all FitsLine x order apart.fits) ends;
+    }
 
 pub lanes_clashed : (hash : List ℕ → Digest32) (text : List ℕ) (x : Laned)
     (order earlier later : List ℕ)
@@ -418,12 +518,13 @@ pub lanes_clashed : (hash : List ℕ → Digest32) (text : List ℕ) (x : Laned)
     → ((r : Rules) (script : List Line) (earlier later : List ℕ)
     → outcome r (opening r script) script ≡ Clashes earlier later
     → (w : World) × Reaches r script w × IsClash r w earlier later)
+    → TellsApart (rules_of hash x.script) x.script.lines
     → IsLanesClash hash text order earlier later
-lanes_clashed hash text x order earlier later spells h law = record {
+lanes_clashed hash text x order earlier later spells h law apart = record {
   laned = x;
   in_grammar = spells;
   at_most = h.turns;
-  clash = clash_of_whole hash x order earlier later h.ends law;
+  clash = clash_of_whole hash x order earlier later h.ends law apart;
   met = h.ends;
   at_last =
       λ some. (
@@ -440,9 +541,10 @@ pub opening_clashed : (hash : List ℕ → Digest32) (text : List ℕ) (x : Lane
     → ((r : Rules) (script : List Line) (earlier later : List ℕ)
     → outcome r (opening r script) script ≡ Clashes earlier later
     → (w : World) × Reaches r script w × IsClash r w earlier later)
+    → TellsApart (rules_of hash x.script) x.script.lines
     → IsLanesCause hash text [] e
-opening_clashed hash text x error.NoMemory spells h law = refl
-opening_clashed hash text x (error.HashClash earlier later) spells h law =
+opening_clashed hash text x error.NoMemory spells h law apart = refl
+opening_clashed hash text x (error.HashClash earlier later) spells h law apart =
     let met : outcome (rules_of hash x.script) (opened hash x.script) (lines_of (played x []))
     ≡ Clashes earlier later =
     ap
@@ -455,15 +557,15 @@ opening_clashed hash text x (error.HashClash earlier later) spells h law =
       laned = x;
       in_grammar = spells;
       at_most = λ k. omega arith;
-      clash = clash_of_whole hash x [] earlier later met law;
+      clash = clash_of_whole hash x [] earlier later met law apart;
       met = met;
       at_last = λ some. absurd (some refl);
     }
-opening_clashed hash text x error.BadCommittee spells h law = absurd h
-opening_clashed hash text x error.TooManyFaulty spells h law = absurd h
-opening_clashed hash text x (error.Syntax l) spells h law = absurd h
-opening_clashed hash text x (error.UnknownMember l) spells h law = absurd h
-opening_clashed hash text x (error.OversizeBlock l) spells h law = absurd h
+opening_clashed hash text x error.BadCommittee spells h law apart = absurd h
+opening_clashed hash text x error.TooManyFaulty spells h law apart = absurd h
+opening_clashed hash text x (error.Syntax l) spells h law apart = absurd h
+opening_clashed hash text x (error.UnknownMember l) spells h law apart = absurd h
+opening_clashed hash text x (error.OversizeBlock l) spells h law apart = absurd h
 
 -- refusals of a script with lanes are causes
 pub lanes_refused : (hash : List ℕ → Digest32) (text : List ℕ) (e : RunError)

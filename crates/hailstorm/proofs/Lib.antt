@@ -32,3 +32,6 @@ pub mod Prefixed
 pub mod LanesMeaning
 pub mod Shared
 pub mod Between
+pub mod StormWords
+pub mod StormLines
+pub mod Answering

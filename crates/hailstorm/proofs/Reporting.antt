@@ -1,5 +1,5 @@
 -- A report is that of its text, by the laws of runs.
-use Rattle.std.proofs.Common.{◌≡◌, ℕ, ◌+◌, ◌<◌, Bool, true, false, not, List, [], ◌∷◌, length, map, Option, Some, None, Result, Ok, Err, refl, sym, ap, subst, ◌∙◌, ◌⊎◌, inl, inr}
+use Rattle.std.proofs.Common.{◌≡◌, ◌≢◌, ℕ, ◌+◌, ◌<◌, Bool, true, false, not, List, [], ◌∷◌, length, map, Option, Some, None, Result, Ok, Err, refl, sym, ap, subst, ◌∙◌, ◌⊎◌, inl, inr}
 use Rattle.std.specs.Prelude.{filter, filter_map, if◌then◌else◌}
 use Rattle.std.specs.List.{list_any, range_with_len}
 use Rattle.cw_base.specs.declared.hash.Digest32.{Digest32}
@@ -69,13 +69,24 @@ pub caused : (hash : List ℕ → Digest32) (text : List ℕ) (s : Scenario) (e 
     → outcome (rules_of hash s) (opened hash s) s.lines ≡ Clashes earlier later
     → (w : World) × Reaches (rules_of hash s) s.lines w
     × IsClash (rules_of hash s) w earlier later)
+    → ((earlier later : List ℕ)
+    → outcome (rules_of hash s) (opened hash s) s.lines ≡ Clashes earlier later → earlier ≢ later)
     → IsStopped (rules_of hash s) (opened hash s) s.lines e → IsCause hash text e
-caused hash text s error.NoMemory spells law h = tt
-caused hash text s (error.HashClash earlier later) spells law h =
-    let shows = law earlier later h in
-    (s, spells, record { ends = h; world = shows.0; reached = shows.1; shown = shows.2 })
-caused hash text s error.BadCommittee spells law h = absurd h
-caused hash text s error.TooManyFaulty spells law h = absurd h
-caused hash text s (error.Syntax line) spells law h = absurd h
-caused hash text s (error.UnknownMember line) spells law h = absurd h
-caused hash text s (error.OversizeBlock line) spells law h = absurd h
+caused hash text s error.NoMemory spells law differ h = tt
+caused hash text s (error.HashClash earlier later) spells law differ h =
+    let shows = law earlier later h in (
+      s,
+      spells,
+      record {
+        ends = h;
+        world = shows.0;
+        reached = shows.1;
+        shown = shows.2;
+        texts = differ earlier later h;
+      },
+    )
+caused hash text s error.BadCommittee spells law differ h = absurd h
+caused hash text s error.TooManyFaulty spells law differ h = absurd h
+caused hash text s (error.Syntax line) spells law differ h = absurd h
+caused hash text s (error.UnknownMember line) spells law differ h = absurd h
+caused hash text s (error.OversizeBlock line) spells law differ h = absurd h

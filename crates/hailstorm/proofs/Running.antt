@@ -14,7 +14,7 @@ use Rattle.hail_script.specs.Scenario.{Scenario}
 use Rattle.hailstorm.specs.declared.place.Place.{Place}
 use Rattle.hailstorm.specs.declared.report.Report.{Report}
 use Rattle.hailstorm.specs.Places.{SitAs, WorkBy, rules_of}
-use Rattle.hailstorm.specs.Reports.{AreNodesOf, HoldNotes, IsRun, honest, shown_report}
+use Rattle.hailstorm.specs.Reports.{AreNodesOf, HoldNotes, IsRun, honest, honest_at, shown_report}
 use Rattle.hailstorm.specs.Runs.{ArePlayed, chain_from, opened}
 use Rattle.hailstorm.specs.Seats.{Seat}
 
@@ -65,7 +65,8 @@ pub ran : {H : Type 0} (hash : List ℕ → Digest32) (s : Scenario) (report : R
     → report.chain
     ≡ chain_from (rules_of hash s) h.last
     (highest (flat_map (λ e. e.handed) (report.opening ++ report.steps)))
-    → HoldNotes (honest h.last) report.disks × AreNodesOf (honest h.last) report.nodes
+    → HoldNotes (honest h.last) report.disks
+    × AreNodesOf (rules_of hash s) (honest_at h.last) report.disks report.nodes
     → IsRun hash s report
 ran hash s report places opens h stands chains closes =
     let r = rules_of hash s in

@@ -96,6 +96,13 @@ module _ {H : Type 0} (hash : List ℕ → Digest32) where
   Means text rest held written NoMemory = Keeps held written
   Means text rest held written Usage = ⊥
 
+-- what the program hands back of a script of this text, and writes: the report of its run, and the
+-- text of that, or its summary
+abbrev pub IsRunOf : {H : Type 0} → (List ℕ → Digest32) → Option ℕ → List ℕ → Report H → List ℕ
+    → Type 0
+IsRunOf hash storm text r due =
+    IsReport hash text r × (due ≡ text_of hash storm (shown_report r))
+
 -- with other words: the usage is written
 abbrev pub MeansUsage : {R : Type 0} → Option (List ℕ) → Option (List ℕ) → Exit R → Type 0
 MeansUsage held written exit = UsageOf usage_line held written exit

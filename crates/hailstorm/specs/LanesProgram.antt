@@ -36,6 +36,12 @@ lanes_text hash order r = order_line order ++ report_text hash (shown_report r)
 abbrev pub clash_lines : List ℕ → List ℕ → List ℕ → List ℕ
 clash_lines order earlier later = order_line order ++ error_line (error.HashClash earlier later)
 
+-- what the program hands back of a script with lanes of this text, and writes
+abbrev pub IsRunInLanes : {H : Type 0} → (List ℕ → Digest32) → List ℕ → List ℕ × Report H → List ℕ
+    → Type 0
+IsRunInLanes hash text (order, r) due =
+    IsLanesReport hash text order r × (due ≡ lanes_text hash order r)
+
 -- A text that is due for a script with lanes.
 pub data IsLanesDue (H : Type 0) (hash : List ℕ → Digest32) (text due : List ℕ) : Type 0 where
   OfRun : (order : List ℕ) (r : Report H) → length text ≤ script_limit

@@ -164,3 +164,29 @@ IsSilent held written TooLong = Unit {0}
 IsSilent held written (Refused e) = Unit {0}
 IsSilent held written (Clash earlier later) = Unit {0}
 IsSilent held written WriteFault = Unit {0}
+
+-- What a program answers that didn't ask for other words, whether or not the source tells its
+-- bytes. Done: what it hands back is that of some text, and what was written, and nothing else, is
+-- what it writes of it. The usage is none of its answers.
+abbrev pub HasRun : {X : Type 0} → (List ℕ → X → List ℕ → Type 0) → Option (List ℕ)
+    → Option (List ℕ) → Exit X → Type 0
+HasRun IsDone held written (Done x) =
+    (text : List ℕ) × ((due : List ℕ) × IsDone text x due × Appends held written due)
+HasRun IsDone held written Usage = ⊥
+HasRun IsDone held written TooLong = Unit {0}
+HasRun IsDone held written (Refused e) = Unit {0}
+HasRun IsDone held written (Clash earlier later) = Unit {0}
+HasRun IsDone held written ReadFault = Unit {0}
+HasRun IsDone held written WriteFault = Unit {0}
+HasRun IsDone held written NoMemory = Unit {0}
+
+-- a script that is always run is done, unless it ends in a clash, the sink fails, or memory is short
+abbrev pub RunsOn : {R : Type 0} → Exit R → Type 0
+RunsOn (Done r) = Unit {0}
+RunsOn (Clash earlier later) = Unit {0}
+RunsOn WriteFault = Unit {0}
+RunsOn NoMemory = Unit {0}
+RunsOn Usage = ⊥
+RunsOn TooLong = ⊥
+RunsOn (Refused e) = ⊥
+RunsOn ReadFault = ⊥

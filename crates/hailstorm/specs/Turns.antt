@@ -15,7 +15,7 @@ use Rattle.hailstorm.specs.declared.report.Report.{Report}
 use Rattle.hailstorm.specs.Lanes.{but_last, lane_at, left, lines_of, played, turns_of}
 use Rattle.hailstorm.specs.Places.{SitAs, WorkBy, rules_of}
 use Rattle.hailstorm.specs.Pool.{sent_in}
-use Rattle.hailstorm.specs.Reports.{AreNodesOf, HoldNotes, honest}
+use Rattle.hailstorm.specs.Reports.{AreNodesOf, HoldNotes, honest, honest_at}
 use Rattle.hailstorm.specs.Runs.{chain_from, opened}
 use Rattle.hailstorm.specs.Seats.{Seat}
 
@@ -143,4 +143,4 @@ pub record IsReportOf {H : Type 0} (r : Rules) (w : World) (opening steps : List
   pub stands : report.acked ≡ filter_map acked_at (enumerate_from 0 w.members)
   pub chain : report.chain ≡ chain_from r w (highest (flat_map (λ e. e.handed) (opening ++ steps)))
   pub disks : HoldNotes (honest w) report.disks
-  pub nodes : AreNodesOf (honest w) report.nodes
+  pub nodes : AreNodesOf r (honest_at w) report.disks report.nodes

@@ -87,6 +87,10 @@ pub fn run_source<H: Hasher<Digest = Digest32>, R: Threads + Sync, I: Source, S:
     // Whether or not the source tells its bytes: this is the report of the run of the script.
     ensures run { IfOk result (λ ran. IsRun H.digest_of ran.script ran.report) }
 
+    // And some text was read that spells it.
+    ensures read { IfOk result (λ ran. (text : List ℕ)
+        × WasRun H.digest_of text (I.left input.new) ran) }
+
     // Each cause has its meaning for the bytes that the source had left.
     ensures err { (text : List ℕ) → I.left input.old ≡ Some text
         → IfErr result (λ early. HasNoReport H.digest_of text (I.left input.new) early) }

@@ -7,8 +7,9 @@ ghost use Rattle.hail_script.specs.declared.error.RunError.TheVariants as error;
 ghost use Rattle.hail_script.specs.Lanes.{laned_of};
 ghost use Rattle.hailstorm.specs.Lanes.{IsLanesCause, IsLanesReport};
 ghost use Rattle.hailstorm.specs.LanesProgram as spec;
-ghost use Rattle.hailstorm.specs.LanesProgram.{LanesMeans};
-ghost use Rattle.hailstorm.specs.Programs.{EndsEarly, Finishes, HasFault, IsSilent, UsageOf};
+ghost use Rattle.hailstorm.specs.LanesProgram.{IsRunInLanes, LanesMeans};
+ghost use Rattle.hailstorm.specs.Programs.{EndsEarly, Finishes, HasFault, HasRun, IsSilent};
+ghost use Rattle.hailstorm.specs.Programs.{UsageOf};
 
 use crate::frame::{Early, Exit, early_of, end_early, finish};
 use crate::reading::{Reading, read_script};
@@ -51,6 +52,14 @@ pub fn lanes_program<
     ensures answer { (text : List ℕ) → words.now ≡ [] → I.left input.old ≡ Some text
         → LanesMeans H.digest_of text (I.left input.new) (O.held output.old)
         (O.held output.new) result }
+
+    // Whether or not the source tells its bytes: the usage is the answer to words alone.
+    ensures usage_only { result ≡ Exit.Usage → words.now ≢ [] }
+
+    // Whether or not the source tells its bytes: done is told with the report of some text's run,
+    // whose order and text were written.
+    ensures run { words.now ≡ []
+        → HasRun (IsRunInLanes H.digest_of) (O.held output.old) (O.held output.new) result }
 
     // A fault is told only where the source or the sink has failed in this call.
     ensures fault { HasFault (I.faults input.old) (I.faults input.new) (O.faults output.old)

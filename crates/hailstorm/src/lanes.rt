@@ -11,7 +11,8 @@ use crate::turning::Turning;
 use crate::world::World;
 use cw_base::{Digest32, Gate, Hasher, Items, NoMemory, Strategy};
 use cw_rules::clash_laws;
-use hail_script::{LaneScript, RunError};
+use cw_rules_coded::coded_tells;
+use hail_script::{LaneScript, RunError, script_laws};
 use mailbox::{Mailbox, Session, Turn};
 use std::alloc::Global;
 use std::marker::Brand;
@@ -78,10 +79,14 @@ fn open_text<H: Hasher<Digest = Digest32>, R: Threads + Sync, S: Strategy>(
     ensures err { IfErr result (λ e. IsLanesCause H.digest_of text.now [] e) }
 {
     clash_laws();
+    script_laws();
+    coded_tells::<H>();
     let script = match LaneScript::parse(alloc, text) {
         Ok(script) => script,
         Err(error) => return Err(error),
     };
+    script.script().is_cluster();
+    let _lines = script.script().lines();
     match Turning::open(rt, alloc, script, strategy) {
         Ok(opened) => Ok(opened),
         Err(error) => Err(error),

@@ -1,14 +1,15 @@
 //! The program: from the bytes that come in to the bytes that go out.
 
 ghost use Rattle.std.specs.Prelude.{◌≡◌, ◌≢◌, List, ℕ, None, Some, IfOk, map, string_bytes};
-ghost use Rattle.std.specs.Prelude.{option_map};
+ghost use Rattle.std.specs.Prelude.{Option, option_map};
 ghost use Rattle.hailstorm.specs.Headline as headline;
-ghost use Rattle.hailstorm.specs.Headline.{Means, MeansUsage, Answers};
-ghost use Rattle.hailstorm.specs.Programs.{HasFault, IsSilent};
+ghost use Rattle.hailstorm.specs.Headline.{Means, MeansUsage, Answers, IsRunOf};
+ghost use Rattle.hailstorm.specs.Programs.{HasFault, HasRun, IsSilent, RunsOn};
 ghost use Rattle.hailstorm.specs.Reports.{shown_report};
 ghost use Rattle.hailstorm.specs.Storm as spec;
 
 use crate::frame::{Exit, early_of, end_early, finish, run_source};
+use crate::laws::storm_laws;
 use crate::report::{Ran, Report};
 use crate::seat::Seat;
 use crate::storm::{storm_script, summary_text};
@@ -53,6 +54,21 @@ pub fn run_program<
     ensures answer { (text : List ℕ) → headline.words_ask (map string_bytes words.now) ≡ Some None
         → I.left input.old ≡ Some text
         → Means H.digest_of text (I.left input.new) (O.held output.old) (O.held output.new) result }
+
+    // Whether or not the source tells its bytes: the usage is the answer to other words alone.
+    ensures usage_only { result ≡ Exit.Usage
+        → headline.words_ask (map string_bytes words.now) ≡ None }
+
+    // Whether or not the source tells its bytes: done is told with the report of some text's run,
+    // whose text was written; under `storm N` of that storm's.
+    ensures run { (storm : Option ℕ)
+        → headline.words_ask (map string_bytes words.now) ≡ Some storm
+        → HasRun (IsRunOf H.digest_of storm) (O.held output.old) (O.held output.new) result }
+
+    // Under `storm N` the run is done or ends in a clash, unless the sink fails or memory is short.
+    ensures storm_runs { (number : ℕ)
+        → headline.words_ask (map string_bytes words.now) ≡ Some (Some number)
+        → RunsOn result }
 
     // A fault is told only where the source or the sink has failed in this call.
     ensures fault { HasFault (I.faults input.old) (I.faults input.new) (O.faults output.old)
@@ -100,6 +116,8 @@ fn run_input<H: Hasher<Digest = Digest32>, R: Threads + Sync, I: Source, O: Sink
 ) -> Exit<Report<H>>
     ensures answer { (text : List ℕ) → I.left input.old ≡ Some text
         → Means H.digest_of text (I.left input.new) (O.held output.old) (O.held output.new) result }
+    ensures run { HasRun (IsRunOf H.digest_of None) (O.held output.old) (O.held output.new)
+        result }
     ensures fault { HasFault (I.faults input.old) (I.faults input.new) (O.faults output.old)
         (O.faults output.new) result }
     ensures silent { IsSilent (O.held output.old) (O.held output.new) result }
@@ -120,9 +138,13 @@ fn run_storm<H: Hasher<Digest = Digest32>, R: Threads + Sync, O: Sink, S: Strate
 ) -> Exit<Report<H>>
     ensures answer { Answers H.digest_of (Some number) (spec.storm_script number)
         (O.held output.old) (O.held output.new) result }
+    ensures run { HasRun (IsRunOf H.digest_of (Some number)) (O.held output.old)
+        (O.held output.new) result }
+    ensures runs { RunsOn result }
     ensures fault { HasFault 0 0 (O.faults output.old) (O.faults output.new) result }
     ensures silent { IsSilent (O.held output.old) (O.held output.new) result }
 {
+    storm_laws();
     let Ok(script) = storm_script(alloc, number) else {
         return Exit::NoMemory;
     };

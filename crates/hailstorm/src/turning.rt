@@ -26,7 +26,8 @@ use crate::seat::Seat;
 use crate::world::{close_all, open_all, standings};
 use cw_base::{Digest32, Hasher, Items, NoMemory, Strategy};
 use cw_rules::{clash_laws, report_laws};
-use hail_script::{LaneScript, RunError};
+use cw_rules_coded::coded_tells;
+use hail_script::{LaneScript, RunError, script_laws};
 use std::alloc::Global;
 use std::marker::Model;
 use std::mem;
@@ -203,6 +204,8 @@ impl<H: Hasher<Digest = Digest32>> Turning<H> {
     {
         report_laws();
         clash_laws();
+        script_laws();
+        coded_tells::<H>();
         self.script.script().is_cluster();
         let _backlog = self.script.script().backlog();
         let _lines = self.script.script().lines();

@@ -14,6 +14,7 @@ ghost use Rattle.hailstorm.specs.Places.{SitAs, WorkBy, SitsAs, WorksBy};
 ghost use Rattle.hailstorm.specs.Places.{notes_at as notes_in, rules_of};
 ghost use Rattle.hailstorm.specs.declared.place.Place.{Place as PlaceValue};
 ghost use Rattle.hailstorm.specs.Reports.{AreNodesOf, HoldNotes, IsCause, IsReport, IsRun, honest};
+ghost use Rattle.hailstorm.specs.Reports.{honest_at};
 ghost use Rattle.hailstorm.specs.Seats.{Seat as SeatValue};
 ghost use Rattle.hailstorm.specs.Runs.{ArePlayed, HandsBack, IsStopped, acked_with, opened};
 ghost use Rattle.hailstorm.specs.Runs.{seat_of};
@@ -29,8 +30,9 @@ use crate::seat::Seat;
 use crate::turn::{notes_at, restart};
 use cw_base::{Digest32, Hasher, Items, NoMemory, Strategy};
 use cw_rules::{clash_laws, cluster_laws, report_laws};
+use cw_rules_coded::coded_tells;
 use cw_types::{AcceptAll, Note};
-use hail_script::{RunError, Script};
+use hail_script::{RunError, Script, script_laws};
 use node::Node;
 use node_disk::MemoryDisk;
 use std::alloc::Global;
@@ -78,12 +80,15 @@ pub(crate) fn run_text<H: Hasher<Digest = Digest32>, R: Threads + Sync, S: Strat
 {
     report_laws();
     clash_laws();
+    script_laws();
+    coded_tells::<H>();
     let script = match Script::parse(alloc, text) {
         Ok(script) => script,
         Err(error) => return Err(error),
     };
     script.is_cluster();
     let _backlog = script.backlog();
+    let _lines = script.lines();
     match run_script(rt, alloc, &script, strategy) {
         Ok(report) => Ok(Ran { script, report }),
         Err(error) => Err(error),
@@ -341,7 +346,8 @@ pub(crate) fn close_all<H: Hasher<Digest = Digest32>>(
 >
     ensures { (r : Rules) (w : RulesWorld) → WorkBy r 0 places.items
         → SitAs places.items w.members
-        → IfOk result (λ closed. HoldNotes (honest w) closed.0 × AreNodesOf (honest w) closed.1) }
+        → IfOk result (λ closed. HoldNotes (honest w) closed.0
+        × AreNodesOf r (honest_at w) closed.0 closed.1) }
 {
     let mut disks = Items::new(alloc);
     let mut nodes = Items::new(alloc);

@@ -7,3 +7,6 @@ returns-clause-early c = causes.early
 
 pub returns-clause-fits : goal.returns-clause-fits
 returns-clause-fits c = fitting.fits
+
+pub returns-clause-laned : goal.returns-clause-laned
+returns-clause-laned c = fitting.laned_fits

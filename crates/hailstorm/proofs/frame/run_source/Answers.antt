@@ -24,3 +24,16 @@ returns-in-Whole-clause-err g c text left =
 pub returns-in-TooLong-clause-err : goal.returns-in-TooLong-clause-err
 returns-in-TooLong-clause-err g c text left =
     too_long_early g.H.Hasher.digest_of text _ _ left c.in-TooLong.ensures
+
+pub returns-in-Ok-clause-read : goal.returns-in-Ok-clause-read
+returns-in-Ok-clause-read g c =
+    let read = c.in-Whole.ensures in (
+      c.in-Whole.text.items,
+      record {
+        at_end = read.1;
+        short = read.2;
+        spells = rw c.deref.ensures.value at c.in-Ok.ensures.spells;
+        run = c.in-Ok.ensures.run;
+        report = rw c.deref.ensures.value at c.in-Ok.ensures.report;
+      },
+    )

@@ -1,6 +1,7 @@
 use Rattle.std.proofs.Common.{Some}
 use Rattle.hailstorm.specs.Storm as spec
 use Rattle.hailstorm.proofs.Meaning.{done_answer, error_answer}
+use Rattle.hailstorm.proofs.Answering.{storm_on, storm_run}
 use Rattle.hailstorm.proofs.program.run_storm.Goals as goal
 
 pub returns-in-Ok-run-clause-answer : goal.returns-in-Ok-run-clause-answer
@@ -15,3 +16,37 @@ returns-clause-answer g c =
     c.in-Err.error c.end_early.result
     (rw (c.deref.ensures.value, c.in-Ok.ensures) at c.in-Err.ensures.err)
     (rw c.early_of.ensures at c.end_early.ensures)
+
+pub returns-in-Ok-run-clause-run : goal.returns-in-Ok-run-clause-run
+returns-in-Ok-run-clause-run g c =
+    storm_run g.H.Hasher.digest_of _ _ (Some c.args.number) (spec.storm_script c.args.number)
+    c.end_with.result
+    (done_answer g.H.Hasher.digest_of (Some c.args.number) (spec.storm_script c.args.number) _ _ _ _
+    c.in-Ok-run.report c.end_with.result
+    (rw (c.deref.ensures.value, c.in-Ok.ensures) at c.in-Ok-run.ensures.ok) c.end_with.ensures)
+
+pub returns-in-Ok-run-clause-runs : goal.returns-in-Ok-run-clause-runs
+returns-in-Ok-run-clause-runs g c =
+    storm_on g.H.Hasher.digest_of _ _ (Some c.args.number) (spec.storm_script c.args.number)
+    c.end_with.result (c.storm_laws.ensures.runs c.args.number)
+    (done_answer g.H.Hasher.digest_of (Some c.args.number) (spec.storm_script c.args.number) _ _ _ _
+    c.in-Ok-run.report c.end_with.result
+    (rw (c.deref.ensures.value, c.in-Ok.ensures) at c.in-Ok-run.ensures.ok) c.end_with.ensures)
+
+pub returns-clause-run : goal.returns-clause-run
+returns-clause-run g c =
+    storm_run g.H.Hasher.digest_of _ _ (Some c.args.number) (spec.storm_script c.args.number)
+    c.end_early.result
+    (error_answer g.H.Hasher.digest_of (Some c.args.number) (spec.storm_script c.args.number) _ _ _ _
+    c.in-Err.error c.end_early.result
+    (rw (c.deref.ensures.value, c.in-Ok.ensures) at c.in-Err.ensures.err)
+    (rw c.early_of.ensures at c.end_early.ensures))
+
+pub returns-clause-runs : goal.returns-clause-runs
+returns-clause-runs g c =
+    storm_on g.H.Hasher.digest_of _ _ (Some c.args.number) (spec.storm_script c.args.number)
+    c.end_early.result (c.storm_laws.ensures.runs c.args.number)
+    (error_answer g.H.Hasher.digest_of (Some c.args.number) (spec.storm_script c.args.number) _ _ _ _
+    c.in-Err.error c.end_early.result
+    (rw (c.deref.ensures.value, c.in-Ok.ensures) at c.in-Err.ensures.err)
+    (rw c.early_of.ensures at c.end_early.ensures))

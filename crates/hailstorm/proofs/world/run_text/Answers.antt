@@ -1,5 +1,6 @@
-use Rattle.std.proofs.Common.{◌≡◌, ◌<◌, ◌≤◌, refl, arith}
+use Rattle.std.proofs.Common.{◌≡◌, ◌<◌, ◌≤◌, refl, arith, true}
 use Rattle.hailstorm.specs.Places.{rules_of}
+use Rattle.hailstorm.proofs.Known.{few_members}
 use Rattle.hailstorm.proofs.Refusals.{refused}
 use Rattle.hailstorm.proofs.Reporting.{caused, reported}
 use Rattle.hailstorm.proofs.world.run_text.Goals as goal
@@ -23,5 +24,13 @@ pub returns-in-Err-run_script-clause-err : goal.returns-in-Err-run_script-clause
 returns-in-Err-run_script-clause-err g c =
     let hash = g.H.Hasher.digest_of in
     let s = c.in-Ok.script in
+    let r = rules_of hash s in
+    let few : s.committees.total ≤ 65535 =
+    omega (arith, few_members s c.lines-lines.ensures.runnable) in
     caused hash c.args.text.now s c.in-Err-run_script.error c.in-Ok.ensures.ok
-    (c.clash_laws.ensures.blocks (rules_of hash s) s.lines) c.in-Err-run_script.ensures.err
+    (c.clash_laws.ensures.blocks r s.lines)
+    (λ earlier later. c.clash_laws.ensures.texts r s.lines earlier later
+    (c.coded_tells.ensures s.committees s.backlog (λ b a. true) few)
+    (c.is_cluster.ensures r refl)
+    (c.script_laws.ensures.fits c.args.text.now s c.in-Ok.ensures.ok))
+    c.in-Err-run_script.ensures.err
