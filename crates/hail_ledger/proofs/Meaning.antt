@@ -1,5 +1,6 @@
 -- What the program answers, from what its parts do.
-use Rattle.std.proofs.Common.{◌≡◌, ℕ, List, length, map, sym, ap, ◌∙◌}
+use Rattle.std.proofs.Common.{◌≡◌, ℕ, List, [], ◌∷◌, ◌++◌, length, map, sym, ap, subst, ◌∙◌}
+use Rattle.std.specs.List.{AllByRecursion}
 use Rattle.std.proofs.lemmas.List.{length-map}
 use Rattle.cw_base.specs.declared.hash.Digest32.{Digest32}
 use Rattle.node_disk.specs.Memory.{MemoryState}
@@ -9,9 +10,19 @@ use Rattle.hailstorm.specs.declared.report.Report.{Report}
 use Rattle.hailstorm.specs.Places.{rules_of}
 use Rattle.hailstorm.specs.Reports.{IsReport, shown_report}
 use Rattle.hail_ledger.specs.Giving.{payloads_of, payloads_of_all}
-use Rattle.hail_ledger.specs.Ledgers.{AreDone, members_of}
+use Rattle.hail_ledger.specs.Ledgers.{AreDone, NeverFails, members_of}
 use Rattle.hail_ledger.specs.Text.{ledger_text}
 use Rattle.hail_ledger.proofs.Ends.{all_ledgers}
+
+pub all_push : (xs ys : List (Ledger MemoryState)) (x : Ledger MemoryState)
+    → AllByRecursion NeverFails xs → NeverFails x → ys ≡ xs ++ x ∷ []
+    → AllByRecursion NeverFails ys
+all_push xs ys x all one is = subst (AllByRecursion NeverFails) (sym is) (push xs all)
+  where
+    push : (xs : List (Ledger MemoryState)) → AllByRecursion NeverFails xs
+        → AllByRecursion NeverFails (xs ++ x ∷ [])
+    push [] all = (one, tt)
+    push (y ∷ xs) all = (all.0, push xs all.1)
 
 module _ {H : Type 0} (report : Report H) (replicas : List (Ledger MemoryState))
     (given : map (λ r. r.payloads) replicas ≡ payloads_of_all (shown_report report)) where
@@ -34,13 +45,15 @@ module _ {H : Type 0} (report : Report H) (replicas : List (Ledger MemoryState))
 
     -- these are the replicas of the run of a text, and what is due is their text
     pub is_done : (hash : List ℕ → Digest32) (text due : List ℕ) → IsReport hash text report
+        → AllByRecursion NeverFails replicas
         → due ≡ ledger_text (map (λ a. a.member) acked) (map (λ r. r.payloads) shown)
         → AreDone hash text (report, replicas) due
-    is_done hash text due is lines = record {
+    is_done hash text due is works lines = record {
       report = is;
       ledgers =
           all_ledgers (rules_of hash is.script) is.script.lines is.run.world (shown_report report)
           is.run.told is.run.ends is.chain replicas given;
+      whole = works;
       lines =
           lines
           ∙ ap

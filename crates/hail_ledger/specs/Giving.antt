@@ -1,10 +1,9 @@
 -- What a replica is given, one height behind the other.
-use Rattle.std.specs.Prelude.{◌≡◌, ℕ, List, [], map, fold, slice_get, false, true}
+use Rattle.std.specs.Prelude.{ℕ, List, [], map, fold, slice_get}
 use Rattle.std.specs.Option.{option_map_or}
 use Rattle.cw_types.specs.Block.{Block}
 use Rattle.cw_rules.specs.Report.{Report as Reported}
-use Rattle.node_disk.specs.Memory.{MemoryState, is_calm}
-use Rattle.cw_ledger.specs.Ledger.{Ledger, applied}
+use Rattle.cw_ledger.specs.Ledger.{applied}
 use Rattle.hail_ledger.specs.Ledgers.{handed_to, members_of}
 
 -- the payloads once the link of a height was given
@@ -20,8 +19,3 @@ payloads_of r member = given_all r.chain [] (handed_to r member)
 
 abbrev pub payloads_of_all : Reported → List (List (List ℕ))
 payloads_of_all r = map (payloads_of r) (members_of r)
-
--- no call of the replica is refused but for memory: no earlier call left its disk in doubt, and no
--- call of the disk fails
-abbrev pub NeverFails : Ledger MemoryState → Type 0
-NeverFails r = (r.failed ≡ false) × (is_calm r.disk ≡ true)

@@ -1,12 +1,12 @@
 -- What the replicas hold at the end of a run.
-use Rattle.std.specs.Prelude.{◌≡◌, ◌<◌, ℕ, ◌==◌, ◌++◌, List, [], ◌∷◌, length, map, take, Bool, false, if◌then◌else◌}
-use Rattle.std.specs.List.{flat_map}
+use Rattle.std.specs.Prelude.{◌≡◌, ◌<◌, ℕ, ◌==◌, ◌++◌, List, [], ◌∷◌, length, map, take, Bool, false, true, if◌then◌else◌}
+use Rattle.std.specs.List.{AllByRecursion, flat_map}
 use Rattle.std.specs.Option.{option_map_or}
 use Rattle.cw_base.specs.declared.hash.Digest32.{Digest32}
 use Rattle.cw_types.specs.Block.{Block}
 use Rattle.cw_rules.specs.Reached.{In}
 use Rattle.cw_rules.specs.Report.{Entry, Report as Reported}
-use Rattle.node_disk.specs.Memory.{MemoryState}
+use Rattle.node_disk.specs.Memory.{MemoryState, is_calm}
 use Rattle.cw_ledger.specs.Ledger.{Ledger}
 use Rattle.hailstorm.specs.declared.report.Report.{Report}
 use Rattle.hailstorm.specs.Reports.{IsReport, shown_report}
@@ -46,10 +46,16 @@ AreLedgers r _ _ = ⊥
 abbrev pub members_of : Reported → List ℕ
 members_of r = map (λ a. a.member) r.acked
 
+-- no call of the replica is refused but for memory: no earlier call left its disk in doubt, and no
+-- call of the disk fails
+abbrev pub NeverFails : Ledger MemoryState → Type 0
+NeverFails r = (r.failed ≡ false) × (is_calm r.disk ≡ true)
+
 -- What is handed back and written of a script of this text: the report of its run, the replica of
--- each honest member, and the lines of these.
+-- each honest member, none of which has failed, and the lines of these.
 pub record AreDone {H : Type 0} (hash : List ℕ → Digest32) (text : List ℕ)
     (done : Report H × List (Ledger MemoryState)) (due : List ℕ) : Type 0 where
   pub report : IsReport hash text done.0
   pub ledgers : AreLedgers (shown_report done.0) (members_of (shown_report done.0)) done.1
+  pub whole : AllByRecursion NeverFails done.1
   pub lines : due ≡ ledger_text (members_of (shown_report done.0)) (map (λ r. r.payloads) done.1)

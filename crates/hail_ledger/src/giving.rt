@@ -1,9 +1,9 @@
 //! Replicas that are given the blocks of a chain, by the heights that were handed out.
 
 ghost use Rattle.std.specs.Prelude.{◌≡◌, [], IfOk, OnOk, map};
-ghost use Rattle.hail_ledger.specs.Giving.{NeverFails, given_all, given_one, payloads_of};
-ghost use Rattle.hail_ledger.specs.Giving.{payloads_of_all};
-ghost use Rattle.hail_ledger.specs.Ledgers.{handed_in_entries};
+ghost use Rattle.std.specs.List.{AllByRecursion};
+ghost use Rattle.hail_ledger.specs.Giving.{given_all, given_one, payloads_of, payloads_of_all};
+ghost use Rattle.hail_ledger.specs.Ledgers.{NeverFails, handed_in_entries};
 ghost use Rattle.hailstorm.specs.Reports.{shown_report};
 
 use cw_base::{Digest32, Hasher, Items, NoMemory};
@@ -15,12 +15,14 @@ use std::alloc::Global;
 
 /// The replicas of the honest members, by number: each was given the link of each height that was
 /// handed out to its member, in the report's order.
+#[tactic(auto, using(crate::proofs::Meaning::all_push))]
 pub(crate) fn replicas_of<H: Hasher<Digest = Digest32>>(
     alloc: Global,
     report: &Report<H>,
 ) -> Result<Items<Replica<MemoryDisk>>, NoMemory>
-    ensures { IfOk result (λ replicas. map (λ r. r.payloads) replicas
+    ensures given { IfOk result (λ replicas. map (λ r. r.payloads) replicas
         ≡ payloads_of_all (shown_report report.now)) }
+    ensures works { IfOk result (λ replicas. AllByRecursion NeverFails replicas) }
 {
     let mut replicas = Items::new(alloc);
     for acked in report.acked.as_slice() {
@@ -35,8 +37,9 @@ fn replica_of<H: Hasher<Digest = Digest32>>(
     report: &Report<H>,
     member: u16,
 ) -> Result<Replica<MemoryDisk>, NoMemory>
-    ensures { IfOk result (λ replica. replica.payloads
+    ensures given { IfOk result (λ replica. replica.payloads
         ≡ payloads_of (shown_report report.now) member) }
+    ensures works { IfOk result (λ replica. NeverFails replica) }
 {
     let chain = report.chain.as_slice();
     let mut replica = empty_replica(alloc)?;

@@ -1,10 +1,11 @@
 //! The program: from the bytes of a script to the balances of each honest member.
 
 ghost use Rattle.std.specs.Prelude.{◌≡◌, ◌≢◌, List, Option, Some, length, map, ℕ};
-ghost use Rattle.hailstorm.specs.Programs.{AnswersBy, HasFault, WasRun, IsSilent, UsageOf};
+ghost use Rattle.std.specs.List.{AllByRecursion};
+ghost use Rattle.hailstorm.specs.Programs.{AnswersBy, HasFault, HasRun, WasRun, IsSilent, UsageOf};
 ghost use Rattle.hailstorm.specs.Reports.{shown_report};
 ghost use Rattle.hail_ledger.specs.Giving.{payloads_of_all};
-ghost use Rattle.hail_ledger.specs.Ledgers.{AreDone};
+ghost use Rattle.hail_ledger.specs.Ledgers.{AreDone, NeverFails};
 ghost use Rattle.hail_ledger.specs.Text.{usage_line};
 
 use crate::giving::replicas_of;
@@ -46,6 +47,14 @@ pub fn ledger_program<
         → AnswersBy H.digest_of (AreDone H.digest_of) text (I.left input.new) (O.held output.old)
         (O.held output.new) result }
 
+    // Whether or not the source tells its bytes: the usage is the answer to words alone.
+    ensures usage_only { result ≡ Exit.Usage → length words.now ≢ 0 }
+
+    // Whether or not the source tells its bytes: done is told with what some text's run gives, whose
+    // text was written.
+    ensures run { length words.now ≡ 0
+        → HasRun (AreDone H.digest_of) (O.held output.old) (O.held output.new) result }
+
     // A fault is told only where the source or the sink has failed in this call.
     ensures fault { HasFault (I.faults input.old) (I.faults input.new) (O.faults output.old)
         (O.faults output.new) result }
@@ -72,6 +81,7 @@ fn run_input<H: Hasher<Digest = Digest32>, R: Threads + Sync, I: Source, O: Sink
     ensures answer { (text : List ℕ) → I.left input.old ≡ Some text
         → AnswersBy H.digest_of (AreDone H.digest_of) text (I.left input.new) (O.held output.old)
         (O.held output.new) result }
+    ensures run { HasRun (AreDone H.digest_of) (O.held output.old) (O.held output.new) result }
     ensures fault { HasFault (I.faults input.old) (I.faults input.new) (O.faults output.old)
         (O.faults output.new) result }
     ensures silent { IsSilent (O.held output.old) (O.held output.new) result }
@@ -109,6 +119,7 @@ fn write_replicas<H: Hasher<Digest = Digest32>, O: Sink>(
     output: &mut O,
 ) -> Exit<(Report<H>, Items<Replica<MemoryDisk>>)>
     requires given { map (λ r. r.payloads) replicas ≡ payloads_of_all (shown_report ran.report) }
+    requires works { AllByRecursion NeverFails replicas }
     ensures answer { (text : List ℕ) (rest : Option (List ℕ)) → WasRun H.digest_of text rest ran
         → AnswersBy H.digest_of (AreDone H.digest_of) text rest (O.held output.old)
         (O.held output.new) result }

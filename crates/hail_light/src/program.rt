@@ -1,7 +1,7 @@
 //! The program: from the bytes of a script to the line of what is shown.
 
 ghost use Rattle.std.specs.Prelude.{◌≡◌, List, ℕ, None, Option, Some, IfOk, map, string_bytes};
-ghost use Rattle.hailstorm.specs.Programs.{AnswersBy, HasFault, WasRun, IsSilent, UsageOf};
+ghost use Rattle.hailstorm.specs.Programs.{AnswersBy, HasFault, HasRun, WasRun, IsSilent, UsageOf};
 ghost use Rattle.hailstorm.specs.Reports.{IsRun};
 ghost use Rattle.hail_light.specs.Telling.{IsToldRun, asked_height, TellsOf, usage_line};
 
@@ -49,6 +49,14 @@ pub fn light_program<
         → AnswersBy H.digest_of (IsToldRun H.digest_of height) text (I.left input.new)
         (O.held output.old) (O.held output.new) result }
 
+    // Whether or not the source tells its bytes: the usage is the answer to other words alone.
+    ensures usage_only { result ≡ Exit.Usage → asked_height (map string_bytes words.now) ≡ None }
+
+    // Whether or not the source tells its bytes: done is told with the report of some text's run,
+    // whose line was written.
+    ensures run { (height : ℕ) → asked_height (map string_bytes words.now) ≡ Some height
+        → HasRun (IsToldRun H.digest_of height) (O.held output.old) (O.held output.new) result }
+
     // A fault is told only where the source or the sink has failed in this call.
     ensures fault { HasFault (I.faults input.old) (I.faults input.new)
         (O.faults output.old) (O.faults output.new) result }
@@ -85,6 +93,8 @@ fn run_light<H: Hasher<Digest = Digest32>, R: Threads + Sync, I: Source, O: Sink
     ensures answer { (text : List ℕ) → I.left input.old ≡ Some text
         → AnswersBy H.digest_of (IsToldRun H.digest_of height) text (I.left input.new)
         (O.held output.old) (O.held output.new) result }
+    ensures run { HasRun (IsToldRun H.digest_of height) (O.held output.old) (O.held output.new)
+        result }
     ensures fault { HasFault (I.faults input.old) (I.faults input.new)
         (O.faults output.old) (O.faults output.new) result }
     ensures silent { IsSilent (O.held output.old) (O.held output.new) result }

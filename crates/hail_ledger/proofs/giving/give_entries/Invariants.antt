@@ -1,6 +1,6 @@
 use Rattle.std.proofs.Common.{◌≡◌, take}
-use Rattle.hail_ledger.specs.Giving.{NeverFails, given_all}
-use Rattle.hail_ledger.specs.Ledgers.{handed_in_entries}
+use Rattle.hail_ledger.specs.Giving.{given_all}
+use Rattle.hail_ledger.specs.Ledgers.{NeverFails, handed_in_entries}
 use Rattle.hail_ledger.proofs.giving.give_entries.Given as goal
 
 abbrev pub invariant-loop-entry : goal.invariant-loop-entry

@@ -1,5 +1,6 @@
 use Rattle.std.proofs.Common.{◌≡◌, map, take}
-use Rattle.hail_ledger.specs.Giving.{NeverFails, given_all}
+use Rattle.hail_ledger.specs.Giving.{given_all}
+use Rattle.hail_ledger.specs.Ledgers.{NeverFails}
 use Rattle.hail_ledger.proofs.giving.give_handed.Given as goal
 
 abbrev pub invariant-loop-block : goal.invariant-loop-block

@@ -18,7 +18,7 @@ returns-in-Ok-clause-answer g c = λ text rest read.
     read.short
     (is_done c.args.ran.report c.args.replicas c.requires.given c.as_slice.result.now
     c.as_slice-2.result.now c.as_slice.ensures c.as_slice-2.ensures g.H.Hasher.digest_of text
-    c.deref.result.now read.report (c.deref.ensures.value ∙ c.in-Ok.ensures))
+    c.deref.result.now read.report c.requires.works (c.deref.ensures.value ∙ c.in-Ok.ensures))
     c.finish.ensures
 
 pub returns-in-Ok-clause-fault : goal.returns-in-Ok-clause-fault

@@ -1,7 +1,8 @@
 use Rattle.std.proofs.Common.{◌≡◌, ◌∙◌, ℕ, refl, subst}
 use Rattle.std.proofs.lemmas.Option.{same_Some}
-use Rattle.hailstorm.specs.Programs.{AnswersBy}
+use Rattle.hailstorm.specs.Programs.{AnswersBy, HasRun}
 use Rattle.hailstorm.proofs.Framing.{usage_answers, usage_fault, usage_silent}
+use Rattle.hailstorm.proofs.Answering.{no_usage}
 use Rattle.hail_light.specs.Telling.{IsToldRun, usage_line}
 use Rattle.hail_light.proofs.program.light_program.Goals as goal
 
@@ -36,3 +37,18 @@ returns-in-None-clause-silent g c =
     usage_silent (g.O.Sink.held c.args.output.now) (g.O.Sink.held c.finish.new.output)
     (g.O.Sink.faults c.args.output.now) (g.O.Sink.faults c.finish.new.output) usage_line
     c.finish.result c.finish.ensures
+
+pub returns-in-Some-clause-run : goal.returns-in-Some-clause-run
+returns-in-Some-clause-run g c = λ height asked.
+    let same : c.in-Some.height ≡ height =
+    same_Some c.in-Some.height height (c.in-Some.ensures ∙ asked) in
+    subst
+    (λ (n : ℕ). HasRun (IsToldRun g.H.Hasher.digest_of n) (g.O.Sink.held c.args.output.now)
+    (g.O.Sink.held c.run_light.new.output) c.run_light.result)
+    same c.run_light.ensures.run
+
+pub returns-in-Some-clause-usage_only : goal.returns-in-Some-clause-usage_only
+returns-in-Some-clause-usage_only g c = λ is.
+    absurd
+    (no_usage (IsToldRun g.H.Hasher.digest_of c.in-Some.height) (g.O.Sink.held c.args.output.now)
+    (g.O.Sink.held c.run_light.new.output) c.run_light.result c.run_light.ensures.run is)

@@ -1,4 +1,5 @@
 use Rattle.hailstorm.proofs.Framing.{early_answers, early_fault, early_silent}
+use Rattle.hailstorm.proofs.Answering.{answers_run, early_run}
 use Rattle.hail_light.specs.Telling.{IsToldRun}
 use Rattle.hail_light.proofs.program.run_light.Goals as goal
 
@@ -30,5 +31,20 @@ returns-in-Err-clause-fault g c =
 pub returns-in-Err-clause-silent : goal.returns-in-Err-clause-silent
 returns-in-Err-clause-silent g c =
     early_silent (g.O.Sink.held c.args.output.now) (g.O.Sink.held c.end_early.new.output)
+    (g.O.Sink.faults c.args.output.now) (g.O.Sink.faults c.end_early.new.output) c.in-Err.early
+    c.end_early.result c.end_early.ensures
+
+pub returns-in-Ok-clause-run : goal.returns-in-Ok-clause-run
+returns-in-Ok-clause-run g c =
+    let (text, read) = c.in-Ok.ensures.read in
+    answers_run (IsToldRun g.H.Hasher.digest_of c.args.height) (g.O.Sink.held c.args.output.now)
+    (g.O.Sink.held c.write_light.new.output) g.H.Hasher.digest_of text
+    (g.I.Source.left c.run_source.new.input) c.write_light.result
+    (c.write_light.ensures.answer text (g.I.Source.left c.run_source.new.input) read)
+
+pub returns-in-Err-clause-run : goal.returns-in-Err-clause-run
+returns-in-Err-clause-run g c =
+    early_run (IsToldRun g.H.Hasher.digest_of c.args.height) (g.O.Sink.held c.args.output.now)
+    (g.O.Sink.held c.end_early.new.output)
     (g.O.Sink.faults c.args.output.now) (g.O.Sink.faults c.end_early.new.output) c.in-Err.early
     c.end_early.result c.end_early.ensures
