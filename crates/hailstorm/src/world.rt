@@ -32,11 +32,7 @@ use cw_base::{Digest32, Hasher, Items, NoMemory, Strategy};
 use cw_rules::{clash_laws, cluster_laws, report_laws};
 use cw_rules_coded::coded_tells;
 use cw_types::{AcceptAll, Note};
-<<<<<<< HEAD
 use hail_script::{RunError, Script, member_of, script_laws};
-=======
-use hail_script::{RunError, Script, script_laws};
->>>>>>> a266f8dc44321e39f934ed796a4186763ddc421c
 use node::Node;
 use node_disk::MemoryDisk;
 use std::alloc::Global;
