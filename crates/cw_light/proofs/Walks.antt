@@ -1,14 +1,19 @@
--- The steps along a path.
-use Rattle.std.proofs.Common.{◌≡◌, ℕ, zero, suc, ◌+◌, ◌-◌, ◌<◌, ◌≤◌, true, false, List, [], ◌∷◌, Option, Some, None, drop, length, slice_get, refl, sym, ◌∙◌, ap, subst, arith}
+-- The steps along a path, and what is told about a certificate.
+use Rattle.std.proofs.Common.{◌≡◌, ℕ, Bool, if◌then◌else◌, zero, suc, ◌+◌, ◌-◌, ◌<◌, ◌≤◌, true, false, List, [], ◌∷◌, Option, Some, None, drop, length, slice_get, refl, sym, ◌∙◌, ap, subst, arith}
 use Rattle.std.specs.List.{last_or}
 use Rattle.std.specs.Option.{option_map_or}
 use Rattle.std.proofs.lemmas.Bool.{cond-false, cond-true}
 use Rattle.cw_base.specs.declared.hash.Digest32.{Digest32}
 use Rattle.cw_types.specs.declared.commitment.Commitment.{Commitment}
 use Rattle.cw_types.specs.Block.{Block}
+use Rattle.cw_types.specs.Votes.{finalized, well_formed}
+use Rattle.cw_types.specs.declared.vote.Cert.{Cert}
+use Rattle.cw_types.specs.declared.vote.Proposal.{Proposal}
+use Rattle.cw_types.specs.declared.vote.Vote.{Vote}
+use Rattle.cw_rules.specs.Accepted.{is_valid}
 use Rattle.cw_rules.specs.Rules.{Rules, digest}
-use Rattle.cw_light.specs.Checking.{broken_at, broken_below, is_named_by, is_parent_of, path_answer}
-use Rattle.cw_light.specs.declared.check.Answer.TheVariants.{Broken, EmptyPath, Yes}
+use Rattle.cw_light.specs.Checking.{answer, broken_at, broken_below, is_named_by, is_parent_of, path_answer}
+use Rattle.cw_light.specs.declared.check.Answer.TheVariants.{BadSigners, Broken, EmptyPath, NotFinal, Yes}
 
 drop_get : (xs : List Block) (i : ℕ) (x : Block) → slice_get xs i ≡ Some x
     → drop i xs ≡ x ∷ drop (i + 1) xs
@@ -114,3 +119,17 @@ told_yes r c path last height d h b high is =
     o EmptyPath)
     (last_is path last h)
     ∙ ap (λ o. option_map_or Broken o (Yes last.height (digest r last))) b)
+
+-- ---- what is told about a certificate
+
+-- of a vote to finalize a proposal, by whether the certificate is valid
+pub answered : (r : Rules) (signed : ℕ → Vote → Bool) (s : Cert) (path : List Block) (p : Proposal)
+    (valid : Bool) → (if well_formed s.vote then finalized s.vote else None) ≡ Some p
+    → is_valid r signed s ≡ valid
+    → answer r signed s path ≡ (if valid then path_answer r p.payload path else BadSigners)
+answered r signed s path p valid final is =
+    ap
+    (λ o. option_map_or
+    (λ q. if is_valid r signed s then path_answer r q.payload path else BadSigners) o NotFinal)
+    final
+    ∙ ap (λ b. if b then path_answer r p.payload path else BadSigners) is
