@@ -1,0 +1,12 @@
+use Rattle.std.proofs.Common.{◌≡◌, ◌≤◌, ◌∙◌, ℕ, List, length, take, sym, ap, arith}
+use Rattle.std.proofs.lemmas.List.{length-take-le, take_all}
+use Rattle.run_picture.proofs.whole.front.Goals as goal
+
+pub returns-then-steps-le-MOST_ROWS-clause-value : goal.returns-then-steps-le-MOST_ROWS-clause-value
+returns-then-steps-le-MOST_ROWS-clause-value c = ?
+
+pub slice_bounds-result-end : goal.slice_bounds-result-end
+slice_bounds-result-end c = ?
+
+pub returns-clause-few : goal.returns-clause-few
+returns-clause-few c = ?
