@@ -39,7 +39,8 @@ unfoldable pub title_words : ℕ → ℕ → ℕ → ℕ → ℕ → List ℕ
 title_words total lines drawn messages blocks =
     joined
     (codes "cluster of " ∷ decimal total ∷ codes ", " ∷ lines_words lines drawn ∷ codes ", "
-    ∷ decimal messages ∷ codes " messages, " ∷ decimal blocks ∷ codes " blocks with genesis" ∷ [])
+    ∷ decimal messages ∷ codes " messages, a chain of " ∷ decimal blocks
+    ∷ codes " with genesis" ∷ [])
 
 unfoldable pub end : List ℕ
 end = line (codes "</svg>" ∷ [])
@@ -54,13 +55,19 @@ drawing faulty flights steps =
     ++ arrows_from faulty flights 1 (map not faulty) steps
     ++ marks_from (length faulty) flights 1 (map not faulty) steps
 
--- a page with its title and the meaning of its marks
-abbrev pub heading : List Bool → ℕ → ℕ → ℕ → ℕ → List ℕ
-heading faulty lines drawn messages blocks =
-    svg_text (width (length faulty)) (height drawn)
-    ++ page_text (width (length faulty)) (height drawn) ++ style
-    ++ text_at 14 26 (codes "big") (title_words (length faulty) lines drawn messages blocks)
+-- an empty page, with what is the same in all
+abbrev pub sheet : ℕ → ℕ → List ℕ
+sheet width height = svg_text width height ++ page_text width height ++ style
+
+-- its title, and the meaning of its marks
+abbrev pub titles : ℕ → ℕ → ℕ → ℕ → ℕ → List ℕ
+titles total lines drawn messages blocks =
+    text_at 14 26 (codes "big") (title_words total lines drawn messages blocks)
     ++ text_at 240 122 (codes "dim end") (codes "member") ++ keys
+
+abbrev pub heading : ℕ → ℕ → ℕ → ℕ → ℕ → List ℕ
+heading total lines drawn messages blocks =
+    sheet (width total) (height drawn) ++ titles total lines drawn messages blocks
 
 -- the chain below so many rows, and the end
 abbrev pub foot : ℕ → List Digest32 → List ℕ
@@ -71,7 +78,7 @@ foot rows chain =
 -- of a script with so many lines those that are drawn
 abbrev pub picture_of : List Bool → ℕ → List Step → List Digest32 → List ℕ
 picture_of faulty lines steps chain =
-    heading faulty lines (length steps) (length (flights_from 1 steps)) (length chain)
+    heading (length faulty) lines (length steps) (length (flights_from 1 steps)) (length chain)
     ++ drawing faulty (flights_from 1 steps) steps ++ foot (length steps) chain
 
 -- The picture of a run, whose members are faulty or not, from what each line did and the digests of

@@ -12,7 +12,7 @@ text_styles =
     ++ line (codes ".full,tspan.c{font-weight:bold}.small{font-size:10px}.tiny{font-size:9px}" ∷ [])
     ++ line (codes ".dim,.tiny{fill:#6a717c}.bad,.tbad{fill:#c2371c}" ∷ [])
     ++ line (codes ".label tspan{paint-order:stroke;stroke:#fff;stroke-width:3}" ∷ [])
-    ++ line (codes ".label .tbadge{font-weight:bold;fill:#fff;stroke:#1d2127;stroke-width:7}" ∷ [])
+    ++ line (codes ".label .tbadge{font-weight:bold;fill:#fff;stroke:#1d2127;stroke-width:9}" ∷ [])
     ++ line (codes "tspan{stroke-linejoin:round}" ∷ [])
 
 -- lines and boxes
@@ -24,7 +24,7 @@ line_styles =
     ++ line (codes ".stopped{stroke:#c2371c;stroke-width:2;stroke-dasharray:2 4}" ∷ [])
     ++ line (codes ".link,.block{stroke:#1d2127}.link{stroke-width:2}.block{fill:#eef2f8}" ∷ [])
     ++ line (codes ".mark,.arrow{stroke-width:1.4}.arrow.c{stroke-width:2.8}" ∷ [])
-    ++ line (codes ".arrow.z{stroke-dasharray:6 3}.arrow.stub{marker-end:url(#end)}" ∷ [])
+    ++ line (codes ".arrow.z{stroke-dasharray:6 3}.arrow.arrow.stub{marker-end:url(#end)}" ∷ [])
     ++ line (codes ".mark.ink{stroke:#1d2127;fill:#1d2127}.mark.bad{stroke:#c2371c;fill:#fff}" ∷ [])
 
 -- a class of messages has one colour
@@ -86,7 +86,7 @@ unfoldable pub end : List ℕ
 end = line (codes "</defs>" ∷ [])
 
 -- all of them
-abbrev pub style : List ℕ
+unfoldable pub style : List ℕ
 style = begin ++ text_styles ++ line_styles ++ colours ++ middle ++ tips ++ shapes ++ end
 
 -- ---- what lines and marks mean
@@ -105,13 +105,17 @@ message_keys =
     ++ key_text 512 48 (codes "n c") (codes "certificate [N]")
     ++ key_text 650 48 (codes "a") (codes "ask")
 
--- what happens to a message, and a height that is handed out
+-- what happens to a message
 abbrev pub fate_keys : List ℕ
 fate_keys =
     key_text 14 68 (codes "g") (codes "nothing happens")
     ++ key_text 164 68 (codes "j z") (codes "by a faulty one")
     ++ key_text 314 68 (codes "j stub") (codes "never delivered")
-    ++ label_begin 450 68 ++ part_text (codes "badge") (codes "3")
+
+-- a height that is handed out
+abbrev pub badge_key : List ℕ
+badge_key =
+    label_begin 450 68 ++ part_text (codes "badge") (codes "3")
     ++ part_text (codes "ink") (codes "handed out") ++ label_end
 
 -- a mark, and its meaning
@@ -128,5 +132,5 @@ signs =
     ++ sign_text 524 (codes "cross") (codes "stop")
     ++ sign_text 590 (codes "void") (codes "no such message")
 
-abbrev pub keys : List ℕ
-keys = message_keys ++ fate_keys ++ signs
+unfoldable pub keys : List ℕ
+keys = message_keys ++ fate_keys ++ badge_key ++ signs

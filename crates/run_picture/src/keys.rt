@@ -9,11 +9,13 @@ use cw_base::NoMemory;
 use std::alloc::Global;
 
 /// What the lines and marks of every picture mean.
+#[tactic(auto, unfolding(crate::specs::Style::keys))]
 pub(crate) fn put_keys(alloc: Global, out: &mut String) -> Result<(), NoMemory>
     ensures { OnOk result (string_bytes out.new ≡ string_bytes out.old ++ spec.keys) }
 {
     put_message_keys(alloc, out)?;
     put_fate_keys(alloc, out)?;
+    put_badge_key(out)?;
     put_signs(out)
 }
 
@@ -34,7 +36,12 @@ fn put_fate_keys(alloc: Global, out: &mut String) -> Result<(), NoMemory>
 {
     put_key(alloc, out, 14, 68, "g", "nothing happens")?;
     put_key(alloc, out, 164, 68, "j z", "by a faulty one")?;
-    put_key(alloc, out, 314, 68, "j stub", "never delivered")?;
+    put_key(alloc, out, 314, 68, "j stub", "never delivered")
+}
+
+fn put_badge_key(out: &mut String) -> Result<(), NoMemory>
+    ensures { OnOk result (string_bytes out.new ≡ string_bytes out.old ++ spec.badge_key) }
+{
     put_label_begin(out, 450, 68)?;
     put_part(out, "badge", "3")?;
     put_part(out, "ink", "handed out")?;

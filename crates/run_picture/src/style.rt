@@ -6,6 +6,7 @@ ghost use Rattle.run_picture.specs.Style as spec;
 use cw_base::NoMemory;
 
 /// Colours and shapes.
+#[tactic(auto, unfolding(crate::specs::Style::style))]
 pub(crate) fn put_style(out: &mut String) -> Result<(), NoMemory>
     ensures { OnOk result (string_bytes out.new ≡ string_bytes out.old ++ spec.style) }
 {
@@ -53,7 +54,7 @@ fn put_text_styles(out: &mut String) -> Result<(), NoMemory>
         .full,tspan.c{font-weight:bold}.small{font-size:10px}.tiny{font-size:9px}\n\
         .dim,.tiny{fill:#6a717c}.bad,.tbad{fill:#c2371c}\n\
         .label tspan{paint-order:stroke;stroke:#fff;stroke-width:3}\n\
-        .label .tbadge{font-weight:bold;fill:#fff;stroke:#1d2127;stroke-width:7}\n\
+        .label .tbadge{font-weight:bold;fill:#fff;stroke:#1d2127;stroke-width:9}\n\
         tspan{stroke-linejoin:round}\n";
     out.push_str(text)?;
     Ok(())
@@ -69,7 +70,7 @@ fn put_line_styles(out: &mut String) -> Result<(), NoMemory>
         .stopped{stroke:#c2371c;stroke-width:2;stroke-dasharray:2 4}\n\
         .link,.block{stroke:#1d2127}.link{stroke-width:2}.block{fill:#eef2f8}\n\
         .mark,.arrow{stroke-width:1.4}.arrow.c{stroke-width:2.8}\n\
-        .arrow.z{stroke-dasharray:6 3}.arrow.stub{marker-end:url(#end)}\n\
+        .arrow.z{stroke-dasharray:6 3}.arrow.arrow.stub{marker-end:url(#end)}\n\
         .mark.ink{stroke:#1d2127;fill:#1d2127}.mark.bad{stroke:#c2371c;fill:#fff}\n";
     out.push_str(text)?;
     Ok(())

@@ -36,7 +36,7 @@ pub fn picture(
         messages: flights.len(),
         blocks: chain.len(),
     };
-    put_heading(alloc, &mut out, faulty, drawn, counts)?;
+    put_heading(alloc, &mut out, faulty.len(), drawn.len() as u16, counts)?;
     put_drawing(alloc, &mut out, faulty, &flights, drawn)?;
     put_foot(alloc, &mut out, drawn, chain)?;
     Ok(out.into_bytes())
@@ -61,25 +61,44 @@ fn front<'a, 'b>(steps: &'b [Step<'a>]) -> &'b [Step<'a>]
     &steps[..MOST_ROWS]
 }
 
-// A page with its title and the meaning of its marks.
+// A page of so many members and rows, with its title and the meaning of its marks.
 fn put_heading(
     alloc: Global,
     out: &mut String,
-    faulty: &[bool],
-    steps: &[Step],
+    total: usize,
+    rows: u16,
     counts: Counts,
 ) -> Result<(), NoMemory>
-    requires { length steps.now ≤ 2000 }
     ensures { OnOk result
         (string_bytes out.new ≡ string_bytes out.old
-        ++ spec.heading faulty.now counts.lines (length steps.now) counts.messages counts.blocks) }
+        ++ spec.heading total counts.lines rows counts.messages counts.blocks) }
 {
-    let total = faulty.len();
-    let rows = steps.len();
-    let height = y_of(rows as u16) + 110;
-    put_svg(out, width(total), height)?;
-    put_page(out, width(total), height)?;
-    put_style(out)?;
+    put_sheet(out, width(total), y_of(rows) + 110)?;
+    put_titles(alloc, out, total, rows, counts)
+}
+
+// An empty page.
+fn put_sheet(out: &mut String, width: u64, height: u64) -> Result<(), NoMemory>
+    ensures { OnOk result
+        (string_bytes out.new ≡ string_bytes out.old ++ spec.sheet width height) }
+{
+    put_svg(out, width, height)?;
+    put_page(out, width, height)?;
+    put_style(out)
+}
+
+// Its title, and the meaning of its marks.
+fn put_titles(
+    alloc: Global,
+    out: &mut String,
+    total: usize,
+    rows: u16,
+    counts: Counts,
+) -> Result<(), NoMemory>
+    ensures { OnOk result
+        (string_bytes out.new ≡ string_bytes out.old
+        ++ spec.titles total counts.lines rows counts.messages counts.blocks) }
+{
     let title = title_words(alloc, total, rows, counts)?;
     put_text(out, 14, 26, "big", &title)?;
     put_text(out, 240, 122, "dim end", "member")?;
@@ -110,11 +129,11 @@ fn put_page(out: &mut String, width: u64, height: u64) -> Result<(), NoMemory>
 
 // How many lines there are, and of those that are drawn.
 #[tactic(auto, unfolding(crate::specs::Picture::lines_words))]
-fn lines_words(alloc: Global, lines: usize, drawn: usize) -> Result<String, NoMemory>
+fn lines_words(alloc: Global, lines: usize, drawn: u16) -> Result<String, NoMemory>
     ensures { IfOk result (λ text. string_bytes text ≡ spec.lines_words lines drawn) }
 {
     let mut text = String::new(alloc);
-    if drawn < lines {
+    if usize::from(drawn) < lines {
         write!(text, "{drawn} of {lines} lines")?;
         return Ok(text);
     }
@@ -126,7 +145,7 @@ fn lines_words(alloc: Global, lines: usize, drawn: usize) -> Result<String, NoMe
 fn title_words(
     alloc: Global,
     total: usize,
-    rows: usize,
+    rows: u16,
     counts: Counts,
 ) -> Result<String, NoMemory>
     ensures { IfOk result
@@ -139,7 +158,7 @@ fn title_words(
     let blocks = counts.blocks;
     write!(
         text,
-        "cluster of {total}, {lines}, {messages} messages, {blocks} blocks with genesis"
+        "cluster of {total}, {lines}, {messages} messages, a chain of {blocks} with genesis"
     )?;
     Ok(text)
 }
