@@ -25,8 +25,9 @@ step_of l e = record {
 
 -- the lines of a script, each with its entry
 abbrev pub steps_of : List Line → List Entry → List Step
+steps_of lines [] = []
+steps_of [] (e ∷ entries) = []
 steps_of (l ∷ lines) (e ∷ entries) = step_of l e ∷ steps_of lines entries
-steps_of _ _ = []
 
 -- the picture of a script's report
 abbrev pub picture_of : (List ℕ → Digest32) → Scenario → Reported → List ℕ

@@ -39,11 +39,14 @@ fn steps_of<'a>(
         (λ steps. steps.items ≡ spec.steps_of (map line_of lines.now) entries.now) }
 {
     let mut steps = Vec::new(alloc);
-    for (index, line) in lines.iter().enumerate() {
-        if index < entries.len() {
-            let step = step_of(alloc, line, &entries[index])?;
-            steps.push(step)?;
-        }
+    let mut rest = entries;
+    for line in lines {
+        let Some((entry, more)) = rest.split_first() else {
+            return Ok(steps);
+        };
+        let step = step_of(alloc, line, entry)?;
+        steps.push(step)?;
+        rest = more;
     }
     Ok(steps)
 }

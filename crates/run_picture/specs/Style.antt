@@ -8,7 +8,7 @@ unfoldable pub text_styles : List ℕ
 text_styles =
     line (codes "text{font:11px ui-monospace,Menlo,Consolas,'DejaVu Sans Mono',monospace}" ∷ [])
     ++ line (codes "text{fill:#1d2127}.end{text-anchor:end}.mid{text-anchor:middle}" ∷ [])
-    ++ line (codes ".big{font-size:13px;font-weight:bold}.head{font-size:14px;font-weight:bold}" ∷ [])
+    ++ line (codes ".big,.head{font-weight:bold}.big{font-size:13px}.head{font-size:14px}" ∷ [])
     ++ line (codes ".full,tspan.c{font-weight:bold}.small{font-size:10px}.tiny{font-size:9px}" ∷ [])
     ++ line (codes ".dim,.tiny{fill:#6a717c}.bad,.tbad{fill:#c2371c}" ∷ [])
     ++ line (codes ".label tspan{paint-order:stroke;stroke:#fff;stroke-width:3}" ∷ [])
@@ -108,9 +108,9 @@ message_keys =
 -- what happens to a message
 abbrev pub fate_keys : List ℕ
 fate_keys =
-    key_text 14 68 (codes "g") (codes "nothing happens")
-    ++ key_text 164 68 (codes "j z") (codes "by a faulty one")
-    ++ key_text 314 68 (codes "j stub") (codes "never delivered")
+    key_text 14 68 (codes "g") (codes "no effect")
+    ++ key_text 164 68 (codes "j z") (codes "faulty one")
+    ++ key_text 314 68 (codes "j stub") (codes "lost")
 
 -- a height that is handed out
 abbrev pub badge_key : List ℕ

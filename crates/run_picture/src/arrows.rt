@@ -74,9 +74,21 @@ fn put_arrow(
     let total = faulty.len();
     let member = member_of(step.line);
     let from = x_of(total, flight.from);
-    let way = way_text(alloc, from, y_of(flight.row), x_of(total, member), y_of(row))?;
+    let way = way_text(
+        alloc,
+        from,
+        y_of(flight.row),
+        x_of(total, member),
+        y_of(row),
+    )?;
     let title = title_text(alloc, step.number, member, flight)?;
-    put_arrow_of(out, &way, tone(is_live, flight), dashes(faulty, flight), &title)
+    put_arrow_of(
+        out,
+        &way,
+        tone(is_live, flight),
+        dashes(faulty, flight),
+        &title,
+    )
 }
 
 // Where an arrow runs.
@@ -110,12 +122,7 @@ fn dashes(faulty: &[bool], flight: &Flight) -> &'static str
 }
 
 #[tactic(auto, unfolding(crate::specs::Arrows::title_text))]
-fn title_text(
-    alloc: Global,
-    number: u64,
-    member: u64,
-    flight: &Flight,
-) -> Result<String, NoMemory>
+fn title_text(alloc: Global, number: u64, member: u64, flight: &Flight) -> Result<String, NoMemory>
     ensures { IfOk result (λ text. string_bytes text ≡ spec.title_text number member flight.now) }
 {
     let mut text = letters_of(alloc, &flight.said.says)?;
@@ -139,7 +146,13 @@ pub(crate) fn put_stubs(
 {
     for (number, flight) in flights.iter().enumerate() {
         if !is_named(number as u64, steps) {
-            put_stub(alloc, out, x_of(total, flight.from), y_of(flight.row), flight)?;
+            put_stub(
+                alloc,
+                out,
+                x_of(total, flight.from),
+                y_of(flight.row),
+                flight,
+            )?;
         }
     }
     Ok(())

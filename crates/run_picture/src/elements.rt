@@ -28,7 +28,10 @@ pub(crate) fn put_text(
     ensures { OnOk result
         (string_bytes out.new ≡ string_bytes out.old ++ spec.text_at x y class.now words.now) }
 {
-    write!(out, "<text x='{x}' y='{y}' class='{class}'>{words}</text>\n")?;
+    write!(
+        out,
+        "<text x='{x}' y='{y}' class='{class}'>{words}</text>\n"
+    )?;
     Ok(())
 }
 
@@ -55,7 +58,10 @@ pub(crate) fn put_arrow_of(
         (string_bytes out.new
         ≡ string_bytes out.old ++ spec.arrow_of way.now class.now more.now title.now) }
 {
-    write!(out, "<path d='{way}' class='arrow {class}{more}'><title>{title}</title></path>\n")?;
+    write!(
+        out,
+        "<path d='{way}' class='arrow {class}{more}'><title>{title}</title></path>\n"
+    )?;
     Ok(())
 }
 
@@ -85,7 +91,10 @@ pub(crate) fn put_mark_of(
 pub(crate) fn put_box_at(out: &mut String, x: u64, y: u64) -> Result<(), NoMemory>
     ensures { OnOk result (string_bytes out.new ≡ string_bytes out.old ++ spec.box_at x y) }
 {
-    write!(out, "<rect x='{x}' y='{y}' width='56' height='30' rx='4' class='block'/>\n")?;
+    write!(
+        out,
+        "<rect x='{x}' y='{y}' width='56' height='30' rx='4' class='block'/>\n"
+    )?;
     Ok(())
 }
 

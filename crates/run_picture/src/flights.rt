@@ -53,11 +53,7 @@ fn put_sent(flights: &mut Vec<Flight>, row: u16, step: &Step) -> Result<(), NoMe
 }
 
 /// The message that a line brings.
-pub(crate) fn brought<'a>(
-    flights: &'a [Flight],
-    row: u16,
-    line: &EventLine,
-) -> Option<&'a Flight>
+pub(crate) fn brought<'a>(flights: &'a [Flight], row: u16, line: &EventLine) -> Option<&'a Flight>
     ensures { option_map (λ f. f.now) result ≡ spec.brought flights.now row (line_of line.now) }
 {
     match asks(line) {
@@ -83,7 +79,8 @@ fn reaching<'a>(
     ask: &Ask,
     number: u64,
 ) -> Option<&'a Flight>
-    ensures { option_map (λ f. f.now) result ≡ option_and_then (spec.if_reaches row member (ask_of ask.now))
+    ensures { option_map (λ f. f.now) result
+        ≡ option_and_then (spec.if_reaches row member (ask_of ask.now))
         (slice_get flights.now number) }
 {
     match flights.get(number as usize) {

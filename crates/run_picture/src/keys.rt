@@ -34,9 +34,9 @@ fn put_message_keys(alloc: Global, out: &mut String) -> Result<(), NoMemory>
 fn put_fate_keys(alloc: Global, out: &mut String) -> Result<(), NoMemory>
     ensures { OnOk result (string_bytes out.new ≡ string_bytes out.old ++ spec.fate_keys) }
 {
-    put_key(alloc, out, 14, 68, "g", "nothing happens")?;
-    put_key(alloc, out, 164, 68, "j z", "by a faulty one")?;
-    put_key(alloc, out, 314, 68, "j stub", "never delivered")
+    put_key(alloc, out, 14, 68, "g", "no effect")?;
+    put_key(alloc, out, 164, 68, "j z", "faulty one")?;
+    put_key(alloc, out, 314, 68, "j stub", "lost")
 }
 
 fn put_badge_key(out: &mut String) -> Result<(), NoMemory>

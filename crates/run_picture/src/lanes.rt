@@ -26,7 +26,14 @@ pub(crate) fn put_lanes(
 {
     let total = faulty.len();
     for (member, mark) in faulty.iter().enumerate() {
-        put_lane(alloc, out, x_of(total, member as u64), y, member as u64, *mark)?;
+        put_lane(
+            alloc,
+            out,
+            x_of(total, member as u64),
+            y,
+            member as u64,
+            *mark,
+        )?;
     }
     Ok(())
 }
@@ -88,7 +95,12 @@ fn put_gap_at(
         ≡ string_bytes out.old ++ spec.gap_at total row step.now more.now true) }
 {
     let member = member_of(step.line);
-    let way = down(alloc, x_of(total, member), y_of(row), back_at(member, row + 1, more))?;
+    let way = down(
+        alloc,
+        x_of(total, member),
+        y_of(row),
+        back_at(member, row + 1, more),
+    )?;
     put_path(out, &way, "gap")?;
     put_path(out, &way, "stopped")
 }

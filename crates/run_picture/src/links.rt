@@ -37,7 +37,14 @@ fn put_links(
         (string_bytes out.new ≡ string_bytes out.old ++ spec.links_from y first 0 links.now) }
 {
     for (at, digest) in links.iter().enumerate() {
-        put_link(alloc, out, 14 + 70 * at as u64, y, first + at as u64, digest)?;
+        put_link(
+            alloc,
+            out,
+            14 + 70 * at as u64,
+            y,
+            first + at as u64,
+            digest,
+        )?;
     }
     Ok(())
 }

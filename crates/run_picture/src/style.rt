@@ -50,7 +50,7 @@ fn put_text_styles(out: &mut String) -> Result<(), NoMemory>
 {
     let text = "text{font:11px ui-monospace,Menlo,Consolas,'DejaVu Sans Mono',monospace}\n\
         text{fill:#1d2127}.end{text-anchor:end}.mid{text-anchor:middle}\n\
-        .big{font-size:13px;font-weight:bold}.head{font-size:14px;font-weight:bold}\n\
+        .big,.head{font-weight:bold}.big{font-size:13px}.head{font-size:14px}\n\
         .full,tspan.c{font-weight:bold}.small{font-size:10px}.tiny{font-size:9px}\n\
         .dim,.tiny{fill:#6a717c}.bad,.tbad{fill:#c2371c}\n\
         .label tspan{paint-order:stroke;stroke:#fff;stroke-width:3}\n\

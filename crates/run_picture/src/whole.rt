@@ -123,7 +123,10 @@ fn put_page(out: &mut String, width: u64, height: u64) -> Result<(), NoMemory>
     ensures { OnOk result
         (string_bytes out.new ≡ string_bytes out.old ++ spec.page_text width height) }
 {
-    write!(out, "<rect width='{width}' height='{height}' class='page'/>\n")?;
+    write!(
+        out,
+        "<rect width='{width}' height='{height}' class='page'/>\n"
+    )?;
     Ok(())
 }
 
@@ -142,12 +145,7 @@ fn lines_words(alloc: Global, lines: usize, drawn: u16) -> Result<String, NoMemo
 }
 
 #[tactic(auto, unfolding(crate::specs::Picture::title_words))]
-fn title_words(
-    alloc: Global,
-    total: usize,
-    rows: u16,
-    counts: Counts,
-) -> Result<String, NoMemory>
+fn title_words(alloc: Global, total: usize, rows: u16, counts: Counts) -> Result<String, NoMemory>
     ensures { IfOk result
         (λ text. string_bytes text
         ≡ spec.title_words total counts.lines rows counts.messages counts.blocks) }
