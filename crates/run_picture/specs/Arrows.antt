@@ -1,6 +1,6 @@
 -- An arrow for each message that a line brings, from the row that sent it; a stub for each that no
 -- line names.
-use Rattle.std.specs.Prelude.{ℕ, ◌+◌, ◌-◌, ◌==◌, ◌++◌, List, [], ◌∷◌, codes, Bool, false, if◌then◌else◌, Option, option_and_then, length}
+use Rattle.std.specs.Prelude.{ℕ, ◌+◌, ◌-◌, ◌==◌, ◌++◌, List, [], ◌∷◌, codes, Bool, false, if◌then◌else◌, option_and_then, length}
 use Rattle.std.specs.Fmt.{decimal}
 use Rattle.std.specs.List.{list_any}
 use Rattle.std.specs.Option.{option_map_or}

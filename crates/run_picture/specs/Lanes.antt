@@ -1,5 +1,5 @@
 -- A lane for each member, broken where the member is stopped.
-use Rattle.std.specs.Prelude.{ℕ, ◌+◌, ◌-◌, ◌==◌, ◌&&◌, ◌++◌, List, [], ◌∷◌, codes, Bool, true, false, if◌then◌else◌, is_some}
+use Rattle.std.specs.Prelude.{ℕ, ◌+◌, ◌==◌, ◌&&◌, ◌++◌, List, [], ◌∷◌, codes, Bool, true, false, if◌then◌else◌, is_some}
 use Rattle.std.specs.Fmt.{decimal}
 use Rattle.cw_rules.specs.World.{line_member}
 use Rattle.run_picture.specs.Elements.{down, path_of, text_at}

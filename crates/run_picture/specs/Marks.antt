@@ -1,7 +1,6 @@
 -- A mark for each line at its member's lane, and beside it what came of the line.
-use Rattle.std.specs.Prelude.{ℕ, ◌+◌, ◌-◌, ◌==◌, ◌||◌, ◌++◌, List, [], ◌∷◌, codes, Bool, true, false, if◌then◌else◌, Option, Some, None, is_none, is_some, length, bytes_eq, slice_get}
+use Rattle.std.specs.Prelude.{ℕ, ◌+◌, ◌-◌, ◌==◌, ◌||◌, ◌++◌, List, [], ◌∷◌, codes, Bool, true, false, if◌then◌else◌, Option, Some, None, is_some, length, bytes_eq, slice_get}
 use Rattle.std.specs.Fmt.{decimal}
-use Rattle.std.specs.Option.{option_map_or}
 use Rattle.cw_rules.specs.World.{Ack, Ask, Cut, Deliver, Do, Faulty, Floor, Hint, Line, Propose, Prune, Restart, Timeout, line_member}
 use Rattle.run_picture.specs.Elements.{joined, line, mark_of}
 use Rattle.run_picture.specs.Frame.{x_of, y_of}

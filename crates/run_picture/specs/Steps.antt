@@ -1,5 +1,5 @@
 -- What each line of a run did: which message it brings, and which members are live.
-use Rattle.std.specs.Prelude.{ℕ, ◌+◌, ◌==◌, ◌&&◌, ◌++◌, ◌∷◌, [], List, map, Bool, true, false, not, if◌then◌else◌, is_some, nat_lt, Option, Some, None, option_and_then, slice_get, slice_set, slice_index_or}
+use Rattle.std.specs.Prelude.{ℕ, ◌+◌, ◌&&◌, ◌++◌, ◌∷◌, [], List, map, Bool, true, false, if◌then◌else◌, is_some, nat_lt, Option, Some, None, option_and_then, slice_get, slice_set, slice_index_or}
 use Rattle.std.specs.Option.{option_map_or}
 use Rattle.cw_rules.specs.World.{Ask, Floor, Line, is_to, line_member}
 use Rattle.run_picture.specs.Lines.{asks, is_cut, number_in}

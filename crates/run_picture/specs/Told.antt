@@ -1,7 +1,6 @@
 -- What a picture tells of a message: its letters, and the class of its colour.
 use Rattle.std.specs.Prelude.{ℕ, ◌==◌, ◌++◌, List, codes, Bool, true, false, if◌then◌else◌}
 use Rattle.std.specs.Fmt.{decimal}
-use Rattle.cw_types.specs.declared.event.Out.{Out}
 use Rattle.cw_types.specs.declared.message.Message.{Message}
 use Rattle.cw_types.specs.declared.message.Message.TheVariants as message
 use Rattle.cw_types.specs.declared.vote.Vote.{Vote}
