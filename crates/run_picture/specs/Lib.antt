@@ -1,0 +1,12 @@
+pub mod Frame
+pub mod Elements
+pub mod Told
+pub mod Lines
+pub mod Steps
+pub mod Rows
+pub mod Lanes
+pub mod Arrows
+pub mod Marks
+pub mod Style
+pub mod Links
+pub mod Picture

@@ -1,0 +1,183 @@
+//! A line of a script, as a picture has it.
+
+ghost use Rattle.std.specs.Prelude.{◌≡◌, IfOk, option_map, string_bytes};
+ghost use Rattle.cw_rules.specs.World.{line_member};
+ghost use Rattle.hail_script.specs.Events.{ask_of, fault_of, line_of};
+ghost use Rattle.run_picture.specs.Lines as spec;
+
+use cw_base::NoMemory;
+use hail_script::{Ask, EventLine, Fault};
+use std::alloc::Global;
+
+/// The line as scripts have it, a payload to its sixth byte.
+#[tactic(auto, unfolding(crate::specs::Lines::line_text))]
+pub(crate) fn line_text(alloc: Global, line: &EventLine) -> Result<String, NoMemory>
+    ensures { IfOk result (λ text. string_bytes text ≡ spec.line_text (line_of line.now)) }
+{
+    let mut text = String::new(alloc);
+    match line {
+        EventLine::Do(member, ask) => return ask_text(alloc, *member, ask),
+        EventLine::Cut(stop, member, ask) => {
+            let call = stop.call;
+            let cut = stop.cut;
+            let fill = stop.fill;
+            let ask = ask_text(alloc, *member, ask)?;
+            write!(text, "cut {call} {cut} {fill} {ask}")?
+        }
+        EventLine::Restart(member) => {
+            let member = *member;
+            write!(text, "restart {member}")?
+        }
+        EventLine::Faulty(member, fault) => {
+            let member = *member;
+            let fault = fault_text(alloc, fault)?;
+            write!(text, "faulty {member} {fault}")?
+        }
+    }
+    Ok(text)
+}
+
+#[tactic(auto, unfolding(crate::specs::Lines::ask_text))]
+fn ask_text(alloc: Global, member: u64, ask: &Ask) -> Result<String, NoMemory>
+    ensures { IfOk result (λ text. string_bytes text ≡ spec.ask_text member (ask_of ask.now)) }
+{
+    let mut text = String::new(alloc);
+    match ask {
+        Ask::Propose(payload) => {
+            let payload = bytes_text(alloc, payload.as_slice())?;
+            write!(text, "propose {member} {payload}")?
+        }
+        Ask::Timeout(view) => {
+            let view = *view;
+            write!(text, "timeout {member} {view}")?
+        }
+        Ask::Deliver(number) => {
+            let number = *number;
+            write!(text, "deliver {number} {member}")?
+        }
+        Ask::Ack => write!(text, "ack {member}")?,
+        Ask::Prune(height) => {
+            let height = *height;
+            write!(text, "prune {member} {height}")?
+        }
+        Ask::Floor(number) => {
+            let number = *number;
+            write!(text, "floor {member} {number}")?
+        }
+        Ask::Hint(height) => {
+            let height = *height;
+            write!(text, "hint {member} {height}")?
+        }
+    }
+    Ok(text)
+}
+
+#[tactic(auto, unfolding(crate::specs::Lines::fault_text))]
+fn fault_text(alloc: Global, fault: &Fault) -> Result<String, NoMemory>
+    ensures { IfOk result (λ text. string_bytes text ≡ spec.fault_text (fault_of fault.now)) }
+{
+    let mut text = String::new(alloc);
+    match fault {
+        Fault::Silent => text.push_str("silent")?,
+        Fault::Offer(view, payload) => {
+            let view = *view;
+            let payload = bytes_text(alloc, payload.as_slice())?;
+            write!(text, "offer {view} {payload}")?
+        }
+        Fault::Notarize(number) => {
+            let number = *number;
+            write!(text, "notarize {number}")?
+        }
+        Fault::Finalize(number) => {
+            let number = *number;
+            write!(text, "finalize {number}")?
+        }
+        Fault::Nullify(view) => {
+            let view = *view;
+            write!(text, "nullify {view}")?
+        }
+        Fault::Raw(bytes) => {
+            let bytes = bytes_text(alloc, bytes.as_slice())?;
+            write!(text, "raw {bytes}")?
+        }
+    }
+    Ok(text)
+}
+
+#[tactic(auto, unfolding(crate::specs::Lines::bytes_text))]
+fn bytes_text(alloc: Global, bytes: &[u8]) -> Result<String, NoMemory>
+    ensures { IfOk result (λ text. string_bytes text ≡ spec.bytes_text bytes.now) }
+{
+    let mut text = String::new(alloc);
+    if bytes.is_empty() {
+        text.push_str("-")?;
+        return Ok(text);
+    }
+    if bytes.len() <= 6 {
+        return Ok(hex::encode(alloc, bytes)?);
+    }
+    let front = hex::encode(alloc, &bytes[..6])?;
+    write!(text, "{front}..")?;
+    Ok(text)
+}
+
+/// The member that a line names.
+pub(crate) fn member_of(line: &EventLine) -> u64
+    ensures { result ≡ line_member (line_of line.now) }
+{
+    match line {
+        EventLine::Do(member, _) => *member,
+        EventLine::Cut(_, member, _) => *member,
+        EventLine::Restart(member) => *member,
+        EventLine::Faulty(member, _) => *member,
+    }
+}
+
+/// What a line asks of a member.
+pub(crate) fn asks(line: &EventLine) -> Option<&Ask>
+    ensures { option_map (λ ask. ask_of ask.now) result ≡ spec.asks (line_of line.now) }
+{
+    match line {
+        EventLine::Do(_, ask) => Some(ask),
+        EventLine::Cut(_, _, ask) => Some(ask),
+        EventLine::Restart(_) => None,
+        EventLine::Faulty(..) => None,
+    }
+}
+
+/// The number of the message that is asked for.
+pub(crate) fn number_in(ask: &Ask) -> Option<u64>
+    ensures { result ≡ spec.number_in (ask_of ask.now) }
+{
+    match ask {
+        Ask::Deliver(number) => Some(*number),
+        Ask::Floor(number) => Some(*number),
+        _ => None,
+    }
+}
+
+/// Whether it is a line with a stop.
+pub(crate) fn is_cut(line: &EventLine) -> bool
+    ensures { result ≡ spec.is_cut (line_of line.now) }
+{
+    matches!(line, EventLine::Cut(..))
+}
+
+/// Whether it is a line of a faulty member.
+pub(crate) fn is_faulty_line(line: &EventLine) -> bool
+    ensures { result ≡ spec.is_faulty_line (line_of line.now) }
+{
+    matches!(line, EventLine::Faulty(..))
+}
+
+/// The colour of the line's text.
+pub(crate) fn line_class(line: &EventLine) -> &'static str
+    ensures { result.now ≡ spec.line_class (line_of line.now) }
+{
+    match line {
+        EventLine::Do(..) => "ink",
+        EventLine::Restart(_) => "ink",
+        EventLine::Cut(..) => "bad",
+        EventLine::Faulty(..) => "bad",
+    }
+}
