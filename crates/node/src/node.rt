@@ -27,7 +27,7 @@ pub type NodeError = StoreError;
 /// A member of a cluster, with all that it knows, on its disk. Contracts see it as its number, the
 /// committees, the backlog, the application, the member of the rules and the log of its notes.
 ///
-/// `crates/use_cluster` runs four members; a part of it:
+/// `tools/use_cluster` runs four members; a part of it:
 ///
 /// ```text
 /// // on an empty disk, or on what a crash left
