@@ -1,7 +1,9 @@
-// Two kernels in plain C over the same field and the same code, to time the coder beside:
+// Three kernels in plain C over the same field and the same code, to time the coder beside:
 //   split-u16     one factor and one target at a time: two tables of 256 products a factor
 //   split-pack8   eight targets at a time (four or two where fewer are left): their products lie side
 //                 by side in a table's entries, so that one pair of look-ups serves all of them
+//   fft-split     recoveries in n log n: the additive transform of Lin, Chung and Han, for any number of
+//                 originals by a truncated inverse, a step by one factor's two tables
 // It prints, for each shape and each of the two calls (extend: all recoveries; rebuild: the first k
 // rows from the last k), the time of each of some runs in nanoseconds. A run takes memory for its
 // answer, as a call of the coder does; the factors are made before. Before anything is timed, the
@@ -210,13 +212,135 @@ static void split_pack8(const Job *j) {
   free(table);
 }
 
+// ---- recoveries in n log n
+
+static u16 VANISH[17][16];           // the polynomial that vanishes on the first 2^i elements, at bit j
+
+static u16 product_of(u16 a, u16 b) { return a && b ? EXP[(u32)LOG[a] + LOG[b]] : 0; }
+
+static void transform_init(void) {
+  u16 raw[17][16];
+  for (int j = 0; j < 16; j++) raw[0][j] = (u16)(1u << j);
+  for (int i = 0; i < 16; i++) {
+    u16 own = raw[i][i], over = EXP[65535 - LOG[own]];
+    for (int j = 0; j < 16; j++) {
+      VANISH[i][j] = product_of(raw[i][j], over);
+      raw[i + 1][j] = product_of(raw[i][j], raw[i][j] ^ own);
+    }
+  }
+}
+
+static u16 twist(int i, u32 at) {
+  u16 sum = 0;
+  for (int j = 0; at >> j; j++) if (at >> j & 1) sum ^= VANISH[i][j];
+  return sum;
+}
+
+typedef struct { size_t len; u16 table[512]; } Steps;
+
+static void add_product(Steps *f, u16 *d, const u16 *s) { split_add(d, s, f->table, f->len); }
+
+static __attribute__((noinline)) void add_row(Steps *f, u16 *d, const u16 *s) {
+  u64 *x = (u64 *)d;
+  const u64 *y = (const u64 *)s;
+  for (size_t i = 0; i < f->len / 4; i++) x[i] ^= y[i];
+}
+
+// values of rows lo to hi from K coefficients, of which those from `filled` on are zero
+static void to_values(Steps *f, u16 *x, int K, u32 from, int filled, int lo, int hi) {
+  int i = 31 - __builtin_clz((unsigned)K);
+  for (int h = K / 2; h; h /= 2) {
+    i--;
+    for (int b = 0; b < K; b += 2 * h) {
+      if (b >= hi || b + 2 * h <= lo) continue;
+      u16 w = twist(i, from + (u32)b);
+      if (w) split_tables(w, f->table);
+      for (int j = b; j < b + h; j++) {
+        u16 *low = x + (size_t)j * f->len, *high = low + (size_t)h * f->len;
+        if (h == K / 2 && j + h >= filled) { memcpy(high, low, f->len * 2); continue; }
+        if (w) add_product(f, low, high);
+        add_row(f, high, low);
+      }
+    }
+  }
+}
+
+static void from_values(Steps *f, u16 *x, int K, u32 from) {
+  int i = 0;
+  for (int h = 1; h < K; h *= 2, i++) for (int b = 0; b < K; b += 2 * h) {
+    u16 w = twist(i, from + (u32)b);
+    if (w) split_tables(w, f->table);
+    for (int j = b; j < b + h; j++) {
+      u16 *low = x + (size_t)j * f->len, *high = low + (size_t)h * f->len;
+      add_row(f, high, low);
+      if (w) add_product(f, low, high);
+    }
+  }
+}
+
+// in: `known` values, then coefficients; out: K coefficients
+static void from_known(Steps *f, u16 *x, int K, int known, u32 from) {
+  if (known == 0) return;
+  if (known == K) { from_values(f, x, K, from); return; }
+  int h = K / 2, i = 31 - __builtin_clz((unsigned)h);
+  u16 w = twist(i, from), *high = x + (size_t)h * f->len;
+  if (known < h) {
+    if (w) split_tables(w, f->table);
+    for (int j = known; w && j < h; j++) add_product(f, x + (size_t)j * f->len, high + (size_t)j * f->len);
+    from_known(f, x, h, known, from);
+    if (w) split_tables(w, f->table);
+    for (int j = 0; w && j < h; j++) add_product(f, x + (size_t)j * f->len, high + (size_t)j * f->len);
+    return;
+  }
+  from_values(f, x, h, from);
+  for (int j = known - h; j < h; j++) add_row(f, high + (size_t)j * f->len, x + (size_t)j * f->len);
+  from_known(f, high, h, known - h, from + (u32)h);
+  if (w) split_tables(w, f->table);
+  for (int j = 0; j < h; j++) {
+    add_row(f, high + (size_t)j * f->len, x + (size_t)j * f->len);
+    if (w) add_product(f, x + (size_t)j * f->len, high + (size_t)j * f->len);
+  }
+}
+
+static void fft_split(const Job *j) {
+  int k = j->k, total = k + j->t, K = 1;
+  while (K < k) K *= 2;
+  size_t all = j->width / 2, block = (1u << 19) / (2 * (size_t)K);
+  block = block < 512 ? 512 : block > 4096 ? 4096 : block;
+  if (block > all) block = all;
+  Steps steps, *f = &steps;
+  f->len = (block + 31) / 32 * 32;
+  u16 *x = room((size_t)K * f->len * 4), *y = x + (size_t)K * f->len;
+  for (size_t o = 0; o < all; o += block) {
+    size_t n = all - o < block ? all - o : block;
+    for (int s = 0; s < k; s++) {
+      const u8 *b = j->src[s] + 2 * o;
+      for (size_t i = 0; i < n; i++) x[(size_t)s * f->len + i] = (u16)(b[2 * i] << 8 | b[2 * i + 1]);
+    }
+    memset(x + (size_t)k * f->len, 0, (size_t)(K - k) * f->len * 2);
+    from_known(f, x, K, k, 0);
+    for (int from = 0; from < total; from += K) {
+      int lo = from < k ? k - from : 0, hi = total - from < K ? total - from : K;
+      if (lo >= hi) continue;
+      memcpy(y, x, (size_t)K * f->len * 2);
+      to_values(f, y, K, (u32)from, k, lo, hi);
+      for (int t = lo; t < hi; t++) {
+        u8 *d = j->dst[from + t - k] + 2 * o;
+        const u16 *v = y + (size_t)t * f->len;
+        for (size_t i = 0; i < n; i++) { d[2 * i] = (u8)(v[i] >> 8); d[2 * i + 1] = (u8)v[i]; }
+      }
+    }
+  }
+  free(x);
+}
+
 // ---- shapes and times
 
 typedef struct { char id; int k, m; size_t width; } Shape;
 
 static const Shape SHAPES[] = {
   { 'A', 34, 66, 30842 }, { 'B', 2, 2, 524290 }, { 'C', 342, 682, 3068 }, { 'D', 30, 70, 559242 }, { 'E', 8, 17, 8194 },
-  { 'F', 342, 682, 12 },
+  { 'F', 342, 682, 12 }, { 'G', 1024, 2048, 1026 },
 };
 
 static u64 now(void) {
@@ -243,8 +367,9 @@ static void time_of(char id, const char *call, const char *name, void (*run)(con
 
 int main(int argc, char **argv) {
   int runs = argc > 1 ? atoi(argv[1]) : 1;
-  const char *only = argc > 2 ? argv[2] : "ABCDEF";
+  const char *only = argc > 2 ? argv[2] : "ABCDEFG";
   field_init();
+  transform_init();
   for (const Shape *sh = SHAPES; sh < SHAPES + sizeof SHAPES / sizeof *SHAPES; sh++) {
     if (!strchr(only, sh->id)) continue;
     int k = sh->k, m = sh->m, n = k + m;
@@ -262,10 +387,14 @@ int main(int argc, char **argv) {
     other.dst = out + k;
     split_u16(&other);
     split_pack8(&rebuild);
-    if (memcmp(all, again, (size_t)n * w)) { fprintf(stderr, "the kernels differ at %c\n", sh->id); return 1; }
-    time_of(sh->id, "extend", "split-u16", split_u16, &extend, runs);
+    int differ = memcmp(all, again, (size_t)n * w);
+    memset(again + (size_t)k * w, 0, (size_t)m * w);
+    fft_split(&other);
+    if (differ || memcmp(all, again, (size_t)n * w)) { fprintf(stderr, "the kernels differ at %c\n", sh->id); return 1; }
+    time_of(sh->id, "extend", "fft-split", fft_split, &extend, runs);
+    if (sh->id != 'G') time_of(sh->id, "extend", "split-u16", split_u16, &extend, runs);
     time_of(sh->id, "extend", "split-pack8", split_pack8, &extend, runs);
-    time_of(sh->id, "rebuild", "split-u16", split_u16, &rebuild, runs);
+    if (sh->id != 'G') time_of(sh->id, "rebuild", "split-u16", split_u16, &rebuild, runs);
     time_of(sh->id, "rebuild", "split-pack8", split_pack8, &rebuild, runs);
     free(all); free(again); free(row); free(out); free(index); free(extend.factors); free(rebuild.factors);
   }

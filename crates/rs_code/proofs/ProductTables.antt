@@ -1,9 +1,9 @@
 -- Tables of one factor's products.
-use Rattle.std.proofs.Common.{◌≡◌, ℕ, ◌+◌, ◌-◌, ◌*◌, ◌/◌, ◌%◌, ◌<◌, ◌≤◌, ◌^◌, List, length, set, get_or, bit_xor, sym, ap, ap₂, ◌∙◌, subst, arith, ⊎_elim, div-add-mod', get_or-set_same}
+use Rattle.std.proofs.Common.{◌≡◌, ℕ, ◌+◌, ◌-◌, ◌*◌, ◌/◌, ◌%◌, ◌<◌, ◌≤◌, ◌^◌, List, length, set, get_or, bit_xor, sym, ap, ap₂, ◌∙◌, arith, ⊎_elim, div-add-mod', get_or-set_same}
 use Rattle.std.proofs.lemmas.Bool.{cases_lt}
-use Rattle.std.specs.Int.Bits.{xor_zero_r, xor_zero_l, xor_self, xor_assoc}
+use Rattle.std.specs.Int.Bits.{xor_zero_r}
 use Rattle.rs_code.specs.Field.{times}
-use Rattle.rs_code.proofs.Field.{is_field, xor_fits}
+use Rattle.rs_code.proofs.Field.{is_field}
 use Rattle.rs_code.proofs.WeightLaws.{times_zero, zero_times}
 use Rattle.rs_code.proofs.LaneLaws.{product_above, by_bytes}
 
@@ -57,10 +57,7 @@ pub by_nothing : (sum factor symbol : ℕ) → factor ≡ 0 → bit_xor sum (tim
 by_nothing sum factor symbol h =
     ap (bit_xor sum) (ap (λ (f : ℕ). times f symbol) h ∙ zero_times symbol) ∙ xor_zero_r sum
 
--- what is added to a symbol and gives a symbol is one
-pub summand_fits : (a b sum : ℕ) → a < 2 ^ 16 → sum < 2 ^ 16 → sum ≡ bit_xor a b → b < 2 ^ 16
-summand_fits a b sum ha hs h =
-    subst (λ (n : ℕ). n < 2 ^ 16)
-    (ap (bit_xor a) h ∙ sym (xor_assoc a a b) ∙ ap (λ (n : ℕ). bit_xor n b) (xor_self a)
-    ∙ xor_zero_l b)
-    (xor_fits a sum ha hs)
+-- the product with the symbol 0 adds nothing
+pub of_nothing : (sum factor symbol : ℕ) → symbol ≡ 0 → bit_xor sum (times factor symbol) ≡ sum
+of_nothing sum factor symbol h =
+    ap (bit_xor sum) (ap (times factor) h ∙ times_zero factor) ∙ xor_zero_r sum

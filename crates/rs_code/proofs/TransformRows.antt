@@ -1,5 +1,6 @@
 -- Rows of symbols in two halves, and the transform's steps on all columns.
-use Rattle.std.proofs.Common.{◌≡◌, ◌⊎◌, ℕ, suc, refl, ◌+◌, ◌-◌, ◌*◌, ◌^◌, ◌<◌, ◌≤◌, ◌++◌, List, length, get_or, bit_xor, sym, ap, ap₂, ◌∙◌, subst, arith, ⊎_elim, mul-le-mul_right}
+use Rattle.std.proofs.Common.{◌≡◌, ◌⊎◌, ℕ, suc, refl, ◌+◌, ◌-◌, ◌*◌, ◌/◌, ◌%◌, ◌^◌, ◌<◌, ◌≤◌, ◌++◌, List, length, get_or, bit_xor, sym, ap, ap₂, ◌∙◌, subst, arith, ⊎_elim, mul-le-mul_right, div-add-mod', mod-lt}
+use Rattle.std.proofs.lemmas.Bool.{cases_eq, cases_lt}
 use Rattle.std.proofs.lemmas.Nat.{mul-add-lt, xor_comm}
 use Rattle.std.proofs.lemmas.List.{get_or_append_left, get_or-append_right}
 use Rattle.std.specs.Int.Bits.{xor_zero_r, xor_zero_l, xor_self, xor_assoc}
@@ -42,6 +43,39 @@ entry_high low high h n i j long =
     ∙ ap (λ (p : ℕ). get_or high p 0)
     (let left : length low + (i * n + j) - length low ≡ i * n + j = omega arith in left)
     ∙ sym (entry_is high n i j)
+
+-- where rows have zeros from one on, their second half has zeros from a place on
+pub high_zeros : (n h t given : ℕ) (rows low high : List ℕ) → rows ≡ low ++ high
+    → length low ≡ h * n → 2 ^ t ≡ h + h →
+    ((i j : ℕ) → given ≤ i → i < 2 ^ t → j < n → entry rows n i j ≡ 0) →
+    (p : ℕ) → (given - h) * n ≤ p → p < h * n → get_or high p 0 ≡ 0
+high_zeros n h t given rows low high split long whole zeros p from to =
+    let i : ℕ = p / n in
+    let j : ℕ = p % n in
+    let place : i * n + j ≡ p = div-add-mod' p n in
+    let some : 0 < n =
+    ⊎_elim
+    (λ none. absurd
+    (let nothing : h * n ≡ h * 0 = ap (λ (m : ℕ). h * m) none in
+    omega (arith, nothing, to)))
+    (λ more. omega (arith, more)) (cases_eq n 0) in
+    let column : j < n = mod-lt p some in
+    let below : i < h =
+    ⊎_elim (λ less. less)
+    (λ more. absurd
+    (let past : h * n ≤ i * n = mul-le-mul_right n more in omega (arith, past, place, to)))
+    (cases_lt i h) in
+    let after : given - h ≤ i =
+    ⊎_elim
+    (λ less. absurd
+    (let short : suc i * n ≤ (given - h) * n = mul-le-mul_right n less in
+    omega (arith, short, place, column, from)))
+    (λ more. more) (cases_lt i (given - h)) in
+    ap (λ (q : ℕ). get_or high q 0) (sym place)
+    ∙ sym (entry_is high n i j)
+    ∙ sym (entry_high low high h n i j long)
+    ∙ sym (ap (λ (xs : List ℕ). entry xs n (h + i) j) split)
+    ∙ zeros (h + i) j (omega (arith, after)) (omega (arith, below, whole)) column
 
 module _ (n s block factor : ℕ) (rows low high : List ℕ)
     (split : rows ≡ low ++ high) (long_low : length low ≡ 2 ^ s * n)

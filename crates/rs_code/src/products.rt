@@ -7,6 +7,13 @@ ghost use Rattle.rs_code.specs.Field.{times};
 
 use crate::gf16;
 
+/// It does nothing: what is known of the symbols' type is its contract.
+pub fn symbols_fit(symbols: &[u16])
+    ensures { (p : ℕ) → slice_index symbols.now p < 2 ^ 16 }
+{
+    let _ = symbols;
+}
+
 // Copies the first `count` entries behind themselves, with a step added.
 fn double(table: &mut [u16], count: usize, step: u16)
     requires { 2 * count ≤ length table.old }
@@ -112,21 +119,25 @@ pub fn add_products(sums: &mut [u16], factor: u16, symbols: &[u16], from: usize)
     add_by_tables(sums, &low, &high, symbols, from);
 }
 
-// One step from coefficients to values, by the factor's tables.
-fn forward_by_tables(first: &mut [u16], second: &mut [u16], low: &[u16], high: &[u16])
+// One step from coefficients to values, by the factor's tables, at the first `count` places.
+fn forward_by_tables(first: &mut [u16], second: &mut [u16], low: &[u16], high: &[u16], count: usize)
     requires second { length second.old ≡ length first.old }
+    requires count { count ≤ length first.old }
     requires low { length low.now ≡ 256 }
     requires high { length high.now ≡ 256 }
     ensures first_count { length first.new ≡ length first.old }
     ensures second_count { length second.new ≡ length first.old }
-    ensures first { (p : ℕ) → p < length first.old
+    ensures first { (p : ℕ) → p < count
         → slice_index first.new p ≡ bit_xor (slice_index first.old p)
         (bit_xor (slice_index high.now (slice_index second.old p / 256))
         (slice_index low.now (slice_index second.old p % 256))) }
-    ensures second { (p : ℕ) → p < length first.old
+    ensures second { (p : ℕ) → p < count
         → slice_index second.new p ≡ bit_xor (slice_index first.new p) (slice_index second.old p) }
+    ensures first_rest { (p : ℕ) → count ≤ p → slice_index first.new p ≡ slice_index first.old p }
+    ensures second_rest { (p : ℕ) → count ≤ p
+        → slice_index second.new p ≡ slice_index second.old p }
 {
-    for place in 0..first.len() {
+    for place in 0..count {
         let sum = first[place] ^ product(low, high, second[place]);
         first[place] = sum;
         second[place] = sum ^ second[place];
@@ -134,9 +145,12 @@ fn forward_by_tables(first: &mut [u16], second: &mut [u16], low: &[u16], high: &
 }
 
 /// One step from coefficients to values: the first half gets the second's products with a factor,
-/// and the second half gets the first.
-pub fn step_forward(first: &mut [u16], second: &mut [u16], factor: u16)
+/// and the second half gets the first. The second half has zeros from the place `filled` on, which
+/// have no products.
+pub fn step_forward(first: &mut [u16], second: &mut [u16], factor: u16, filled: usize)
     requires second { length second.old ≡ length first.old }
+    requires filled { filled ≤ length first.old }
+    requires zeros { (p : ℕ) → filled ≤ p → p < length first.old → slice_index second.old p ≡ 0 }
     ensures first_count { length first.new ≡ length first.old }
     ensures second_count { length second.new ≡ length first.old }
     ensures first { (p : ℕ) → p < length first.old → slice_index first.new p
@@ -152,7 +166,9 @@ pub fn step_forward(first: &mut [u16], second: &mut [u16], factor: u16)
     let mut high = [0u16; 256];
     spread(&mut low, factor);
     spread(&mut high, gf16::by_256(factor));
-    forward_by_tables(first, second, &low, &high);
+    symbols_fit(second);
+    forward_by_tables(first, second, &low, &high, filled);
+    add(second, first, filled);
 }
 
 // One step from values to coefficients, by the factor's tables.

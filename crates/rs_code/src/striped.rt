@@ -1,4 +1,4 @@
-//! Rows by sums of given rows, one stripe of columns beside the other.
+//! Rows that are made of given rows, one stripe of columns beside the other.
 
 ghost use Rattle.std.specs.Prelude.{◌≡◌, ℕ, ◌<◌, ◌≤◌, ◌+◌, ◌-◌, ◌*◌, ◌/◌, ◌%◌, ◌^◌, ◌++◌, take};
 ghost use Rattle.std.specs.Prelude.{length, slice_index, IfOk, OnOk, OnErr};
@@ -6,7 +6,8 @@ ghost use Rattle.std.specs.Thread.{IsSync};
 ghost use Rattle.rs_code.specs.Codeword.{sum_below};
 ghost use Rattle.rs_code.specs.Coefficients.{lane, symbol_through};
 ghost use Rattle.rs_code.specs.Field.{times};
-ghost use Rattle.rs_code.specs.Rows.{symbol, symbol_bytes, joined, row_through};
+ghost use Rattle.rs_code.specs.Recipes.{given_count, made_count, FitsField, made_symbol, made_row};
+ghost use Rattle.rs_code.specs.Rows.{symbol, symbol_bytes, joined};
 ghost use Rattle.rs_code.specs.Stripes.{stripe_start, stripe_bytes, AreStripes};
 
 use crate::basis::Basis;
@@ -15,7 +16,9 @@ use crate::joining::{all_done, put_rows};
 use crate::lanes::{Eight, next_eight};
 use crate::narrow::group_sums;
 use crate::pairs::{fill_pair_lane, pair_sums};
+use crate::recipe::Recipe;
 use crate::stripes::{stripe, stripe_count};
+use crate::transformed::fill_transformed;
 use cw_base::{NoMemory, Strategy};
 use std::alloc::{AllocError, Global};
 use std::thread;
@@ -24,153 +27,150 @@ use std::thread::Threads;
 // How many columns are worked on at once: their sums stay in the caches near the processor.
 const BLOCK: usize = 8192;
 
-/// The rows at the targets, of the polynomials through the rows at the points of a basis.
+/// The rows of a recipe.
 ///
-/// Each stripe is done for eight targets at a time, whose coefficients are then let go.
+/// Each stripe is done by itself; by weights for eight targets at a time, whose coefficients are
+/// then let go.
 pub fn rows_at<R: Threads + Sync, S: Strategy>(
     rt: &R,
     alloc: Global,
-    basis: &Basis,
+    recipe: &Recipe,
     rows: &[u8],
     width: usize,
-    targets: &[u16],
     strategy: &S,
 ) -> Result<Vec<u8>, NoMemory>
-    requires rows { length rows.now ≡ length basis.now * width }
+    requires rows { length rows.now ≡ given_count recipe.now * width }
     requires even { width % 2 ≡ 0 }
-    requires room { length targets.now * width < 2 ^ 63 }
-    ensures { IfOk result (λ v. v.items ≡ joined (length targets.now)
-        (λ i. row_through (length basis.now) (λ s. slice_index basis.now s) rows.now width
-        (slice_index targets.now i))) }
+    requires fits { FitsField recipe.now }
+    requires room { made_count recipe.now * width < 2 ^ 63 }
+    ensures { IfOk result (λ v. v.items
+        ≡ joined (made_count recipe.now) (made_row recipe.now rows.now width)) }
 {
     let count = stripe_count(width, strategy.pieces());
     if count == 1 {
         strategy.arrive(0);
-        return whole_rows_at(alloc, basis, rows, width, targets);
+        return whole_rows_at(alloc, recipe, rows, width);
     }
-    let size = targets.len() * width;
-    let (room, done) = thread::join(
+    let n = recipe.count();
+    let size = n * width;
+    let (room, done) = thread::join_mut(
         rt,
-        || -> Result<Vec<u8>, AllocError>
+        &mut move || -> Result<Vec<u8>, AllocError>
             requires { size < 2 ^ 63 }
             ensures { IfOk result (λ v. length v.items ≡ size) }
         { vec![in alloc; 0u8; size] },
-        || -> Result<Vec<Vec<u8>>, NoMemory>
+        &mut || -> Result<Vec<Vec<u8>>, NoMemory>
             requires { IsSync R.row
-                × (length rows.now ≡ length basis.now * width) × (width % 2 ≡ 0)
-                × (length targets.now * width < 2 ^ 63) × (1 ≤ count) }
+                × (length rows.now ≡ given_count recipe.now * width) × (width % 2 ≡ 0)
+                × FitsField recipe.now
+                × (made_count recipe.now * width < 2 ^ 63) × (1 ≤ count) }
             ensures { IfOk result (λ v. (length v.items ≡ count)
-                × AreStripes width (length targets.entry.now)
-                (λ i j. symbol_through basis.entry.now rows.entry.now width
-                (slice_index targets.entry.now i) j) v.items) }
-        { run_stripes(rt, alloc, basis, rows, width, targets, count, strategy) },
+                × AreStripes width (made_count recipe.entry.now)
+                (made_symbol recipe.entry.now rows.entry.now width) v.items) }
+        { run_stripes(rt, alloc, recipe, rows, width, count, strategy) },
     );
     let mut out = room?;
-    put_rows(rt, &done?, width, targets.len(), &mut out);
+    put_rows(rt, &done?, width, n, &mut out);
     Ok(out)
 }
 
 /// What [`rows_at`] gives, on the caller's thread, all columns in one piece.
 pub fn whole_rows_at(
     alloc: Global,
-    basis: &Basis,
+    recipe: &Recipe,
     rows: &[u8],
     width: usize,
-    targets: &[u16],
 ) -> Result<Vec<u8>, NoMemory>
-    requires rows { length rows.now ≡ length basis.now * width }
+    requires rows { length rows.now ≡ given_count recipe.now * width }
     requires even { width % 2 ≡ 0 }
-    requires room { length targets.now * width < 2 ^ 63 }
-    ensures { IfOk result (λ v. v.items ≡ joined (length targets.now)
-        (λ i. row_through (length basis.now) (λ s. slice_index basis.now s) rows.now width
-        (slice_index targets.now i))) }
+    requires fits { FitsField recipe.now }
+    requires room { made_count recipe.now * width < 2 ^ 63 }
+    ensures { IfOk result (λ v. v.items
+        ≡ joined (made_count recipe.now) (made_row recipe.now rows.now width)) }
 {
-    let whole = stripe_rows(alloc, basis, rows, width, targets, 1, 0)?;
+    let whole = stripe_rows(alloc, recipe, rows, width, 1, 0)?;
     Ok(whole)
 }
 
-/// Appends the rows at the targets to the rows at the points of a basis, as a strategy does `count`
-/// stripes of them.
+/// Appends the rows of a recipe to the given rows, as a strategy does `count` stripes of them.
 pub fn put_rows_at<R: Threads + Sync, S: Strategy>(
     rt: &R,
     alloc: Global,
-    basis: &Basis,
+    recipe: &Recipe,
     rows: &mut Vec<u8>,
     width: usize,
-    targets: &[u16],
     count: usize,
     strategy: &S,
 ) -> Result<(), NoMemory>
-    requires rows { length rows.old.items ≡ length basis.now * width }
+    requires rows { length rows.old.items ≡ given_count recipe.now * width }
     requires some_width { 1 ≤ width }
     requires even { width % 2 ≡ 0 }
     requires some_stripes { 1 ≤ count }
-    requires room { length rows.old.items + length targets.now * width < 2 ^ 63 }
-    ensures ok { OnOk result (rows.new.items ≡ rows.old.items ++ joined (length targets.now)
-        (λ i. row_through (length basis.now) (λ s. slice_index basis.now s) rows.old.items width
-        (slice_index targets.now i))) }
+    requires fits { FitsField recipe.now }
+    requires room { length rows.old.items + made_count recipe.now * width < 2 ^ 63 }
+    ensures ok { OnOk result (rows.new.items ≡ rows.old.items
+        ++ joined (made_count recipe.now) (made_row recipe.now rows.old.items width)) }
     ensures err { OnErr result (take (length rows.old.items) rows.new.items ≡ rows.old.items) }
 {
-    let stripes = run_stripes(rt, alloc, basis, rows, width, targets, count, strategy)?;
+    let stripes = run_stripes(rt, alloc, recipe, rows, width, count, strategy)?;
     let size = rows.len();
-    rows.resize(size + targets.len() * width, 0)?;
+    rows.resize(size + recipe.count() * width, 0)?;
     let (_, out) = rows.split_at_mut(size);
-    put_rows(rt, &stripes, width, targets.len(), out);
+    put_rows(rt, &stripes, width, recipe.count(), out);
     Ok(())
 }
 
 /// What [`put_rows_at`] does, on the caller's thread: all columns in one piece, where the rows stay.
 pub fn put_whole_rows(
     alloc: Global,
-    basis: &Basis,
+    recipe: &Recipe,
     rows: &mut Vec<u8>,
     width: usize,
-    targets: &[u16],
 ) -> Result<(), NoMemory>
-    requires rows { length rows.old.items ≡ length basis.now * width }
+    requires rows { length rows.old.items ≡ given_count recipe.now * width }
     requires even { width % 2 ≡ 0 }
-    requires room { length rows.old.items + length targets.now * width < 2 ^ 63 }
-    ensures ok { OnOk result (rows.new.items ≡ rows.old.items ++ joined (length targets.now)
-        (λ i. row_through (length basis.now) (λ s. slice_index basis.now s) rows.old.items width
-        (slice_index targets.now i))) }
+    requires fits { FitsField recipe.now }
+    requires room { length rows.old.items + made_count recipe.now * width < 2 ^ 63 }
+    ensures ok { OnOk result (rows.new.items ≡ rows.old.items
+        ++ joined (made_count recipe.now) (made_row recipe.now rows.old.items width)) }
     ensures err { OnErr result (take (length rows.old.items) rows.new.items ≡ rows.old.items) }
 {
     let size = rows.len();
-    rows.resize(size + targets.len() * width, 0)?;
+    rows.resize(size + recipe.count() * width, 0)?;
     let (given, out) = rows.split_at_mut(size);
-    fill_rows(alloc, out, basis, given, width, targets, 0, width)?;
+    fill_rows(alloc, out, recipe, given, width, 0, width)?;
     Ok(())
 }
 
-// The stripes of the rows at the targets, as a strategy does them.
+// The stripes of the rows of a recipe, as a strategy does them.
 fn run_stripes<R: Threads + Sync, S: Strategy>(
     rt: &R,
     alloc: Global,
-    basis: &Basis,
+    recipe: &Recipe,
     rows: &[u8],
     width: usize,
-    targets: &[u16],
     count: usize,
     strategy: &S,
 ) -> Result<Vec<Vec<u8>>, NoMemory>
-    requires rows { length rows.now ≡ length basis.now * width }
+    requires rows { length rows.now ≡ given_count recipe.now * width }
     requires even { width % 2 ≡ 0 }
-    requires room { length targets.now * width < 2 ^ 63 }
+    requires fits { FitsField recipe.now }
+    requires room { made_count recipe.now * width < 2 ^ 63 }
     ensures count { IfOk result (λ v. length v.items ≡ count) }
-    ensures stripes { IfOk result (λ v. AreStripes width (length targets.now)
-        (λ i j. symbol_through basis.now rows.now width (slice_index targets.now i) j) v.items) }
+    ensures stripes { IfOk result (λ v. AreStripes width (made_count recipe.now)
+        (made_symbol recipe.now rows.now width) v.items) }
 {
     let indices = stripe_indices(alloc, count)?;
     let work = |index: &usize| -> Result<Vec<u8>, AllocError>
-        requires rows { length rows.now ≡ length basis.now * width }
+        requires rows { length rows.now ≡ given_count recipe.now * width }
         requires even { width % 2 ≡ 0 }
-        requires room { length targets.now * width < 2 ^ 63 }
+        requires fits { FitsField recipe.now }
+        requires room { made_count recipe.now * width < 2 ^ 63 }
         requires index { index.now < count }
-        ensures { IfOk result (λ v. v.items ≡ joined (length targets.entry.now)
+        ensures { IfOk result (λ v. v.items ≡ joined (made_count recipe.entry.now)
             (λ i. stripe_bytes width count index.now
-            (λ j. symbol_through basis.entry.now rows.entry.now width
-            (slice_index targets.entry.now i) j))) }
-    { stripe_rows(alloc, basis, rows, width, targets, count, *index) };
+            (made_symbol recipe.entry.now rows.entry.now width i))) }
+    { stripe_rows(alloc, recipe, rows, width, count, *index) };
     let pieces = strategy.map(rt, alloc, &indices, &work)?;
     let done = all_done(alloc, pieces)?;
     Ok(done)
@@ -188,42 +188,72 @@ fn stripe_indices(alloc: Global, count: usize) -> Result<Vec<usize>, AllocError>
     Ok(indices)
 }
 
-// One stripe of the rows at the targets.
+// One stripe of the rows of a recipe.
 fn stripe_rows(
     alloc: Global,
-    basis: &Basis,
+    recipe: &Recipe,
     rows: &[u8],
     width: usize,
-    targets: &[u16],
     count: usize,
     index: usize,
 ) -> Result<Vec<u8>, AllocError>
-    requires rows { length rows.now ≡ length basis.now * width }
+    requires rows { length rows.now ≡ given_count recipe.now * width }
     requires even { width % 2 ≡ 0 }
-    requires room { length targets.now * width < 2 ^ 63 }
+    requires fits { FitsField recipe.now }
+    requires room { made_count recipe.now * width < 2 ^ 63 }
     requires index { index < count }
-    ensures { IfOk result (λ v. v.items ≡ joined (length targets.now)
-        (λ i. stripe_bytes width count index
-        (λ j. symbol_through basis.now rows.now width (slice_index targets.now i) j))) }
+    ensures { IfOk result (λ v. v.items ≡ joined (made_count recipe.now)
+        (λ i. stripe_bytes width count index (made_symbol recipe.now rows.now width i))) }
 {
     let (first, last) = stripe(width, count, index);
     let wide = last - first;
-    let mut out = vec![in alloc; 0u8; targets.len() * wide]?;
-    fill_rows(
-        alloc,
-        &mut out,
-        basis,
-        rows,
-        width,
-        targets,
-        first / 2,
-        wide,
-    )?;
+    let mut out = vec![in alloc; 0u8; recipe.count() * wide]?;
+    fill_rows(alloc, &mut out, recipe, rows, width, first / 2, wide)?;
     Ok(out)
 }
 
-// Writes the rows of all targets: `wide` bytes of each, from the column `first` on.
+// Writes the rows of a recipe: `wide` bytes of each, from the column `first` on.
 fn fill_rows(
+    alloc: Global,
+    out: &mut [u8],
+    recipe: &Recipe,
+    rows: &[u8],
+    width: usize,
+    first: usize,
+    wide: usize,
+) -> Result<(), AllocError>
+    requires rows { length rows.now ≡ given_count recipe.now * width }
+    requires columns { 2 * first + wide ≤ width }
+    requires even { wide % 2 ≡ 0 }
+    requires fits { FitsField recipe.now }
+    requires out { length out.old ≡ made_count recipe.now * wide }
+    ensures count { length out.new ≡ length out.old }
+    ensures rows { OnOk result (out.new ≡ joined (made_count recipe.now)
+        (λ i. symbol_bytes (wide / 2)
+        (λ j. made_symbol recipe.now rows.now width i (first + j)))) }
+{
+    match *recipe {
+        Recipe::ByWeights(basis, targets) => {
+            fill_by_weights(alloc, out, basis, rows, width, targets, first, wide)
+        }
+        Recipe::Transformed(k, m) => {
+            fill_transformed(
+                alloc,
+                out,
+                usize::from(k),
+                usize::from(m),
+                rows,
+                width,
+                first,
+                wide,
+            )
+        }
+    }
+}
+
+// Writes the rows of all targets, by what each given row counts for in each: `wide` bytes of each,
+// from the column `first` on.
+fn fill_by_weights(
     alloc: Global,
     out: &mut [u8],
     basis: &Basis,

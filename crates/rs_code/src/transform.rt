@@ -5,7 +5,7 @@ ghost use Rattle.std.specs.Prelude.{◌≡◌, ℕ, ◌<◌, ◌≤◌, ◌+◌,
 ghost use Rattle.rs_code.specs.Columns.{entry, AreScales};
 ghost use Rattle.rs_code.specs.Transform.{vanishing, combined};
 
-use crate::products::{add, add_products, step_back, step_forward};
+use crate::products::{add, add_products, step_back, step_forward, symbols_fit};
 use crate::subspaces::{STEPS, vanishing_at};
 
 /// How many rows a block has.
@@ -27,15 +27,9 @@ fn factor_at(scales: &[u16; STEPS], t: usize, block: usize) -> u16
     vanishing_at(scales, t - 1, (block * size(t)) as u16)
 }
 
-/// It does nothing: what is known of the rows' type is its contract.
-pub fn symbols_fit(rows: &[u16])
-    ensures { (p : ℕ) → slice_index rows.now p < 2 ^ 16 }
-{
-    let _ = rows;
-}
-
-/// From the coefficients in 2^t rows to their polynomial's values at the elements of a block, in the
-/// rows from `first` on that are before `last`. What the others have then isn't said.
+/// From the coefficients in 2^t rows, of which those from `given` on are zero, to their polynomial's
+/// values at the elements of a block, in the rows from `first` on that are before `last`. What the
+/// others have then isn't said.
 pub fn forward(
     rows: &mut [u16],
     n: usize,
@@ -44,10 +38,13 @@ pub fn forward(
     block: usize,
     first: usize,
     last: usize,
+    given: usize,
 )
     requires fits { t ≤ 16 }
     requires block { (block + 1) * 2 ^ t ≤ 2 ^ 16 }
     requires rows { length rows.old ≡ 2 ^ t * n }
+    requires given { given ≤ 2 ^ t }
+    requires zeros { (i j : ℕ) → given ≤ i → i < 2 ^ t → j < n → entry rows.old n i j ≡ 0 }
     requires scales { AreScales 15 scales.now }
     ensures count { length rows.new ≡ length rows.old }
     ensures values { (i j : ℕ) → first ≤ i → i < last → i < 2 ^ t → j < n
@@ -67,8 +64,8 @@ pub fn forward(
     let half = size(t - 1);
     let factor = factor_at(scales, t, block);
     let (low, high) = rows.split_at_mut(half * n);
-    step_forward(low, high, factor);
-    forward(low, n, scales, t - 1, 2 * block, first, last);
+    step_forward(low, high, factor, given.saturating_sub(half) * n);
+    forward(low, n, scales, t - 1, 2 * block, first, last, half);
     forward(
         high,
         n,
@@ -77,6 +74,7 @@ pub fn forward(
         2 * block + 1,
         first.saturating_sub(half),
         last.saturating_sub(half),
+        half,
     );
 }
 

@@ -8,8 +8,9 @@ ghost use Rattle.rs_code.specs.Columns.{entry, AreScales};
 ghost use Rattle.rs_code.specs.Rows.{symbol, symbol_bytes, joined};
 ghost use Rattle.rs_code.specs.Transform.{combined};
 
+use crate::products::symbols_fit;
 use crate::subspaces::{STEPS, scales};
-use crate::transform::{forward, inverse, size, symbols_fit};
+use crate::transform::{forward, inverse, size};
 use std::alloc::{AllocError, Global};
 
 // How many coefficients are worked on at once: with their values they stay in the caches near the
@@ -243,6 +244,8 @@ fn fill_block(
     requires room { setting.now.k ≤ 2 ^ setting.now.t }
     requires block { block * 2 ^ setting.now.t < setting.now.k + setting.now.m }
     requires coefficients { length coefficients.now ≡ 2 ^ setting.now.t * window.n }
+    requires zeros { (i j : ℕ) → setting.now.k ≤ i → i < 2 ^ setting.now.t → j < window.n
+        → entry coefficients.now window.n i j ≡ 0 }
     requires values { length values.old ≡ 2 ^ setting.now.t * window.n }
     requires own { 2 * (window.start + window.n) ≤ window.wide }
     requires out { length out.old ≡ setting.now.m * window.wide }
@@ -272,6 +275,7 @@ fn fill_block(
         block,
         first,
         last,
+        setting.k,
     );
     store(
         out,

@@ -1,21 +1,20 @@
 use Rattle.std.proofs.Common.{◌≡◌, ℕ, ◌+◌, ◌*◌, ◌/◌, ◌++◌, List, length, get_or, take_at, length-append, ap, ◌∙◌, arith}
-use Rattle.rs_code.specs.Coefficients.{symbol_through}
-use Rattle.rs_code.specs.Rows.{joined, row_through}
+use Rattle.rs_code.specs.Recipes.{made_count, made_symbol, made_row}
+use Rattle.rs_code.specs.Rows.{joined}
 use Rattle.rs_code.proofs.RowBytes.{joined_same, symbol_bytes_same}
 use Rattle.rs_code.proofs.RowFronts.{front}
 use Rattle.rs_code.proofs.striped.put_whole_rows.Goals as goal
 
 pub returns-clause-ok : goal.returns-clause-ok
-unfolding row_through symbol_through
 returns-clause-ok c =
     let old : List ℕ = c.args.rows.now.items in
-    let n : ℕ = length c.args.targets.now in
+    let n : ℕ = made_count c.args.recipe.now in
     let given : List ℕ = c.split_at_mut-given.result.0.now in
     let news : List ℕ = c.fill_rows.new.out in
     let size : ℕ = c.len-size.result in
     let same : given ≡ old =
     front old _ c.resize.new.self.items c.deref_mut.result.now given size
-    (size + n * c.args.width) (omega (arith, c.len-size.ensures)) (omega arith)
+    (size + c.count.result * c.args.width) (omega (arith, c.len-size.ensures)) (omega arith)
     c.split_at_mut-given.ensures.front c.deref_mut.ensures.value c.in_ok-resize.ensures.items in
     take_at (given ++ news) _ c.resize.new.self.len
     (length-append given news
@@ -29,13 +28,6 @@ returns-clause-ok c =
     ))
     ∙ ap (λ rows. given ++ rows) (c.in_ok-fill_rows.ensures.rows
     ∙ joined_same n _ _ (λ i _. symbol_bytes_same (c.args.width / 2) _ _ (λ j _.
-    ap
-    (λ (q : ℕ). symbol_through c.args.basis.now given c.args.width
-    (get_or c.args.targets.now i 0) q)
+    ap (made_symbol c.args.recipe.now given c.args.width i)
     (let first : 0 + j ≡ j = omega arith in first))))
-    ∙ ap
-    (λ rows. rows
-    ++ joined n
-    (λ i. row_through (length c.args.basis.now) (λ s. get_or c.args.basis.now s 0) rows
-    c.args.width (get_or c.args.targets.now i 0)))
-    same
+    ∙ ap (λ rows. rows ++ joined n (made_row c.args.recipe.now rows c.args.width)) same

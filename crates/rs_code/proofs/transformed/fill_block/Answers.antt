@@ -10,6 +10,11 @@ forward-requires-clause-block c =
     block_within c.args.setting.now.t c.args.block (c.args.setting.now.k + c.args.setting.now.m) c.requires.fits c.requires.block
     (omega (arith, c.requires.total))
 
+pub forward-requires-clause-zeros : goal.forward-requires-clause-zeros
+forward-requires-clause-zeros c = λ i j from to l.
+    ap (λ (xs : List ℕ). entry xs c.args.window.n i j) c.copy_from_slice.ensures.after
+    ∙ c.requires.zeros i j from to l
+
 pub returns-clause-written : goal.returns-clause-written
 returns-clause-written c = λ i j hi from to hj.
     let begin : ℕ = c.args.block * c.size-each.result in

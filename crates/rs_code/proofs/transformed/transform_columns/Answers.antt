@@ -15,6 +15,17 @@ fill_block-requires-clause-block c =
     ap (λ (m : ℕ). c.loop-block.block * m) c.size.ensures in
     omega (arith, within, by_size)
 
+pub fill_block-requires-clause-zeros : goal.fill_block-requires-clause-zeros
+fill_block-requires-clause-zeros c = λ r j from to hj.
+    let n : ℕ = c.args.window.n in
+    c.inverse.ensures.others r j from to hj ∙ c.load.ensures.others r j from hj
+    ∙ entry_is c.args.coefficients.now n r j ∙ c.requires.zeros (r * n + j)
+    (omega (
+      arith,
+      place_below r (2 ^ c.args.setting.now.t) n j to hj,
+      c.requires.coefficients,
+    ))
+
 pub loop-block-preserved : goal.loop-block-preserved
 loop-block-preserved c =
     let block : ℕ = c.loop-block.block in
