@@ -2,6 +2,7 @@
 //! bytes.
 #![tactic(auto)]
 
+mod blocks;
 mod chain;
 mod clash;
 mod cursors;
