@@ -13,6 +13,7 @@ use Rattle.hail_script.specs.declared.error.RunError.TheVariants as error
 use Rattle.hail_script.specs.declared.event.EventLine.{EventLine}
 use Rattle.hail_script.specs.Events.{line_of}
 use Rattle.hail_script.specs.Lanes.{Laned, laned_of, lanes, rows}
+use Rattle.hailstorm.specs.declared.blocks.KnownBlocks.{KnownBlocks}
 use Rattle.hailstorm.specs.declared.place.Place.{Place}
 use Rattle.hailstorm.specs.declared.report.Report.{Report}
 use Rattle.hailstorm.specs.Lanes.{IsLanesCause, IsLanesReport, lane_at, left, lines_of, played, without_next}
@@ -38,18 +39,18 @@ rows_many x es is = count_rows x ∙ ap (λ (l : List Line). length l) (sym is) 
 
 module _ (hash : List ℕ → Digest32) (x : Laned) (order : List ℕ) (stopped : Option RunError)
     (opens : List Entry) (cursors : List (ℕ × ℕ)) (steps : List Entry) (places : List (Place Seat))
-    (faulty : List Bool)
-    (h : IsTurning hash x order stopped opens cursors steps places faulty) where
+    (known : KnownBlocks) (faulty : List Bool)
+    (h : IsTurning hash x order stopped opens cursors steps places known faulty) where
   -- no clash was met yet
-  pub between_of : stopped ≡ None → IsBetween hash x order cursors steps places faulty
+  pub between_of : stopped ≡ None → IsBetween hash x order cursors steps places known faulty
   between_of none =
-      (subst (λ (o : Option RunError). IsTurning hash x order o opens cursors steps places faulty)
+      (subst (λ (o : Option RunError). IsTurning hash x order o opens cursors steps places known faulty)
       none h).1
 
   -- why no further line is played
   pub over_of : (e : RunError) → stopped ≡ Some e → IsOver hash x order e
   over_of e is =
-      (subst (λ (o : Option RunError). IsTurning hash x order o opens cursors steps places faulty)
+      (subst (λ (o : Option RunError). IsTurning hash x order o opens cursors steps places known faulty)
       is h).1
 
   -- a lane without a cursor before its end has no line left
@@ -103,7 +104,7 @@ module _ (hash : List ℕ → Digest32) (x : Laned) (order : List ℕ) (stopped 
       let b = between_of none in
       let r = rules_of hash x.script in
       let w = run r (opened hash x.script) (lines_of (played x order)) in
-      lanes_reported hash text x order opens steps cursors places faulty report spells b h.0
+      lanes_reported hash text x order opens steps cursors places known faulty report spells b h.0
       left_none
       (told r w (record { hashes = refl; blocks = refl; contexts = refl }) b.sound b.played.members)
       cluster some law
@@ -111,15 +112,16 @@ module _ (hash : List ℕ → Digest32) (x : Laned) (order : List ℕ) (stopped 
 -- the same, whatever its parts are called
 pub same_between : (hash : List ℕ → Digest32) (x : Laned) (order order' : List ℕ)
     (cursors cursors' : List (ℕ × ℕ)) (steps : List Entry) (places places' : List (Place Seat))
-    (faulty faulty' : List Bool)
+    (known : KnownBlocks) (faulty faulty' : List Bool)
     → order ≡ order' → cursors ≡ cursors' → places ≡ places' → faulty ≡ faulty'
-    → IsBetween hash x order cursors steps places faulty
-    → IsBetween hash x order' cursors' steps places' faulty'
-same_between hash x order order' cursors cursors' steps places places' faulty faulty' o c p f h =
-    subst (λ (l : List Bool). IsBetween hash x order' cursors' steps places' l) f
-    (subst (λ (l : List (Place Seat)). IsBetween hash x order' cursors' steps l faulty) p
-    (subst (λ (l : List (ℕ × ℕ)). IsBetween hash x order' l steps places faulty) c
-    (subst (λ (l : List ℕ). IsBetween hash x l cursors steps places faulty) o h)))
+    → IsBetween hash x order cursors steps places known faulty
+    → IsBetween hash x order' cursors' steps places' known faulty'
+same_between hash x order order' cursors cursors' steps places places' known faulty faulty' o c p f
+    h =
+    subst (λ (l : List Bool). IsBetween hash x order' cursors' steps places' known l) f
+    (subst (λ (l : List (Place Seat)). IsBetween hash x order' cursors' steps l known faulty) p
+    (subst (λ (l : List (ℕ × ℕ)). IsBetween hash x order' l steps places known faulty) c
+    (subst (λ (l : List ℕ). IsBetween hash x l cursors steps places known faulty) o h)))
 
 -- a turn that finds no line
 pub turns_none : (hash : List ℕ → Digest32) (t : Turning) (k : ℕ) → t.stopped ≡ None

@@ -1,6 +1,6 @@
 -- Runs of lines, by the places of their first lines and their ends.
-use Rattle.std.proofs.Common.{◌≡◌, ℕ, zero, suc, ◌+◌, ◌-◌, ◌<◌, ◌≤◌, List, [], ◌∷◌, ◌++◌, length, map, take, drop, get_or, Option, Some, None, refl, sym, ap, ◌∙◌, arith, append_assoc, append-nil, length-append}
-use Rattle.std.specs.Prelude.{flat_map, slice_get}
+use Rattle.std.proofs.Common.{◌≡◌, ℕ, zero, suc, ◌+◌, ◌<◌, ◌≤◌, List, [], ◌∷◌, ◌++◌, length, map, take, drop, get_or, Some, None, refl, sym, ap, ◌∙◌, arith, append_assoc}
+use Rattle.std.specs.Prelude.{slice_get}
 use Rattle.std.proofs.lemmas.List.{drop_all, take_all}
 use Rattle.cw_rules.specs.World.{Line}
 use Rattle.hail_script.specs.Lanes.{cut}
@@ -98,25 +98,6 @@ pub past_none : {X : Type 0} (xs : List X) (k : ℕ) → length xs ≤ k → sli
 past_none [] k past = refl
 past_none (x ∷ xs) zero past = absurd (omega arith)
 past_none (x ∷ xs) (suc k) past = past_none xs k (omega arith)
-
--- one lane more with nothing left
-flat_more : (lanes : List (List (ℕ × Line))) (lane : List (ℕ × Line))
-    → flat_map (λ lane. lane) lanes ≡ [] → lane ≡ []
-    → flat_map (λ lane. lane) (lanes ++ lane ∷ []) ≡ []
-flat_more [] lane e none = append-nil lane ∙ none
-flat_more ([] ∷ lanes) lane e none = flat_more lanes lane e none
-flat_more ((x ∷ l) ∷ lanes) lane e none =
-    absurd (let no : x ∷ (l ++ flat_map (λ lane. lane) lanes) ≡ [] = e in cc)
-
-pub none_more : (rows : List (ℕ × Line)) (before after : List (ℕ × ℕ)) (c : ℕ × ℕ)
-    → after ≡ before ++ c ∷ [] → between rows c ≡ []
-    → flat_map (λ lane. lane) (map (between rows) before) ≡ []
-    → flat_map (λ lane. lane) (map (between rows) after) ≡ []
-none_more rows before after c is none all =
-    ap (λ (l : List (ℕ × ℕ)). flat_map (λ lane. lane) (map (between rows) l)) is
-    ∙ ap (λ (l : List (List (ℕ × Line))). flat_map (λ lane. lane) l)
-    (map_joined rows before (c ∷ []))
-    ∙ flat_more (map (between rows) before) (between rows c) all none
 
 pub drop_item : {X : Type 0} (xs : List X) (i : ℕ) (d x : X) → i < length xs → x ≡ get_or xs i d
     → drop i xs ≡ x ∷ drop (i + 1) xs

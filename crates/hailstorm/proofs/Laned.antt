@@ -21,6 +21,7 @@ use Rattle.hail_script.specs.Lanes.{Laned, cut, laned_of, lanes, prefix, rows}
 use Rattle.hail_script.proofs.Causes.{laned_early}
 use Rattle.hail_script.specs.declared.error.RunError.{RunError}
 use Rattle.hail_script.specs.declared.error.RunError.TheVariants as error
+use Rattle.hailstorm.specs.declared.blocks.KnownBlocks.{KnownBlocks}
 use Rattle.hailstorm.specs.declared.place.Place.{Place}
 use Rattle.hailstorm.specs.declared.report.Report.{Report}
 use Rattle.hailstorm.specs.Lanes.{IsLanesCause, IsLanesClash, IsLanesReport, as_plain, but_last, lane_at, left, lines_of, merged, played, renumbered, script_with, turns_of, whole, without_next}
@@ -359,8 +360,8 @@ count_played x order none =
 
 pub lanes_reported : {H : Type 0} (hash : List ℕ → Digest32) (text : List ℕ) (x : Laned)
     (order : List ℕ) (opens steps : List Entry) (cursors : List (ℕ × ℕ))
-    (places : List (Place Seat)) (faulty : List Bool) (report : Report H)
-    → laned_of text ≡ Ok x → IsBetween hash x order cursors steps places faulty
+    (places : List (Place Seat)) (known : KnownBlocks) (faulty : List Bool) (report : Report H)
+    → laned_of text ≡ Ok x → IsBetween hash x order cursors steps places known faulty
     → opens ≡ opening_entries (rules_of hash x.script) x.script.lines
     → flat_map (λ lane. lane) (left (lanes x) order) ≡ []
     → IsReportOf (rules_of hash x.script)
@@ -371,8 +372,8 @@ pub lanes_reported : {H : Type 0} (hash : List ℕ → Digest32) (text : List �
     → outcome r (opening r script) script ≡ Ends w
     → IsReported r w (handed_in r script) (report_of r script w).chain)
     → IsLanesReport hash text order report
-lanes_reported hash text x order opens steps cursors places faulty report spells h begun none told
-    cluster some law =
+lanes_reported hash text x order opens steps cursors places known faulty report spells h begun none
+    told cluster some law =
     let r = rules_of hash x.script in
     let w = opened hash x.script in
     let lines = lines_of (played x order) in
@@ -583,21 +584,21 @@ lanes_refused hash text (error.OversizeBlock line) (inr h) = (refl, h)
 -- a turn without a clash
 pub turned_on : (hash : List ℕ → Digest32) (x : Laned) (order : List ℕ)
     (cursors after : List (ℕ × ℕ)) (steps more : List Entry) (places new : List (Place Seat))
-    (faulty : List Bool) (k from end : ℕ) (line : Line)
-    → IsBetween hash x order cursors steps places faulty → slice_get cursors k ≡ Some (from, end)
+    (knew known : KnownBlocks) (faulty : List Bool) (k from end : ℕ) (line : Line)
+    → IsBetween hash x order cursors steps places knew faulty → slice_get cursors k ≡ Some (from, end)
     → from < end → slice_get x.script.lines from ≡ Some line
     → HavePlayed (rules_of hash x.script) (opened hash x.script)
-    (played x order ++ (slice_index x.numbers from, line) ∷ []) more new faulty
+    (played x order ++ (slice_index x.numbers from, line) ∷ []) more new known faulty
     → WorkBy (rules_of hash x.script) 0 new → length new ≡ x.script.committees.total
     → after ≡ slice_set cursors k (from + 1, end)
-    → IsBetween hash x (order ++ k ∷ []) after more new faulty
-turned_on hash x order cursors after steps more places new faulty k from end line h at lt there
-    plays sound count is =
+    → IsBetween hash x (order ++ k ∷ []) after more new known faulty
+turned_on hash x order cursors after steps more places new knew known faulty k from end line h at lt
+    there plays sound count is =
     record {
       played =
           subst
           (λ (l : List (ℕ × Line)). HavePlayed (rules_of hash x.script) (opened hash x.script) l
-          more new faulty)
+          more new known faulty)
           (sym (played_more x order cursors k from end line h.rest at lt there)) plays;
       rest =
           rest_more x order cursors k from end line h.rest at lt there

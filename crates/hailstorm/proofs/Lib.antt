@@ -16,6 +16,7 @@ pub mod Growing
 pub mod Known
 pub mod Opening
 pub mod Running
+pub mod Colliding
 pub mod Clashes
 pub mod Searching
 pub mod Links

@@ -24,8 +24,7 @@ use Rattle.cw_rules.specs.Rules.{Rules, genesis, genesis_commitment}
 use Rattle.cw_rules.specs.Step.{Member, member_notes}
 use Rattle.cw_rules.specs.World.{World}
 use Rattle.hailstorm.specs.declared.place.Place.{Place}
-use Rattle.hail_script.specs.Scenario.{Scenario}
-use Rattle.hailstorm.specs.Places.{SitAs, notes_at, rules_of}
+use Rattle.hailstorm.specs.Places.{SitAs, notes_at}
 use Rattle.hailstorm.specs.Runs.{GoesBy, first_named, notes_of, under}
 use Rattle.hailstorm.specs.Seats.{Seat}
 use Rattle.hailstorm.proofs.Clashes.{same_notes}
@@ -174,7 +173,3 @@ top_is opening steps one two a b =
     ∙ ap (λ (l : List Handed). higher None l)
     (sym (flat_map-append (λ (e : Entry). e.handed) opening steps))
     ∙ higher_is (flat_map (λ e. e.handed) (opening ++ steps))
-
--- the rules of a script go by their hash
-pub goes_by : (hash : List ℕ → Digest32) (s : Scenario) → GoesBy hash (rules_of hash s)
-goes_by hash s = record { hashes = refl; blocks = refl; contexts = refl }

@@ -1,6 +1,6 @@
 -- A line's turn at the place of the member that it names.
-use Rattle.std.proofs.Common.{◌≡◌, ℕ, zero, suc, ◌+◌, ◌<◌, ◌++◌, ◌||◌, Bool, true, false, List, [], ◌∷◌, length, map, get_or, Some, None, Option, Ok, Err, Result, refl, sym, ap, subst, ◌∙◌, arith, append-nil}
-use Rattle.std.specs.Prelude.{IfOk, option_and_then, option_map, slice_get, slice_set, is_none}
+use Rattle.std.proofs.Common.{◌≡◌, ℕ, zero, suc, ◌+◌, ◌<◌, ◌++◌, ◌||◌, Bool, true, false, List, [], ◌∷◌, length, map, get_or, Some, None, Option, refl, sym, ap, subst, ◌∙◌, arith, append-nil}
+use Rattle.std.specs.Prelude.{option_and_then, option_map, slice_get, slice_set, is_none}
 use Rattle.std.specs.Option.{option_map_or}
 use Rattle.std.specs.List.{list_any}
 use Rattle.std.proofs.lemmas.Option.{slice_get-map}
@@ -9,7 +9,7 @@ use Rattle.cw_types.specs.declared.event.Out.{Out}
 use Rattle.cw_types.specs.declared.event.StepOut.{StepOut}
 use Rattle.cw_types.specs.declared.note.Note.{Note}
 use Rattle.cw_types.specs.declared.vote.Vote.{Vote}
-use Rattle.cw_rules.specs.Report.{Entry, entry_of, found_by, named_by, sent_by}
+use Rattle.cw_rules.specs.Report.{Entry, entry_of, found_by}
 use Rattle.cw_rules.specs.Rules.{Rules}
 use Rattle.cw_rules.specs.Step.{Member, Stepped, cut_step, member_notes, start, step}
 use Rattle.cw_rules.specs.World as rule
@@ -480,21 +480,3 @@ fault_turn r w number i m f places before pool entry named members pools gives s
           sends ∙ ap (λ (l : List Sent). l ++ sent l) pools
           ∙ ap (λ (l : List Sent). w.pool ++ l) (sym (ap sent pools) ∙ whole);
     }
-
--- where a faulty member's entry was made
-pub fault_played : {E : Type 0} (r : Rules) (w : World) (number i : ℕ) (m : ℕ) (f : Fault)
-    (places : List (Place Seat)) (before : List Sent) (result : Result Entry E)
-    → i ≡ m → SitAs places w.members → before ≡ w.pool
-    → IfOk result (λ entry. entry ≡ record {
-      line = number;
-      member = None;
-      found = None;
-      sent = sent_from (length before) i (rule.fault_sends r (over before) i (fault_of f));
-      handed = [];
-    })
-    → IfOk result
-    (λ entry. IsTurn r w number (line_of (line.Faulty m f)) places (before ++ entry.sent) entry)
-fault_played r w number i m f places before (Ok entry) named members pools gives =
-    fault_turn r w number i m f places before (before ++ entry.sent) entry named members pools gives
-    (ap (λ (e : Entry). before ++ e.sent) gives)
-fault_played r w number i m f places before (Err e) named members pools gives = tt

@@ -12,6 +12,7 @@ use Rattle.hail_script.specs.declared.error.RunError.{RunError}
 use Rattle.hail_script.specs.declared.event.EventLine.{EventLine}
 use Rattle.hail_script.specs.Events.{line_of}
 use Rattle.hail_script.specs.Lanes.{Laned, cut, lanes, prefix, rows}
+use Rattle.hailstorm.specs.declared.blocks.KnownBlocks.{KnownBlocks}
 use Rattle.hailstorm.specs.declared.place.Place.{Place}
 use Rattle.hailstorm.specs.Lanes.{lines_of, played}
 use Rattle.hailstorm.specs.Places.{WorkBy, rules_of}
@@ -52,12 +53,12 @@ pub taken_more : (x : Laned) (i : ℕ) (line : Line) → slice_get x.script.line
 taken_more x i line at = take_next (rows x) i (slice_index x.numbers i, line) (row_at x i line at)
 
 pub before_next : (r : Rules) (w : World) (x : Laned) (i : ℕ) (line : Line) (number : ℕ)
-    (steps : List Entry) (places : List (Place Seat)) (faulty : List Bool)
+    (steps : List Entry) (places : List (Place Seat)) (known : KnownBlocks) (faulty : List Bool)
     → slice_get x.script.lines i ≡ Some line → number ≡ slice_index x.numbers i
-    → HavePlayed r w (take i (rows x) ++ (number, line) ∷ []) steps places faulty
-    → HavePlayed r w (take (i + 1) (rows x)) steps places faulty
-before_next r w x i line number steps places faulty at is h =
-    subst (λ (l : List (ℕ × Line)). HavePlayed r w l steps places faulty)
+    → HavePlayed r w (take i (rows x) ++ (number, line) ∷ []) steps places known faulty
+    → HavePlayed r w (take (i + 1) (rows x)) steps places known faulty
+before_next r w x i line number steps places known faulty at is h =
+    subst (λ (l : List (ℕ × Line)). HavePlayed r w l steps places known faulty)
     (ap (λ (n : ℕ). take i (rows x) ++ (n, line) ∷ []) is ∙ sym (taken_more x i line at)) h
 
 lines_with : (x : Laned) (i : ℕ) (line : Line) → slice_get x.script.lines i ≡ Some line
@@ -124,16 +125,16 @@ module _ (x : Laned) (n : ℕ) (cursors : List (ℕ × ℕ))
   lanes_are = ap (λ (l : List (List (ℕ × Line))). drop 1 l) is
 
   pub opens_between : (hash : List ℕ → Digest32) (steps : List Entry) (places : List (Place Seat))
-      (faulty : List Bool)
+      (known : KnownBlocks) (faulty : List Bool)
       → HavePlayed (rules_of hash x.script) (opened hash x.script) (take n (rows x)) steps places
-      faulty
+      known faulty
       → WorkBy (rules_of hash x.script) 0 places → length places ≡ x.script.committees.total
-      → IsBetween hash x [] cursors steps places faulty
-  opens_between hash steps places faulty h sound count = record {
+      → IsBetween hash x [] cursors steps places known faulty
+  opens_between hash steps places known faulty h sound count = record {
     played =
         subst
         (λ (l : List (ℕ × Line)). HavePlayed (rules_of hash x.script) (opened hash x.script) l
-        steps places faulty)
+        steps places known faulty)
         (sym prefix_is ∙ sym (append-nil (prefix x))) h;
     rest = lanes_are;
     turns = λ k. omega arith;

@@ -1,5 +1,5 @@
 -- A node's start and steps, as the world sees them.
-use Rattle.std.proofs.Common.{◌≡◌, ◌≢◌, ℕ, Bool, true, List, Ok, Err, Result, refl, sym, ap, ◌∙◌}
+use Rattle.std.proofs.Common.{◌≡◌, ℕ, Bool, true, List, Ok, Err, Result, refl, sym, ap, ◌∙◌}
 use Rattle.std.specs.Prelude.{IfOk, IsErrOf, OnOk}
 use Rattle.cw_base.specs.declared.hash.Digest32.{Digest32}
 use Rattle.cw_types.specs.Epochs.{Epochs}
@@ -11,8 +11,8 @@ use Rattle.cw_types.specs.declared.vote.Vote.{Vote}
 use Rattle.cw_rules.specs.Rules.{Rules}
 use Rattle.cw_rules.specs.Step.{Stepped, start, step}
 use Rattle.cw_rules_coded.specs.Coded.{coded}
-use Rattle.marshal.specs.Frames.{FindsNotes, read_frames}
-use Rattle.node.specs.Disks.{HasFound, HasTried, WasRefused}
+use Rattle.marshal.specs.Frames.{FindsNotes}
+use Rattle.node.specs.Disks.{HasFound, HasTried}
 use Rattle.node.specs.State.{IsNodeOf, IsSameNode, stepped}
 use Rattle.node_disk.specs.Memory.{Continues, MemoryState, memory_state}
 use Rattle.node_disk.specs.declared.log.StoreError.{StoreError}
@@ -42,17 +42,6 @@ started hash id epochs backlog app frames disk new out is starts works found hel
       works = works;
       went_on = found.goes_on;
     }
-
--- a start on such a disk, if it isn't refused by the disk nor for an earlier failure, is refused
--- for memory
-pub for_memory : (e : StoreError) (old new : MemoryState) (frames : List (List Note))
-    → FindsNotes frames (memory_state old).now.seen → WasRefused memory_state Continues e old new
-    → (e ≡ store.Disk → ⊥) → (e ≡ store.Failed → ⊥) → e ≡ store.NoMemory
-for_memory store.Disk old new frames held refused disk failed = absurd (disk refl)
-for_memory store.Failed old new frames held refused disk failed = absurd (failed refl)
-for_memory store.NoMemory old new frames held refused disk failed = refl
-for_memory (store.Foreign place) old new frames held refused disk failed =
-    absurd (let no : Ok frames ≡ Err place = sym held ∙ refused.foreign place refl in cc)
 
 -- the same node goes by the same rules
 by_same : (hash : List ℕ → Digest32) (old new : Seat) → IsSameNode old new

@@ -10,7 +10,9 @@ use Rattle.cw_rules.specs.Rules.{Rules}
 use Rattle.cw_rules.specs.World.{Line, Sent, World, happens, line_member, opening, run}
 use Rattle.hail_script.specs.declared.error.RunError.{RunError}
 use Rattle.hail_script.specs.declared.error.RunError.TheVariants as error
+use Rattle.hailstorm.specs.declared.blocks.KnownBlocks.{KnownBlocks}
 use Rattle.hailstorm.specs.declared.place.Place.{Place}
+use Rattle.hailstorm.specs.Known.{Knows}
 use Rattle.hailstorm.specs.Lanes.{lines_of}
 use Rattle.hailstorm.specs.Places.{SitAs, IsTurn}
 use Rattle.hailstorm.specs.Pool.{sent_in}
@@ -122,14 +124,16 @@ reached_begun r w rows line b = (
 
 -- a line that brings no clash
 pub played_next : (r : Rules) (w : World) (rows : List (ℕ × Line)) (number : ℕ) (line : Line)
-    (steps : List Entry) (old new : List (Place Seat)) (faulty : List Bool) (entry : Entry)
-    → HavePlayed r w rows steps old faulty
+    (steps : List Entry) (old new : List (Place Seat)) (knew known : KnownBlocks)
+    (faulty : List Bool) (entry : Entry)
+    → HavePlayed r w rows steps old knew faulty
     → IsTurn r (run r w (lines_of rows)) number line new (sent_in steps ++ entry.sent) entry
     → clash_at r (run r w (lines_of rows)) (happens r (run r w (lines_of rows)) line)
     (line_member line)
     ≡ None
-    → HavePlayed r w (rows ++ (number, line) ∷ []) (steps ++ entry ∷ []) new faulty
-played_next r w rows number line steps old new faulty entry h turn clear =
+    → Knows r known (happens r (run r w (lines_of rows)) line)
+    → HavePlayed r w (rows ++ (number, line) ∷ []) (steps ++ entry ∷ []) new known faulty
+played_next r w rows number line steps old new knew known faulty entry h turn clear knows =
     let now : World = run r w (lines_of rows) in
     let lines = lines_more rows number line in
     let world : run r w (lines_of (rows ++ (number, line) ∷ [])) ≡ happens r now line =
@@ -146,6 +150,7 @@ played_next r w rows number line steps old new faulty entry h turn clear =
           ∙ sym (entries_more r w rows number line);
       members = subst (λ (v : World). SitAs new v.members) (sym world) turn.members;
       sent = sent_more steps entry ∙ turn.sent ∙ ap (λ (v : World). v.pool) (sym world);
+      knows = subst (λ (v : World). Knows r known v) (sym world) knows;
       flags =
           h.flags ∙ sym (flags_kept r now line)
           ∙ ap (λ (v : World). map is_none v.members) (sym world);
@@ -153,14 +158,15 @@ played_next r w rows number line steps old new faulty entry h turn clear =
 
 -- a line that brings one
 pub played_clash : (r : Rules) (w : World) (rows : List (ℕ × Line)) (line : Line)
-    (steps : List Entry) (places : List (Place Seat)) (faulty : List Bool) (both : Block × Block)
-    → HavePlayed r w rows steps places faulty
+    (steps : List Entry) (places : List (Place Seat)) (known : KnownBlocks) (faulty : List Bool)
+    (both : Block × Block)
+    → HavePlayed r w rows steps places known faulty
     → clash_at r (run r w (lines_of rows)) (happens r (run r w (lines_of rows)) line)
     (line_member line)
     ≡ Some both
     → outcome r w (lines_of rows ++ line ∷ [])
     ≡ Clashes (r.block_bytes both.0) (r.block_bytes both.1)
-played_clash r w rows line steps places faulty both h clash =
+played_clash r w rows line steps places known faulty both h clash =
     let now : World = run r w (lines_of rows) in
     let step : outcome r now (line ∷ []) ≡ Clashes (r.block_bytes both.0) (r.block_bytes both.1) =
     rw clash refl in
@@ -168,20 +174,28 @@ played_clash r w rows line steps places faulty both h clash =
 
 -- the same, whatever its number and its entries are called
 pub played_same : (r : Rules) (w : World) (rows : List (ℕ × Line)) (number number' : ℕ)
-    (line : Line) (steps steps' : List Entry) (places : List (Place Seat)) (faulty : List Bool)
+    (line : Line) (steps steps' : List Entry) (places : List (Place Seat)) (known : KnownBlocks)
+    (faulty : List Bool)
     → number ≡ number' → steps' ≡ steps
-    → HavePlayed r w (rows ++ (number, line) ∷ []) steps places faulty
-    → HavePlayed r w (rows ++ (number', line) ∷ []) steps' places faulty
-played_same r w rows number number' line steps steps' places faulty n s h =
-    subst (λ (l : List Entry). HavePlayed r w (rows ++ (number', line) ∷ []) l places faulty)
-    (sym s) (subst (λ (k : ℕ). HavePlayed r w (rows ++ (k, line) ∷ []) steps places faulty) n h)
+    → HavePlayed r w (rows ++ (number, line) ∷ []) steps places known faulty
+    → HavePlayed r w (rows ++ (number', line) ∷ []) steps' places known faulty
+played_same r w rows number number' line steps steps' places known faulty n s h =
+    subst (λ (l : List Entry). HavePlayed r w (rows ++ (number', line) ∷ []) l places known faulty)
+    (sym s) (subst (λ (k : ℕ). HavePlayed r w (rows ++ (k, line) ∷ []) steps places known faulty) n h)
 
 -- before the first line
-pub played_none : (r : Rules) (w : World) (places : List (Place Seat)) (faulty : List Bool)
-    → SitAs places w.members → w.pool ≡ [] → faulty ≡ map is_none w.members
-    → HavePlayed r w [] [] places faulty
-played_none r w places faulty members sent flags =
-    record { ends = refl; entries = refl; members = members; sent = sym sent; flags = flags }
+pub played_none : (r : Rules) (w : World) (places : List (Place Seat)) (known : KnownBlocks)
+    (faulty : List Bool)
+    → SitAs places w.members → w.pool ≡ [] → Knows r known w → faulty ≡ map is_none w.members
+    → HavePlayed r w [] [] places known faulty
+played_none r w places known faulty members sent knows flags = record {
+  ends = refl;
+  entries = refl;
+  members = members;
+  sent = sym sent;
+  knows = knows;
+  flags = flags;
+}
 
 -- lines that are stopped by a clash are so with more behind them
 pub stopped_behind : (r : Rules) (w : World) (lines more : List Line) (e : RunError)

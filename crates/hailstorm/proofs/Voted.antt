@@ -1,8 +1,8 @@
 -- What is kept of sent votes, as messages are added.
 use mathlib.Core.Bool.{true≢false}
-use Rattle.std.proofs.Common.{◌≡◌, ℕ, ◌==◌, ◌&&◌, ◌||◌, Bool, true, false, cond, List, [], ◌∷◌, ◌++◌, Option, Some, None, refl, sym, ap, subst, ◌∙◌, arith, eqb-true, append_assoc, append-nil}
+use Rattle.std.proofs.Common.{◌≡◌, ℕ, ◌==◌, ◌&&◌, ◌||◌, Bool, true, false, List, [], ◌∷◌, ◌++◌, Option, Some, None, refl, sym, ap, subst, ◌∙◌, arith, eqb-true}
 use Rattle.std.specs.Prelude.{unwrap_or}
-use Rattle.std.specs.BTreeMap.{BTreeMap, Updates, get, get_by, is_at}
+use Rattle.std.specs.BTreeMap.{BTreeMap, Updates, get}
 use Rattle.std.specs.List.{list_any}
 use Rattle.std.specs.Ordering.{is_eq, nat_cmp, ordering_then}
 use Rattle.std.specs.declared.cmp.Ordering.{Ordering}
@@ -12,10 +12,9 @@ use Rattle.std.proofs.lemmas.List.Folds.{list_any-append}
 use Rattle.std.proofs.lemmas.Bool.{and_parts, false_from_ne_true}
 use Rattle.cw_types.specs.Same.{same_vote}
 use Rattle.cw_types.proofs.Same.{same_vote-true}
-use Rattle.cw_types.specs.declared.message.Message.{Message}
 use Rattle.cw_types.specs.declared.message.Message.TheVariants as message
 use Rattle.cw_types.specs.declared.vote.Vote.{Vote}
-use Rattle.cw_rules.specs.World.{Sent, is_sent_vote, is_vote_of}
+use Rattle.cw_rules.specs.World.{Sent, is_sent_vote}
 use Rattle.hailstorm.specs.Votes.{TellVotes, round_cmp, round_of, votes_under}
 
 abbrev Round : Type 0
@@ -119,16 +118,6 @@ module _ (m n : Kept) (i : ℕ) (w : Vote) (before : List Sent) (s : Sent) where
   told_still none told j v =
       told j v ∙ sym (or_no (list_any (is_sent_vote j v) before) (is_sent_vote j v s) (none j v))
       ∙ sym (any_more (is_sent_vote j v) before s)
-
--- a vote of another signer
-pub not_own : (from i : ℕ) (w : Vote) (s : Sent) → s.from ≡ from → s.message ≡ message.Vote i w
-    → (i == from) ≡ false → (j : ℕ) (v : Vote) → is_sent_vote j v s ≡ false
-not_own from i w s at is differs j v =
-    rw (at, is) (false_from_ne_true ((from == j) && ((i == j) && same_vote v w)) (λ h.
-    let first = and_parts (from == j) ((i == j) && same_vote v w) h in
-    let second = and_parts (i == j) (same_vote v w) first.1 in
-    let same : i ≡ from = eqb-true i j second.0 ∙ sym (eqb-true from j first.0) in
-    absurd (let no : false ≡ true = sym differs ∙ rw same (eq_itself from) in cc)))
 
 -- the same signer, epoch and view
 pub round_is : (i e e' v v' : ℕ) → e ≡ e' → v ≡ v' → (let k : Round = (i, e, v) in k) ≡ (i, e', v')

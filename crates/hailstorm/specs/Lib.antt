@@ -6,6 +6,7 @@ pub mod Offers
 pub mod Honest
 pub mod Reports
 pub mod Runs
+pub mod Known
 pub mod Storm
 pub mod Reading
 pub mod Writing

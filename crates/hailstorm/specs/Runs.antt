@@ -1,10 +1,10 @@
 -- What the parts of a run leave.
-use Rattle.std.specs.Prelude.{[], ℕ, ◌+◌, ◌++◌, ◌∷◌, ◌==◌, ◌≡◌, ◌&&◌, Bool, List, None, Option, Some, drop, flat_map, if◌then◌else◌, is_none, map, nat_lt, not, option_and_then, option_map, take}
+use Rattle.std.specs.Prelude.{[], ℕ, ◌+◌, ◌++◌, ◌∷◌, ◌==◌, ◌≡◌, Bool, List, None, Option, Some, drop, flat_map, if◌then◌else◌, is_none, map, nat_lt, option_and_then, take}
 use Rattle.std.specs.List.{list_any}
-use Rattle.std.specs.Option.{option_map_or, option_or}
+use Rattle.std.specs.Option.{option_map_or}
 use Rattle.cw_types.specs.Commit.{genesis, genesis_commitment}
 use Rattle.cw_types.specs.Encoding.{block_bytes, context_bytes}
-use Rattle.cw_types.specs.Same.{same_block, same_commitment, same_digest}
+use Rattle.cw_types.specs.Same.{same_commitment}
 use Rattle.cw_types.specs.declared.event.Handed.{Handed}
 use Rattle.cw_types.specs.declared.commitment.Commitment.{Commitment}
 use Rattle.cw_rules.specs.Accepted.{first_some}
@@ -16,7 +16,7 @@ use Rattle.cw_rules.specs.Chains.{Clashes, Ends, block_under, chain_to, outcome}
 use Rattle.cw_rules.specs.Report.{Entry, entries_from, first_line}
 use Rattle.cw_rules.specs.Rules.{Rules}
 use Rattle.cw_rules.specs.Step.{Member, member_notes, start}
-use Rattle.cw_rules.specs.World.{Line, Sent, World, faults, opening, run}
+use Rattle.cw_rules.specs.World.{Line, World, faults, opening, run}
 use Rattle.hail_script.specs.declared.error.RunError.{RunError}
 use Rattle.hail_script.specs.declared.error.RunError.TheVariants as error
 use Rattle.hail_script.specs.Scenario.{Scenario}
@@ -77,47 +77,6 @@ pub record HasGrown (before after : World) (i old : ℕ) : Type 0 where
   pub high : drop (i + 1) after.members ≡ drop (i + 1) before.members
   pub own : flat_map notes_of (take 1 (drop i before.members))
       ≡ take old (flat_map notes_of (take 1 (drop i after.members)))
-
--- a block with that digest that is another
-abbrev pub other : Digest32 → Block → Note → Option Block
-other d b (Note.Block c a) = if same_digest c.block d && not (same_block a b) then Some a else None
-other d b _ = None
-
-abbrev pub other_in : List Note → Digest32 → Block → Option Block
-other_in notes d b = first_some (other d b) notes
-
--- the notes at a place of that number: of one place only so many
-abbrev pub notes_before : ℕ → ℕ → ℕ → List Note → List Note
-notes_before id index at notes = if at == id then take index notes else notes
-
--- so in each place, numbered from a number on
-abbrev pub all_before : ℕ → ℕ → ℕ → List (List Note) → List Note
-all_before id index at [] = []
-all_before id index at (notes ∷ more) =
-    notes_before id index at notes ++ all_before id index (at + 1) more
-
--- the first of genesis and of the blocks in these lists of notes before a number in one of them,
--- with that digest, that is another
-abbrev pub earlier_of : (List ℕ → Digest32) → List (List Note) → ℕ → ℕ → Digest32 → Block
-    → Option Block
-earlier_of hash lists id index d b =
-    if same_digest (hash (block_bytes (genesis hash))) d && not (same_block (genesis hash) b)
-    then Some (genesis hash) else other_in (all_before id index 0 lists) d b
-
--- the encodings of the block of a note of that number and of the one before it with which it
--- collides
-abbrev pub clash_of : (List ℕ → Digest32) → List (List Note) → ℕ → ℕ → Note
-    → Option (List ℕ × List ℕ)
-clash_of hash lists id index (Note.Block c b) =
-    option_map (λ a. (block_bytes a, block_bytes b)) (earlier_of hash lists id index c.block b)
-clash_of hash lists id index _ = None
-
--- the first clash that one of these notes brings, numbered from a number on
-abbrev pub clash_in : (List ℕ → Digest32) → List (List Note) → ℕ → ℕ → List Note
-    → Option (List ℕ × List ℕ)
-clash_in hash lists id index [] = None
-clash_in hash lists id index (note ∷ notes) =
-    option_or (clash_of hash lists id index note) (clash_in hash lists id (index + 1) notes)
 
 -- the rules hash what is hashed by that hash
 pub record GoesBy (hash : List ℕ → Digest32) (r : Rules) : Type 0 where

@@ -10,8 +10,10 @@ use Rattle.cw_rules.specs.World.{Line, World, happens, opening, run}
 use Rattle.hail_script.specs.declared.error.RunError.{RunError}
 use Rattle.hail_script.specs.declared.error.RunError.TheVariants as error
 use Rattle.hail_script.specs.Lanes.{Laned, lanes, rows}
+use Rattle.hailstorm.specs.declared.blocks.KnownBlocks.{KnownBlocks}
 use Rattle.hailstorm.specs.declared.place.Place.{Place}
 use Rattle.hailstorm.specs.declared.report.Report.{Report}
+use Rattle.hailstorm.specs.Known.{Knows}
 use Rattle.hailstorm.specs.Lanes.{but_last, lane_at, left, lines_of, played, turns_of}
 use Rattle.hailstorm.specs.Places.{SitAs, WorkBy, rules_of}
 use Rattle.hailstorm.specs.Pool.{sent_in}
@@ -26,14 +28,15 @@ abbrev pub entries_of : Rules → World → List (ℕ × Line) → List Entry
 entries_of r w [] = []
 entries_of r w (row ∷ rows) = entry_of r w row.0 row.1 ∷ entries_of r (happens r w row.1) rows
 
--- The lines were played without a clash: these are their entries, and the places are those of the
--- world that they end in.
+-- The lines were played without a clash: these are their entries, and the places and the known
+-- blocks are those of the world that they end in.
 pub record HavePlayed (r : Rules) (w : World) (rows : List (ℕ × Line)) (steps : List Entry)
-    (places : List (Place Seat)) (faulty : List Bool) : Type 0 where
+    (places : List (Place Seat)) (known : KnownBlocks) (faulty : List Bool) : Type 0 where
   pub ends : outcome r w (lines_of rows) ≡ Ends (run r w (lines_of rows))
   pub entries : steps ≡ entries_of r w rows
   pub members : SitAs places (run r w (lines_of rows)).members
   pub sent : sent_in steps ≡ (run r w (lines_of rows)).pool
+  pub knows : Knows r known (run r w (lines_of rows))
   pub flags : faulty ≡ map is_none (run r w (lines_of rows)).members
 
 -- the lines begin a script of a cluster that opens in this world
@@ -51,9 +54,9 @@ between rows (from, end) = drop from (take end rows)
 -- no clash was met so far, and of each lane these lines are left
 pub record IsBetween (hash : List ℕ → Digest32) (x : Laned) (order : List ℕ)
     (cursors : List (ℕ × ℕ)) (steps : List Entry) (places : List (Place Seat))
-    (faulty : List Bool) : Type 0 where
+    (known : KnownBlocks) (faulty : List Bool) : Type 0 where
   pub played : HavePlayed (rules_of hash x.script) (opened hash x.script) (played x order) steps
-      places faulty
+      places known faulty
   pub rest : left (lanes x) order ≡ map (between (rows x)) cursors
   pub turns : (k : ℕ)
       → turns_of k order + length (lane_at (left (lanes x) order) k) ≡ length (lane_at (lanes x) k)
@@ -87,12 +90,12 @@ pub record Turning : Type 0 where
 
 -- what is known of it
 abbrev pub IsTurning : (List ℕ → Digest32) → Laned → List ℕ → Option RunError → List Entry
-    → List (ℕ × ℕ) → List Entry → List (Place Seat) → List Bool → Type 0
-IsTurning hash x order stopped opening cursors steps places faulty =
+    → List (ℕ × ℕ) → List Entry → List (Place Seat) → KnownBlocks → List Bool → Type 0
+IsTurning hash x order stopped opening cursors steps places known faulty =
     (opening ≡ opening_entries (rules_of hash x.script) x.script.lines) × GoesOn stopped
   where
     GoesOn : Option RunError → Type 0
-    GoesOn None = IsBetween hash x order cursors steps places faulty
+    GoesOn None = IsBetween hash x order cursors steps places known faulty
     GoesOn (Some e) = IsOver hash x order e
 
 -- ---- a turn of a lane

@@ -2,6 +2,7 @@
 //! bytes.
 #![tactic(auto)]
 
+mod blocks;
 mod chain;
 mod clash;
 mod cursors;
@@ -26,6 +27,7 @@ mod text;
 mod turn;
 mod turning;
 mod votes;
+mod words;
 mod world;
 
 pub use frame::{Early, Exit, end_early, finish, run_source};
@@ -36,4 +38,5 @@ pub use program::run_program;
 pub use report::{Acked, Entry, Ran, Report, Sent};
 pub use storm::storm_script;
 pub use text::report_text;
+pub use words::words_of;
 pub use world::World;

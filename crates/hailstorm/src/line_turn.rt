@@ -12,6 +12,7 @@ ghost use Rattle.hailstorm.specs.Places.{WorkBy, rules_of};
 ghost use Rattle.hailstorm.specs.Runs.{IsStopped};
 ghost use Rattle.hailstorm.specs.Turns.{Begin, HavePlayed};
 
+use crate::blocks::KnownBlocks;
 use crate::clash::find_clash;
 use crate::place::Place;
 use crate::play::play;
@@ -25,19 +26,20 @@ use hail_script::{EventLine, RunError, Script, member_of};
 use std::alloc::Global;
 use std::thread::Threads;
 
-/// A line's turn: its entry, or the clash that it brings.
+/// A line's turn: its entry, or the clash that it brings. The blocks that it notes are known then.
 pub(crate) fn turn_line<H: Hasher<Digest = Digest32>, R: Threads + Sync, S: Strategy>(
     rt: &R,
     alloc: Global,
     script: &Script,
     faulty: &[bool],
     places: &mut [Place<Seat<H>>],
+    known: &mut KnownBlocks,
     pool: &Pool,
     number: u64,
     line: &EventLine,
     strategy: &S,
 ) -> Result<Entry, RunError>
-    requires known { admission.member_of line.now < length places.old }
+    requires there { admission.member_of line.now < length places.old }
     requires few { length places.old < 2 ^ 16 }
     requires count { length places.old ≡ script.now.committees.total }
     requires sound { WorkBy (rules_of H.digest_of script.now) 0 places.old }
@@ -45,20 +47,23 @@ pub(crate) fn turn_line<H: Hasher<Digest = Digest32>, R: Threads + Sync, S: Stra
     requires later { IsTrue (is_later (line_of line.now)) }
     ensures played { (w : RulesWorld) (rows : List (ℕ × Line))
         → Begin (rules_of H.digest_of script.now) w (lines_of rows ++ line_of line.now ∷ [])
-        → HavePlayed (rules_of H.digest_of script.now) w rows pool.now places.old faulty.now
+        → HavePlayed (rules_of H.digest_of script.now) w rows pool.now places.old known.old
+        faulty.now
         → IfOk result
         (λ entry. HavePlayed (rules_of H.digest_of script.now) w
         (rows ++ (number, line_of line.now) ∷ [])
-        (pool.now ++ entry ∷ []) places.new faulty.now) }
+        (pool.now ++ entry ∷ []) places.new known.new faulty.now) }
     ensures gives { (w : RulesWorld) (rows : List (ℕ × Line))
-        → HavePlayed (rules_of H.digest_of script.now) w rows pool.now places.old faulty.now
+        → HavePlayed (rules_of H.digest_of script.now) w rows pool.now places.old known.old
+        faulty.now
         → IfOk result
         (λ entry. entry ≡ entry_of (rules_of H.digest_of script.now)
         (run (rules_of H.digest_of script.now) w (lines_of rows)) number (line_of line.now)) }
     ensures sound { IfOk result (λ _. WorkBy (rules_of H.digest_of script.now) 0 places.new) }
     ensures err { (w : RulesWorld) (rows : List (ℕ × Line))
         → Begin (rules_of H.digest_of script.now) w (lines_of rows ++ line_of line.now ∷ [])
-        → HavePlayed (rules_of H.digest_of script.now) w rows pool.now places.old faulty.now
+        → HavePlayed (rules_of H.digest_of script.now) w rows pool.now places.old known.old
+        faulty.now
         → IfErr result
         (λ e. IsStopped (rules_of H.digest_of script.now) w
         (lines_of rows ++ line_of line.now ∷ []) e) }
@@ -69,7 +74,7 @@ pub(crate) fn turn_line<H: Hasher<Digest = Digest32>, R: Threads + Sync, S: Stra
     let entry = play(
         rt, alloc, script, faulty, places, pool, number, line, strategy,
     )?;
-    if let Some((earlier, later)) = find_clash::<H>(alloc, places, id, old)? {
+    if let Some((earlier, later)) = find_clash::<H>(alloc, known, places, id, old)? {
         return Err(RunError::HashClash(earlier, later));
     }
     Ok(entry)

@@ -9,12 +9,14 @@ ghost use Rattle.cw_rules.specs.World.{Line, World as RulesWorld, run};
 ghost use Rattle.hail_script.specs.declared.error.RunError.TheVariants as cause;
 ghost use Rattle.hail_script.specs.Lanes.{Laned, laned_of, lanes as lanes_in, prefix, rows};
 ghost use Rattle.hailstorm.specs.Lanes.{IsLanesCause, IsLanesReport, lane_at, left, lines_of};
+ghost use Rattle.hailstorm.specs.Known.{Knows};
 ghost use Rattle.hailstorm.specs.Lanes.{played};
 ghost use Rattle.hailstorm.specs.Places.{SitAs, WorkBy, rules_of};
 ghost use Rattle.hailstorm.specs.Runs.{GoesBy, IsStopped, opened};
 ghost use Rattle.hailstorm.specs.Turns.{HasAdvanced, HavePlayed, IsBetween, IsOver, IsReportOf};
 ghost use Rattle.hailstorm.specs.Turns.{IsTurnOf, told_order};
 
+use crate::blocks::KnownBlocks;
 use crate::chain::chain_of;
 use crate::cursors::{cursor_at, cursors_of, first_left, number_of};
 use crate::line_turn::turn_line;
@@ -40,6 +42,7 @@ pub(crate) struct Turning<H: Hasher<Digest = Digest32>> {
     // of each member, whether some line makes it faulty
     faulty: Vec<bool>,
     places: Vec<Place<Seat<H>>>,
+    known: KnownBlocks,
     opening: Items<Entry>,
     pool: Pool,
     // of each lane, the place of its next event and the end of its events
@@ -58,7 +61,7 @@ impl<H: Hasher<Digest = Digest32>> Model for Turning<H> {
     ghost view = { λ t. record { laned = t.script; order = t.order; stopped = t.stopped } };
 
     ghost invariant = { λ t. IsTurning H.digest_of t.script t.order t.stopped t.opening
-        t.cursors.items t.pool t.places.items t.faulty.items };
+        t.cursors.items t.pool t.places.items t.known t.faulty.items };
 }
 
 impl<H: Hasher<Digest = Digest32>> Turning<H> {
@@ -79,12 +82,14 @@ impl<H: Hasher<Digest = Digest32>> Turning<H> {
         let faulty = plain.faulty(alloc)?;
         let (opening, mut places) = open_all::<H, R, S>(rt, alloc, plain, &faulty, strategy)?;
         let (before, cursors) = cursors_of(alloc, script.sizes(), count)?;
+        let mut known = KnownBlocks::new::<H>(alloc)?;
         let pool = match play_before::<H, R, S>(
             rt,
             alloc,
             &script,
             &faulty,
             &mut places,
+            &mut known,
             before,
             strategy,
         ) {
@@ -95,6 +100,7 @@ impl<H: Hasher<Digest = Digest32>> Turning<H> {
             script,
             faulty,
             places,
+            known,
             opening,
             pool,
             cursors,
@@ -147,6 +153,7 @@ impl<H: Hasher<Digest = Digest32>> Turning<H> {
             &self.script,
             &self.faulty,
             &mut self.places,
+            &mut self.known,
             &mut self.pool,
             &mut self.cursors,
             &mut self.order,
@@ -213,6 +220,7 @@ impl<H: Hasher<Digest = Digest32>> Turning<H> {
             script: _,
             faulty: _,
             places,
+            known: _,
             opening,
             pool,
             cursors: _,
@@ -257,6 +265,7 @@ fn play_before<H: Hasher<Digest = Digest32>, R: Threads + Sync, S: Strategy>(
     script: &LaneScript,
     faulty: &[bool],
     places: &mut [Place<Seat<H>>],
+    known: &mut KnownBlocks,
     before: usize,
     strategy: &S,
 ) -> Result<Pool, RunError>
@@ -265,10 +274,12 @@ fn play_before<H: Hasher<Digest = Digest32>, R: Threads + Sync, S: Strategy>(
     requires flags { faulty.now ≡ map is_none (opened H.digest_of script.now.script).members }
     requires sound { WorkBy (rules_of H.digest_of script.now.script) 0 places.old }
     requires count { length places.old ≡ script.now.script.committees.total }
+    requires knows { Knows (rules_of H.digest_of script.now.script) known.old
+        (opened H.digest_of script.now.script) }
     ensures ok { IfOk result
         (λ pool. HavePlayed (rules_of H.digest_of script.now.script)
         (opened H.digest_of script.now.script)
-        (take before (rows script.now)) pool places.new faulty.now) }
+        (take before (rows script.now)) pool places.new known.new faulty.now) }
     ensures sound { OnOk result (WorkBy (rules_of H.digest_of script.now.script) 0 places.new) }
     ensures err { IfErr result
         (λ e. IsStopped (rules_of H.digest_of script.now.script)
@@ -286,6 +297,7 @@ fn play_before<H: Hasher<Digest = Digest32>, R: Threads + Sync, S: Strategy>(
             plain,
             faulty,
             places,
+            known,
             &pool,
             number,
             &lines[index],
@@ -306,6 +318,7 @@ fn advance<H: Hasher<Digest = Digest32>, R: Threads + Sync, S: Strategy>(
     script: &LaneScript,
     faulty: &[bool],
     places: &mut [Place<Seat<H>>],
+    known: &mut KnownBlocks,
     pool: &mut Pool,
     cursors: &mut [(usize, usize)],
     order: &mut Items<u64>,
@@ -315,14 +328,14 @@ fn advance<H: Hasher<Digest = Digest32>, R: Threads + Sync, S: Strategy>(
     strategy: &S,
 ) -> Result<(Entry, Entry), RunError>
     requires cursor { slice_get cursors.old lane ≡ Some (from, end) }
-    requires known { lane < length cursors.old }
+    requires there { lane < length cursors.old }
     requires some { from < end }
     requires within { from < length script.now.script.lines }
     requires between { IsBetween H.digest_of script.now order.old cursors.old pool.old places.old
-        faulty.now }
+        known.old faulty.now }
     ensures ok { IfOk result (λ r. HasAdvanced H.digest_of script.now order.old lane r.0
         × IsBetween H.digest_of script.now
-        (order.old ++ lane ∷ []) cursors.new pool.new places.new faulty.now) }
+        (order.old ++ lane ∷ []) cursors.new pool.new places.new known.new faulty.now) }
     ensures order { OnOk result (order.new ≡ order.old ++ lane ∷ []) }
     ensures twice { IfOk result (λ r. r.0 ≡ r.1) }
     ensures err { IfErr result (λ e. IsOver H.digest_of script.now order.new e) }
@@ -333,7 +346,7 @@ fn advance<H: Hasher<Digest = Digest32>, R: Threads + Sync, S: Strategy>(
     let number = number_of(script.numbers(), from);
     order.push(lane)?;
     let entry = match turn_line::<H, R, S>(
-        rt, alloc, plain, faulty, places, pool, number, line, strategy,
+        rt, alloc, plain, faulty, places, known, pool, number, line, strategy,
     ) {
         Ok(entry) => entry,
         Err(error) => return Err(error),

@@ -19,6 +19,7 @@ ghost use Rattle.hailstorm.specs.Seats.{Seat as SeatValue};
 ghost use Rattle.hailstorm.specs.Runs.{ArePlayed, HandsBack, IsStopped, acked_with, opened};
 ghost use Rattle.hailstorm.specs.Runs.{seat_of};
 
+use crate::blocks::KnownBlocks;
 use crate::chain::chain_of;
 use crate::clash::find_clash;
 use crate::event::is_faulty;
@@ -219,6 +220,7 @@ fn play_all<H: Hasher<Digest = Digest32>, R: Threads + Sync, S: Strategy>(
 {
     cluster_laws();
     script.is_cluster();
+    let mut known = KnownBlocks::new::<H>(alloc)?;
     let mut pool = Pool::new(alloc);
     let first = script.first_event();
     for (index, line) in script.lines().iter().enumerate() {
@@ -228,7 +230,7 @@ fn play_all<H: Hasher<Digest = Digest32>, R: Threads + Sync, S: Strategy>(
         let entry = play(
             rt, alloc, script, faulty, places, &pool, number, line, strategy,
         )?;
-        if let Some((earlier, later)) = find_clash::<H>(alloc, places, id, old)? {
+        if let Some((earlier, later)) = find_clash::<H>(alloc, &mut known, places, id, old)? {
             return Err(RunError::HashClash(earlier, later));
         }
         pool = pool.with(alloc, entry)?;

@@ -1,10 +1,17 @@
-use Rattle.std.proofs.Common.{◌≡◌, drop, map}
-use Rattle.hailstorm.specs.Places.{notes_at}
-use Rattle.hailstorm.specs.Runs.{clash_in}
+use Rattle.std.proofs.Common.{◌≡◌, ◌++◌, ◌∷◌, List, take}
+use Rattle.std.specs.List.{AllByRecursion}
+use Rattle.cw_types.specs.Block.{Block}
+use Rattle.cw_types.specs.Encoding.{block_bytes}
+use Rattle.cw_rules.specs.Reached.{IsNamed}
+use Rattle.cw_rules.specs.Rules.{Rules, genesis}
+use Rattle.hailstorm.specs.Known.{AreKnown, blocks_in}
+use Rattle.hailstorm.proofs.Colliding.{AreTaken}
 use Rattle.hailstorm.proofs.clash.clash_from.Given as goal
 
--- the notes from here on decide
+-- the notes so far were taken without a clash
 abbrev pub invariant-loop-index : goal.invariant-loop-index
-invariant-loop-index g l =
-    clash_in g.H.Hasher.digest_of (map notes_at l.places) l.id l.index (drop l.index l.own)
-    ≡ clash_in g.H.Hasher.digest_of (map notes_at l.places) l.id l.old (drop l.old l.own)
+invariant-loop-index l =
+    (r : Rules) (low high : List Block) → r.block_bytes ≡ block_bytes
+    → AllByRecursion (IsNamed r) l.own
+    → AreKnown r l.fn.known (genesis r ∷ low ++ blocks_in (take l.old l.own) ++ high)
+    → AreTaken r low high l.own l.old l.index l.known

@@ -13,8 +13,8 @@ use Rattle.hailstorm.proofs.Prefixed.{one_within}
 use Rattle.hailstorm.proofs.Turned.{played_same}
 use Rattle.hailstorm.proofs.turning.advance.Goals as goal
 
-pub turn_line-requires-clause-known : goal.turn_line-requires-clause-known
-turn_line-requires-clause-known g c κs within =
+pub turn_line-requires-clause-there : goal.turn_line-requires-clause-there
+turn_line-requires-clause-there g c κs within =
     let s = c.args.script.now.script in
     let all = c.lines.ensures.value ∙ ap (λ (s : Scenario). s.lines) c.script-plain.ensures in
     let at =
@@ -108,7 +108,7 @@ returns-clause-ok g c =
     let plays =
     played_same r w (played x order) c.number_of-number.result
     (slice_index x.numbers c.args.from) line (c.args.pool.now ++ c.in-Ok.entry ∷ [])
-    c.put_entry.new.pool c.turn_line.new.places c.args.faulty.now number
+    c.put_entry.new.pool c.turn_line.new.places c.turn_line.new.known c.args.faulty.now number
     c.in_ok-put_entry.ensures
     ((rw c.script-plain.ensures at c.in-Ok.ensures.played) w (played x order) begin b.played) in
     let given = rw c.script-plain.ensures at c.in-Ok.ensures.gives in (
@@ -122,7 +122,7 @@ returns-clause-ok g c =
             ∙ ap (λ (n : ℕ). entry_of r (run r w (lines_of (played x order))) n line) number;
       },
       turned_on hash x order cursors _ c.args.pool.now c.put_entry.new.pool c.args.places.now
-          c.turn_line.new.places c.args.faulty.now c.args.lane c.args.from c.args.end line b
+          c.turn_line.new.places c.args.known.now c.turn_line.new.known c.args.faulty.now c.args.lane c.args.from c.args.end line b
           c.requires.cursor c.requires.some at
           plays (rw c.script-plain.ensures at c.in-Ok.ensures.sound)
           (c.turn_line.auto.places ∙ b.count) refl,

@@ -7,10 +7,23 @@ use Rattle.hailstorm.specs.Places.{rules_of}
 use Rattle.hailstorm.specs.Runs.{opened}
 use Rattle.hailstorm.proofs.Known.{known_at, later_at, line_at, short_at}
 use Rattle.hailstorm.proofs.Prefixed.{before_begins, before_next, before_stops, within_lines}
+use Rattle.hailstorm.proofs.Turned.{played_none}
 use Rattle.hailstorm.proofs.turning.play_before.Goals as goal
 
-pub turn_line-requires-clause-known : goal.turn_line-requires-clause-known
-turn_line-requires-clause-known g c κs within =
+pub loop-index-init : goal.loop-index-init
+loop-index-init g c =
+    let s = c.args.script.now.script in
+    record {
+      played =
+          rw c.new-pool.ensures
+          (played_none (rules_of g.H.Hasher.digest_of s) (opened g.H.Hasher.digest_of s)
+          c.args.places.now c.args.known.now c.args.faulty.now c.requires.members refl
+          c.requires.knows c.requires.flags);
+      sound = c.requires.sound;
+    }
+
+pub turn_line-requires-clause-there : goal.turn_line-requires-clause-there
+turn_line-requires-clause-there g c κs within =
     let s = c.args.script.now.script in
     let all = c.lines-lines.ensures.value ∙ ap (λ (s : Scenario). s.lines) c.script-plain.ensures in
     let at =
@@ -98,7 +111,7 @@ loop-index-preserved g c =
       played =
           rw c.in_ok-pool.ensures
           (before_next r w x i line c.number_of-number.result
-          (c.loop-index.pool ++ c.in-Ok.entry ∷ []) c.turn_line.new.places c.args.faulty.now
-          at number plays);
+          (c.loop-index.pool ++ c.in-Ok.entry ∷ []) c.turn_line.new.places c.turn_line.new.known
+          c.args.faulty.now at number plays);
       sound = rw c.script-plain.ensures at c.in-Ok.ensures.sound;
     }

@@ -10,6 +10,6 @@ abbrev pub invariant-loop-index : goal.invariant-loop-index
 invariant-loop-index g l = record {
   played : HavePlayed (rules_of g.H.Hasher.digest_of l.script.script)
       (opened g.H.Hasher.digest_of l.script.script) (take l.index (rows l.script)) l.pool l.places
-      l.faulty;
+      l.known l.faulty;
   sound : WorkBy (rules_of g.H.Hasher.digest_of l.script.script) 0 l.places;
 }

@@ -1,12 +1,15 @@
 use Rattle.std.proofs.Common.{◌≡◌, ◌<◌, ◌+◌, ◌++◌, ℕ, [], drop, take, length, map, refl, ap, subst, sym, ◌∙◌, arith, List}
 use Rattle.std.proofs.lemmas.List.{take-append-drop}
 use Rattle.cw_rules.specs.Chains.{Clashes, clash_at}
-use Rattle.cw_rules.specs.World.{happens}
+use Rattle.cw_rules.specs.World.{World, happens}
 use Rattle.hail_script.specs.Events.{line_of}
+use Rattle.hailstorm.specs.Known.{Knows}
 use Rattle.hailstorm.specs.Places.{IsTurn, rules_of}
 use Rattle.hailstorm.specs.Pool.{sent_in}
 use Rattle.hailstorm.specs.Runs.{opened}
 use Rattle.hailstorm.proofs.Outcomes.{midway_start, midway_next, midway_clash, midway_end, reached_next}
+use Rattle.hailstorm.proofs.Between.{none_when}
+use Rattle.hailstorm.proofs.Colliding.{knows_opened}
 use Rattle.hailstorm.proofs.Growing.{grown}
 use Rattle.hailstorm.proofs.Known.{clear, found, known_at, later_at, line_at, none_left, short_at}
 use Rattle.hailstorm.proofs.world.play_all.Goals as goal
@@ -18,6 +21,11 @@ loop-index-init g c = record {
       (midway_start (rules_of g.H.Hasher.digest_of c.args.script.now)
       (opened g.H.Hasher.digest_of c.args.script.now) c.args.script.now.lines
       c.args.places.now c.args.faulty.now c.requires.members refl c.requires.flags);
+  knows =
+      knows_opened (rules_of g.H.Hasher.digest_of c.args.script.now) c.in_ok-known.known
+      c.args.script.now.lines
+      (c.in_ok-known.ensures (rules_of g.H.Hasher.digest_of c.args.script.now)
+      (record { hashes = refl; blocks = refl; contexts = refl }));
   sound = c.requires.sound;
 }
 
@@ -48,8 +56,8 @@ play-requires-clause-known g c =
     c.line-item.is) in
     omega (arith, known, c.requires.count, c.loop-index.auto.places)
 
-pub find_clash-requires-clause-known : goal.find_clash-requires-clause-known
-find_clash-requires-clause-known g c =
+pub find_clash-requires-clause-there : goal.find_clash-requires-clause-there
+find_clash-requires-clause-there g c =
     let s = c.args.script.now in
     let known =
     known_at s c.loop-index.index (line_of c.line-item.result)
@@ -80,6 +88,9 @@ loop-index-preserved g c =
     (sent_in c.loop-index.pool ++ c.in_ok-entry.entry.sent) c.in_ok-entry.entry)
     c.first_event-first.ensures.value
     (c.in_ok-entry.ensures.turn h.now h.members h.sent h.flags) in
+    let knew =
+    subst (λ (v : World). Knows r c.loop-index.known v) (sym h.reaches)
+    c.loop-index.invariant.knows in
     let grew =
     grown r h.now line c.loop-index.places c.member_of-id.result c.notes_before-old.result
     h.members lt c.member_of-id.ensures c.notes_before-old.ensures in
@@ -92,8 +103,8 @@ loop-index-preserved g c =
       reached,
     ) in
     let clash =
-    c.in_ok-earlier.ensures r h.now (happens r h.now line)
-    (record { hashes = refl; blocks = refl; contexts = refl }) turn.members grew under in
+    c.in_ok-earlier.ensures.clash r h.now (happens r h.now line) refl turn.members grew under
+    knew in
     let none =
     clear r c.in_ok-earlier.field-0
     (clash_at r h.now (happens r h.now line) c.member_of-id.result) clash
@@ -104,7 +115,14 @@ loop-index-preserved g c =
     let more =
     midway_next r w i s.lines line c.loop-index.pool c.loop-index.places c.play.new.places
     c.args.faulty.now c.in_ok-entry.entry at h turn same in
-    record { midway = rw c.in_ok-pool.ensures more; sound = c.in_ok-entry.ensures.sound }
+    let knows =
+    c.in_ok-earlier.ensures.knows r h.now (happens r h.now line) refl turn.members grew under knew
+    (none_when c.in_ok-earlier.field-0 c.in_default.not-Some) in
+    record {
+      midway = rw c.in_ok-pool.ensures more;
+      knows = subst (λ (v : World). Knows r c.find_clash.new.known v) reached knows;
+      sound = c.in_ok-entry.ensures.sound;
+    }
 
 pub returns-clause-ok : goal.returns-clause-ok
 returns-clause-ok g c =
@@ -136,6 +154,9 @@ returns-in-Some-clause-err g c =
     (sent_in c.loop-index.pool ++ c.in_ok-entry.entry.sent) c.in_ok-entry.entry)
     c.first_event-first.ensures.value
     (c.in_ok-entry.ensures.turn h.now h.members h.sent h.flags) in
+    let knew =
+    subst (λ (v : World). Knows r c.loop-index.known v) (sym h.reaches)
+    c.loop-index.invariant.knows in
     let grew =
     grown r h.now line c.loop-index.places c.member_of-id.result c.notes_before-old.result
     h.members lt c.member_of-id.ensures c.notes_before-old.ensures in
@@ -148,8 +169,8 @@ returns-in-Some-clause-err g c =
       reached,
     ) in
     let clash =
-    c.in_ok-earlier.ensures r h.now (happens r h.now line)
-    (record { hashes = refl; blocks = refl; contexts = refl }) turn.members grew under in
+    c.in_ok-earlier.ensures.clash r h.now (happens r h.now line) refl turn.members grew under
+    knew in
     let shows =
     found r (clash_at r h.now (happens r h.now line) c.member_of-id.result) c.in-Some.earlier
     c.in-Some.later (sym c.in-Some.is ∙ clash) in

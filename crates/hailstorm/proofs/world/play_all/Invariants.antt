@@ -1,4 +1,6 @@
-use Rattle.std.proofs.Common.{◌≡◌, length}
+use Rattle.std.proofs.Common.{◌≡◌, length, take}
+use Rattle.cw_rules.specs.World.{run}
+use Rattle.hailstorm.specs.Known.{Knows}
 use Rattle.hailstorm.specs.Places.{WorkBy, rules_of}
 use Rattle.hailstorm.specs.Runs.{AreMidway, opened}
 use Rattle.hailstorm.proofs.world.play_all.Given as goal
@@ -8,5 +10,8 @@ abbrev pub invariant-loop-index : goal.invariant-loop-index
 invariant-loop-index g l = record {
   midway : AreMidway (rules_of g.H.Hasher.digest_of l.script) (opened g.H.Hasher.digest_of l.script)
       l.index l.script.lines l.pool l.places l.faulty;
+  knows : Knows (rules_of g.H.Hasher.digest_of l.script) l.known
+      (run (rules_of g.H.Hasher.digest_of l.script) (opened g.H.Hasher.digest_of l.script)
+      (take l.index l.script.lines));
   sound : WorkBy (rules_of g.H.Hasher.digest_of l.script) 0 l.places;
 }

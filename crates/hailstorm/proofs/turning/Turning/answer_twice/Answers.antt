@@ -20,7 +20,7 @@ returns-in_default-cursor_at-clause-lawful g c =
     (c.lines-count.ensures.value ∙ ap (λ (s : Scenario). s.lines) c.script.ensures) in
     let nothing =
     nothing_next hash i.script i.order i.stopped i.opening i.cursors.items i.pool i.places.items
-    i.faulty.items c.self.invariant c.deref.result.now (length c.lines-count.result.now)
+    i.known i.faulty.items c.self.invariant c.deref.result.now (length c.lines-count.result.now)
     c.args.lane
     none c.deref.ensures.value many (c.cursor_at.ensures.none none_at)
     in (
@@ -39,7 +39,7 @@ invariant_of-self g c =
     let cursors : List (ℕ × ℕ) = c.advance.new.cursors in (
       c.self.invariant.0,
       same_between hash i.script _ c.advance.new.order cursors _ c.advance.new.pool places _
-          c.deref-2.result.now i.faulty.items
+          c.advance.new.known c.deref-2.result.now i.faulty.items
           (sym c.in-Ok.ensures.order)
           (sym
           (whole_front cursors (drop (length cursors) i.cursors.items) i.cursors.len

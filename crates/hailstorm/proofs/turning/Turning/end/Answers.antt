@@ -23,7 +23,7 @@ returns-in-Ok-clause-ok g c = λ text spells.
     let backlog =
     c.backlog-backlog.ensures.value ∙ ap (λ (s : Scenario). s.backlog) c.script-2.ensures in
     ends_reported hash i.script i.order i.stopped i.opening i.cursors.items i.pool i.places.items
-    i.faulty.items c.self.invariant text c.in-Ok.report
+    i.known i.faulty.items c.self.invariant text c.in-Ok.report
     (subst (λ (t : Turning). laned_of text ≡ Ok t.laned) (sym c.self.view_is) spells) c.in-None.is
     nothing c.in-Ok.ensures
     ((rw c.script.ensures at c.is_cluster.ensures) (rules_of hash i.script.script) refl)
@@ -40,7 +40,7 @@ returns-clause-err g c = λ text spells.
     rw c.order_beside.ensures
     (over_cause hash text i.script i.order c.in-Some.error laned
     (over_of hash i.script i.order i.stopped i.opening i.cursors.items i.pool i.places.items
-    i.faulty.items c.self.invariant c.in-Some.error c.in-Some.is)
+    i.known i.faulty.items c.self.invariant c.in-Some.error c.in-Some.is)
     c.clash_laws.ensures.blocks
     (tells_apart hash i.script (c.coded_tells.ensures s.committees s.backlog (λ b a. true) few)
     ((rw c.script.ensures at c.is_cluster.ensures) (rules_of hash s) refl)

@@ -19,7 +19,7 @@ returns-clause-some g c =
     (λ k. (t.stopped ≡ None) × (0 < length (lane_at (left (lanes t.laned) t.order) k))))
     c.self.view_is
     (some_next g.H.Hasher.digest_of i.script i.order i.stopped i.opening i.cursors.items i.pool
-    i.places.items i.faulty.items c.self.invariant c.deref.result.now
+    i.places.items i.known i.faulty.items c.self.invariant c.deref.result.now
     (length c.lines-count.result.now) c.first_left.result
     none c.deref.ensures.value many c.first_left.ensures.some)
 
@@ -33,6 +33,6 @@ returns-clause-none g c = λ nothing _.
     subst (λ (t : Turning). flat_map (λ lane. lane) (left (lanes t.laned) t.order) ≡ [])
     c.self.view_is
     (none_next g.H.Hasher.digest_of i.script i.order i.stopped i.opening i.cursors.items i.pool
-    i.places.items i.faulty.items c.self.invariant c.deref.result.now
+    i.places.items i.known i.faulty.items c.self.invariant c.deref.result.now
     (length c.lines-count.result.now)
     none c.deref.ensures.value many (c.first_left.ensures.none nothing))

@@ -8,6 +8,7 @@ use Rattle.hailstorm.specs.Places.{rules_of}
 use Rattle.hailstorm.specs.Runs.{IsStopped, opened}
 use Rattle.hailstorm.specs.Seats.{Seat}
 use Rattle.hailstorm.proofs.Between.{rows_many, same_between}
+use Rattle.hailstorm.proofs.Colliding.{knows_opened}
 use Rattle.hailstorm.proofs.Opening.{flags_open}
 use Rattle.hailstorm.proofs.Prefixed.{opens_between, prefix_is}
 use Rattle.hailstorm.proofs.Running.{whole_front}
@@ -18,6 +19,14 @@ play_before-requires-clause-flags g c κs within =
     let s = c.args.script.script in
     c.deref-2.ensures.value ∙ (rw c.script-plain.ensures at c.in_ok-faulty.ensures)
     ∙ flags_open (rules_of g.H.Hasher.digest_of s) s.lines s.committees.total
+
+pub play_before-requires-clause-knows : goal.play_before-requires-clause-knows
+play_before-requires-clause-knows g c κs within =
+    let hash = g.H.Hasher.digest_of in
+    let s = c.args.script.script in
+    knows_opened (rules_of hash s) c.in_ok-known.known s.lines
+    (c.in_ok-known.ensures (rules_of hash s)
+    (record { hashes = refl; blocks = refl; contexts = refl }))
 
 pub returns-in-Err-clause-err : goal.returns-in-Err-clause-err
 returns-in-Err-clause-err g c =
@@ -56,8 +65,9 @@ invariant_of-result g c =
     ∙ ap (λ (s : Scenario). s.committees.total) c.script-plain.ensures in (
       rw c.script-plain.ensures at c.in_ok-opening.ensures.opening,
       same_between hash x [] c.new.result c.in_ok-before.cursors.items c.in_ok-before.cursors.items
-          c.in-Ok.pool new _ c.deref-2.result.now c.in_ok-faulty.faulty.items
+          c.in-Ok.pool new _ c.play_before.new.known c.deref-2.result.now
+          c.in_ok-faulty.faulty.items
           (sym c.new.ensures) refl (sym back) c.deref-2.ensures.value
           (opens_between x c.in_ok-before.before c.in_ok-before.cursors.items is hash c.in-Ok.pool
-          new c.deref-2.result.now c.in-Ok.ensures.ok c.in-Ok.ensures.sound count),
+          new c.play_before.new.known c.deref-2.result.now c.in-Ok.ensures.ok c.in-Ok.ensures.sound count),
     )
