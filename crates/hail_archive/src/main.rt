@@ -4,12 +4,8 @@
 //! answer.
 #![tactic(auto)]
 
-mod filling;
-mod program;
-mod text;
-
 use cw_base::{NoGate, Sha256, StdSink, StdSource, Threads};
-use program::archive_program;
+pub use run_archive::archive_program;
 use std::process::ExitCode;
 use std::{env, io};
 

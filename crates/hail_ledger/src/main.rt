@@ -3,12 +3,8 @@
 //! threads. The exit status is that of the answer.
 #![tactic(auto)]
 
-mod giving;
-mod program;
-mod text;
-
-use crate::program::ledger_program;
 use cw_base::{NoGate, Sha256, StdSink, StdSource, Threads};
+pub use run_ledger::ledger_program;
 use std::process::ExitCode;
 use std::{env, io};
 

@@ -3,14 +3,8 @@
 //! are coded on four threads. The exit status is that of the answer.
 #![tactic(auto)]
 
-mod program;
-mod search;
-mod table;
-mod text;
-mod told;
-
-use crate::program::light_program;
 use cw_base::{NoGate, Sha256, StdSink, StdSource, Threads};
+pub use run_light::light_program;
 use std::process::ExitCode;
 use std::{env, io};
 
