@@ -26,6 +26,7 @@ mod text;
 mod turn;
 mod turning;
 mod votes;
+mod words;
 mod world;
 
 pub use frame::{Early, Exit, end_early, finish, run_source};
@@ -36,4 +37,5 @@ pub use program::run_program;
 pub use report::{Acked, Entry, Ran, Report, Sent};
 pub use storm::storm_script;
 pub use text::report_text;
+pub use words::words_of;
 pub use world::World;
