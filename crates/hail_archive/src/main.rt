@@ -4,14 +4,11 @@
 //! answer.
 #![tactic(auto)]
 
-mod filling;
-mod program;
-mod text;
-
 use cw_base::{NoGate, Sha256, StdSink, StdSource, Threads};
-use program::archive_program;
+use hailstorm::words_of;
+pub use run_archive::archive_program;
+use std::io;
 use std::process::ExitCode;
-use std::{env, io};
 
 fn main(rt: HostRuntime) -> ExitCode {
     let Ok(words) = words_of(&rt) else {
@@ -28,13 +25,4 @@ fn main(rt: HostRuntime) -> ExitCode {
         &Threads::new(4, NoGate),
     );
     ExitCode::from(exit.status())
-}
-
-// The words after the program's name.
-fn words_of(rt: &HostRuntime) -> io::Result<Vec<String>> {
-    let mut words = Vec::new(rt.alloc());
-    for word in env::args(rt)?.skip(1) {
-        words.push(word)?;
-    }
-    Ok(words)
 }

@@ -3,14 +3,11 @@
 //! threads. The exit status is that of the answer.
 #![tactic(auto)]
 
-mod giving;
-mod program;
-mod text;
-
-use crate::program::ledger_program;
 use cw_base::{NoGate, Sha256, StdSink, StdSource, Threads};
+use hailstorm::words_of;
+pub use run_ledger::ledger_program;
+use std::io;
 use std::process::ExitCode;
-use std::{env, io};
 
 fn main(rt: HostRuntime) -> ExitCode {
     let Ok(words) = words_of(&rt) else {
@@ -27,13 +24,4 @@ fn main(rt: HostRuntime) -> ExitCode {
         &Threads::new(4, NoGate),
     );
     ExitCode::from(exit.status())
-}
-
-// The words after the program's name.
-fn words_of(rt: &HostRuntime) -> io::Result<Vec<String>> {
-    let mut words = Vec::new(rt.alloc());
-    for word in env::args(rt)?.skip(1) {
-        words.push(word)?;
-    }
-    Ok(words)
 }

@@ -34,7 +34,8 @@ impl Store {
     pub(crate) fn restart(&mut self, alloc: Global) -> Result<(), Fail> {
         let other = opened(alloc, self.backlog, MemoryDisk::new(alloc, Vec::new(alloc)))?;
         let disk = mem::replace(&mut self.marshal, other).into_disk();
-        self.marshal = opened(alloc, self.backlog, crashed(disk)?)?;
+        let again = opened(alloc, self.backlog, crashed(disk)?)?;
+        drop(mem::replace(&mut self.marshal, again));
         Ok(())
     }
 

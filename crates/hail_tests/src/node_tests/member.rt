@@ -108,7 +108,9 @@ impl Member {
         call: NodeCall,
     ) -> Result<Result<StepOut, NodeError>, Fail> {
         let event = event_of(alloc, scene, call)?;
-        Ok(self.take(rt, alloc, scene, &event))
+        let answer = self.take(rt, alloc, scene, &event);
+        drop(event);
+        Ok(answer)
     }
 
     // The text of what it answers to an event.
@@ -120,7 +122,11 @@ impl Member {
         call: NodeCall,
     ) -> Result<String, Fail> {
         match self.step(rt, alloc, scene, call)? {
-            Ok(out) => text_of(alloc, scene, &out),
+            Ok(out) => {
+                let text = text_of(alloc, scene, &out);
+                drop(out);
+                text
+            }
             Err(error) => Ok(format!(in alloc; "{error:?}")?),
         }
     }

@@ -1,0 +1,167 @@
+//! The program: from the bytes that come in to the bytes that go out.
+
+ghost use Rattle.std.specs.Prelude.{◌≡◌, IfOk, List, None, Option, Some, map, string_bytes, ℕ};
+ghost use Rattle.hailstorm.specs.Reports.{shown_report};
+ghost use Rattle.hailstorm.specs.Programs.{AnswersBy, HasFault, HasRun, WasRun, IsSilent, UsageOf};
+ghost use Rattle.run_archive.specs.Program as spec;
+ghost use Rattle.run_archive.specs.Program.{IsDone, usage_line};
+
+use crate::filling::filled;
+use crate::text::archive_text;
+use cw_archive::Archive;
+use cw_base::{Digest32, Hasher, NoMemory, Sink, Source, Strategy};
+use hail_script::number_of;
+use hailstorm::{Exit, Ran, Report, end_early, finish, run_source};
+use std::alloc::Global;
+use std::thread::Threads;
+
+const USAGE: &[u8] = b"usage: hail_archive\n";
+
+/// Reads a script to its end, runs it, and puts the chunk of each shard message that was sent into
+/// an archive of as many shard bytes as the one word says, in the order in which they were sent.
+/// Writes which links above genesis the archive gives back, and how many bytes it holds. All text
+/// is made before the first byte is written. The words are those after the program's name.
+pub fn archive_program<
+    H: Hasher<Digest = Digest32>,
+    R: Threads + Sync,
+    I: Source,
+    O: Sink,
+    S: Strategy,
+>(
+    rt: &R,
+    alloc: Global,
+    words: &[String],
+    input: &mut I,
+    output: &mut O,
+    strategy: &S,
+) -> Exit<(Report<H>, Archive<H>)>
+    // With other words than one number nothing is read, and the usage is written.
+    ensures usage { spec.limit_of (map string_bytes words.now) ≡ None
+        → (input.new ≡ input.old)
+        × UsageOf usage_line (O.held output.old) (O.held output.new) result }
+
+    // With a limit each answer has its meaning for the bytes that the source had left.
+    ensures answer { (limit : ℕ) (text : List ℕ)
+        → spec.limit_of (map string_bytes words.now) ≡ Some limit → I.left input.old ≡ Some text
+        → AnswersBy H.digest_of (IsDone H.digest_of limit) text (I.left input.new)
+        (O.held output.old) (O.held output.new) result }
+
+    // Whether or not the source tells its bytes: the usage is the answer to other words alone.
+    ensures usage_only { result ≡ Exit.Usage → spec.limit_of (map string_bytes words.now) ≡ None }
+
+    // Whether or not the source tells its bytes: done is told with what some text's run gives, whose
+    // text was written.
+    ensures run { (limit : ℕ) → spec.limit_of (map string_bytes words.now) ≡ Some limit
+        → HasRun (IsDone H.digest_of limit) (O.held output.old) (O.held output.new) result }
+
+    // A fault is told only where the source or the sink has failed in this call.
+    ensures fault { HasFault (I.faults input.old) (I.faults input.new)
+        (O.faults output.old) (O.faults output.new) result }
+
+    // Where the source failed, or memory is short, nothing is written, whether or not the source
+    // tells its bytes.
+    ensures silent { IsSilent (O.held output.old) (O.held output.new) result }
+{
+    match limit_of(words) {
+        Some(limit) => run_input(rt, alloc, limit, input, output, strategy),
+        None => finish(output, USAGE, Exit::Usage),
+    }
+}
+
+// The limit, where the one word is a number.
+fn limit_of(words: &[String]) -> Option<u64>
+    ensures { result ≡ spec.limit_of (map string_bytes words.now) }
+{
+    match words {
+        [word] => number_of(word.as_bytes()),
+        _ => None,
+    }
+}
+
+// Reads a script, runs it, and writes what the archive gives back or why there is no report.
+fn run_input<H: Hasher<Digest = Digest32>, R: Threads + Sync, I: Source, O: Sink, S: Strategy>(
+    rt: &R,
+    alloc: Global,
+    limit: u64,
+    input: &mut I,
+    output: &mut O,
+    strategy: &S,
+) -> Exit<(Report<H>, Archive<H>)>
+    ensures answer { (text : List ℕ) → I.left input.old ≡ Some text
+        → AnswersBy H.digest_of (IsDone H.digest_of limit) text (I.left input.new)
+        (O.held output.old) (O.held output.new) result }
+    ensures run { HasRun (IsDone H.digest_of limit) (O.held output.old) (O.held output.new)
+        result }
+    ensures fault { HasFault (I.faults input.old) (I.faults input.new)
+        (O.faults output.old) (O.faults output.new) result }
+    ensures silent { IsSilent (O.held output.old) (O.held output.new) result }
+{
+    match run_source::<H, R, I, S>(rt, alloc, input, strategy) {
+        Ok(ran) => write_run(rt, alloc, limit, ran, output, strategy),
+        Err(early) => end_early(alloc, output, early),
+    }
+}
+
+// Fills an archive of that limit with what the run sent, and writes what it gives back.
+fn write_run<H: Hasher<Digest = Digest32>, R: Threads + Sync, O: Sink, S: Strategy>(
+    rt: &R,
+    alloc: Global,
+    limit: u64,
+    ran: Ran<H>,
+    output: &mut O,
+    strategy: &S,
+) -> Exit<(Report<H>, Archive<H>)>
+    ensures answer { (text : List ℕ) (rest : Option (List ℕ)) → WasRun H.digest_of text rest ran
+        → AnswersBy H.digest_of (IsDone H.digest_of limit) text rest
+        (O.held output.old) (O.held output.new) result }
+    ensures fault { (reads later : ℕ)
+        → HasFault reads later (O.faults output.old) (O.faults output.new) result }
+    ensures silent { IsSilent (O.held output.old) (O.held output.new) result }
+{
+    match filled::<H, R, S>(rt, alloc, limit, &ran.report, strategy) {
+        Ok(archive) => write_archive(rt, alloc, ran, archive, output, strategy),
+        Err(NoMemory) => Exit::NoMemory,
+    }
+}
+
+// Writes what the archive gives back.
+fn write_archive<H: Hasher<Digest = Digest32>, R: Threads + Sync, O: Sink, S: Strategy>(
+    rt: &R,
+    alloc: Global,
+    ran: Ran<H>,
+    archive: Archive<H>,
+    output: &mut O,
+    strategy: &S,
+) -> Exit<(Report<H>, Archive<H>)>
+    // whatever the limit for which what the run sent fills this archive
+    ensures answer { (limit : ℕ) (text : List ℕ) (rest : Option (List ℕ))
+        → archive ≡ spec.filled H.digest_of limit (shown_report ran.report)
+        → WasRun H.digest_of text rest ran
+        → AnswersBy H.digest_of (IsDone H.digest_of limit) text rest
+        (O.held output.old) (O.held output.new) result }
+    ensures fault { (reads later : ℕ)
+        → HasFault reads later (O.faults output.old) (O.faults output.new) result }
+    ensures silent { IsSilent (O.held output.old) (O.held output.new) result }
+{
+    match text_of(rt, alloc, &ran, &archive, strategy) {
+        Ok(text) => finish(output, &text, Exit::Done((ran.report, archive))),
+        Err(NoMemory) => Exit::NoMemory,
+    }
+}
+
+// The text of what the archive gives back of the run's chain.
+fn text_of<H: Hasher<Digest = Digest32>, R: Threads + Sync, S: Strategy>(
+    rt: &R,
+    alloc: Global,
+    ran: &Ran<H>,
+    archive: &Archive<H>,
+    strategy: &S,
+) -> Result<Vec<u8>, NoMemory>
+    ensures { IfOk result (λ text. text.items
+        ≡ spec.archive_text H.digest_of ran.now.script.committees archive.now
+        ran.now.report.chain) }
+{
+    let committees = ran.script.committees(alloc)?;
+    let chain = ran.report.chain.as_slice();
+    archive_text::<H, R, S>(rt, alloc, &committees, archive, chain, strategy)
+}

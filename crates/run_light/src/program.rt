@@ -1,0 +1,162 @@
+//! The program: from the bytes of a script to the line of what is shown.
+
+ghost use Rattle.std.specs.Prelude.{◌≡◌, List, ℕ, None, Option, Some, IfOk, map, string_bytes};
+ghost use Rattle.hailstorm.specs.Programs.{AnswersBy, HasFault, HasRun, WasRun, IsSilent, UsageOf};
+ghost use Rattle.hailstorm.specs.Reports.{IsRun};
+ghost use Rattle.run_input.specs.Telling.{IsToldRun, asked_height, TellsOf, usage_line};
+
+use crate::search::found_in;
+use crate::table::Table;
+use crate::text::{none_text, yes_text};
+use crate::told::told_of;
+use cw_base::{Digest32, Hasher, NoMemory, Sink, Source, Strategy};
+use hail_script::{Script, number_of};
+use hailstorm::{Exit, Ran, Report, end_early, finish, run_source};
+use std::alloc::Global;
+use std::thread::Threads;
+
+const USAGE: &[u8] = b"usage: hail_light\n";
+
+/// Reads a script to its end and runs it. Then it goes over the honest members by number, and over
+/// the finalizations on the disk of each in order, to the first that is valid by the votes which
+/// were sent and whose held payload reaches the height by held parents; checks it and the blocks
+/// down to that height as a light client would, and writes `yes`, the height and the block's
+/// digest. Where there is no such finalization it writes `none`.
+///
+/// The words are those after the program's name: one, the height in digits, below 2^64.
+pub fn light_program<
+    H: Hasher<Digest = Digest32>,
+    R: Threads + Sync,
+    I: Source,
+    O: Sink,
+    S: Strategy,
+>(
+    rt: &R,
+    alloc: Global,
+    words: &[String],
+    input: &mut I,
+    output: &mut O,
+    strategy: &S,
+) -> Exit<Report<H>>
+    // With other words nothing is read, and the usage is written.
+    ensures usage { asked_height (map string_bytes words.now) ≡ None
+        → (input.new ≡ input.old)
+        × UsageOf usage_line (O.held output.old) (O.held output.new) result }
+
+    // With a height each answer has its meaning for the bytes that the source had left.
+    ensures answer { (text : List ℕ) (height : ℕ)
+        → asked_height (map string_bytes words.now) ≡ Some height → I.left input.old ≡ Some text
+        → AnswersBy H.digest_of (IsToldRun H.digest_of height) text (I.left input.new)
+        (O.held output.old) (O.held output.new) result }
+
+    // Whether or not the source tells its bytes: the usage is the answer to other words alone.
+    ensures usage_only { result ≡ Exit.Usage → asked_height (map string_bytes words.now) ≡ None }
+
+    // Whether or not the source tells its bytes: done is told with the report of some text's run,
+    // whose line was written.
+    ensures run { (height : ℕ) → asked_height (map string_bytes words.now) ≡ Some height
+        → HasRun (IsToldRun H.digest_of height) (O.held output.old) (O.held output.new) result }
+
+    // A fault is told only where the source or the sink has failed in this call.
+    ensures fault { HasFault (I.faults input.old) (I.faults input.new)
+        (O.faults output.old) (O.faults output.new) result }
+
+    // Where the source failed, or memory is short, nothing is written, whether or not the source
+    // tells its bytes.
+    ensures silent { IsSilent (O.held output.old) (O.held output.new) result }
+{
+    match height_of(words) {
+        None => finish(output, USAGE, Exit::Usage),
+        Some(height) => run_input(rt, alloc, height, input, output, strategy),
+    }
+}
+
+// The height that the words ask for.
+fn height_of(words: &[String]) -> Option<u64>
+    ensures { result ≡ asked_height (map string_bytes words.now) }
+{
+    match words {
+        [word] => number_of(word.as_bytes()),
+        _ => None,
+    }
+}
+
+// Reads a script, runs it, and writes what is shown of a height or why there is no report.
+fn run_input<H: Hasher<Digest = Digest32>, R: Threads + Sync, I: Source, O: Sink, S: Strategy>(
+    rt: &R,
+    alloc: Global,
+    height: u64,
+    input: &mut I,
+    output: &mut O,
+    strategy: &S,
+) -> Exit<Report<H>>
+    ensures answer { (text : List ℕ) → I.left input.old ≡ Some text
+        → AnswersBy H.digest_of (IsToldRun H.digest_of height) text (I.left input.new)
+        (O.held output.old) (O.held output.new) result }
+    ensures run { HasRun (IsToldRun H.digest_of height) (O.held output.old) (O.held output.new)
+        result }
+    ensures fault { HasFault (I.faults input.old) (I.faults input.new)
+        (O.faults output.old) (O.faults output.new) result }
+    ensures silent { IsSilent (O.held output.old) (O.held output.new) result }
+{
+    match run_source::<H, R, I, S>(rt, alloc, input, strategy) {
+        Ok(ran) => write_light(rt, alloc, height, ran, output, strategy),
+        Err(early) => end_early(alloc, output, early),
+    }
+}
+
+// Writes what a run shows of a height.
+fn write_light<H: Hasher<Digest = Digest32>, R: Threads + Sync, O: Sink, S: Strategy>(
+    rt: &R,
+    alloc: Global,
+    height: u64,
+    ran: Ran<H>,
+    output: &mut O,
+    strategy: &S,
+) -> Exit<Report<H>>
+    requires { IsRun H.digest_of ran.script ran.report }
+    ensures answer { (text : List ℕ) (rest : Option (List ℕ)) → WasRun H.digest_of text rest ran
+        → AnswersBy H.digest_of (IsToldRun H.digest_of height) text rest
+        (O.held output.old) (O.held output.new) result }
+    ensures fault { (reads later : ℕ)
+        → HasFault reads later (O.faults output.old) (O.faults output.new) result }
+    ensures silent { IsSilent (O.held output.old) (O.held output.new) result }
+{
+    match light_text::<H, R, S>(rt, alloc, height, &ran.script, &ran.report, strategy) {
+        Ok(text) => finish(output, &text, Exit::Done(ran.report)),
+        Err(NoMemory) => Exit::NoMemory,
+    }
+}
+
+// The line of what is shown of a height.
+fn light_text<H: Hasher<Digest = Digest32>, R: Threads + Sync, S: Strategy>(
+    rt: &R,
+    alloc: Global,
+    height: u64,
+    script: &Script,
+    report: &Report<H>,
+    strategy: &S,
+) -> Result<Vec<u8>, NoMemory>
+    requires { IsRun H.digest_of script.now report.now }
+    ensures { (run : IsRun H.digest_of script.now report.now)
+        → IfOk result (λ text. TellsOf H.digest_of height script.now report.now run text.items) }
+{
+    // of each epoch at most f members are faulty
+    script.is_cluster();
+    let committees = script.committees(alloc)?;
+    let faulty = script.faulty(alloc)?;
+    let steps = report.steps.as_slice();
+    let disks = report.disks.as_slice();
+    let table = Table {
+        faulty: &faulty,
+        steps,
+    };
+    let found = found_in::<H, Table>(alloc, &committees, &table, height, disks)?;
+    match found {
+        None => none_text(alloc),
+        Some(shown) => {
+            let told = told_of::<H, R, Table, S>(rt, alloc, &committees, &table, &shown, strategy)?;
+            yes_text(alloc, told.0, &told.1)
+        }
+    }
+}
