@@ -83,7 +83,7 @@ module _ (r : Rules) (script : List Line) (w : World) (c : IsCluster r script)
           (cond-false (same_commitment d (genesis_commitment r)) (Some (genesis r))
           found f)
           ∙ h) in
-          let e : commit r b ≡ d = noted_commit r w c.enough keep k.clear d b noted in
+          let e : commit r b ≡ d = noted_commit r w keep k.clear d b noted in
           cond-false (same_commitment d (genesis_commitment r)) (same_block b (genesis r))
           (same_commitment (commit r b) d) f
           ∙ (ap (λ x. same_commitment x d) e ∙ same_commitment_self d)
@@ -94,7 +94,7 @@ module _ (r : Rules) (script : List Line) (w : World) (c : IsCluster r script)
 
     under : (d : Commitment) (b : Block) → held r notes d ≡ Some b → block_under r w d ≡ Some b
     under d b h =
-        under_held r w c.enough keep k.clear i m notes [] at (sym (append-nil notes)) d b h
+        under_held r w keep k.clear i m notes [] at (sym (append-nil notes)) d b h
 
     -- a path that isn't broken, down to the height, of known blocks
     record Whole (b : Block) (path : List Block) : Type 0 where
