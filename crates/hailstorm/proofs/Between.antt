@@ -44,13 +44,15 @@ module _ (hash : List ℕ → Digest32) (x : Laned) (order : List ℕ) (stopped 
   -- no clash was met yet
   pub between_of : stopped ≡ None → IsBetween hash x order cursors steps places known faulty
   between_of none =
-      (subst (λ (o : Option RunError). IsTurning hash x order o opens cursors steps places known faulty)
+      (subst
+      (λ (o : Option RunError). IsTurning hash x order o opens cursors steps places known faulty)
       none h).1
 
   -- why no further line is played
   pub over_of : (e : RunError) → stopped ≡ Some e → IsOver hash x order e
   over_of e is =
-      (subst (λ (o : Option RunError). IsTurning hash x order o opens cursors steps places known faulty)
+      (subst
+      (λ (o : Option RunError). IsTurning hash x order o opens cursors steps places known faulty)
       is h).1
 
   -- a lane without a cursor before its end has no line left

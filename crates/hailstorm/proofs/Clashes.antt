@@ -170,7 +170,8 @@ module _ (r : Rules) (before after : World) (id old : ℕ) (known : KnownBlocks)
     named = (all_split (IsNamed r) mine high (all_split (IsNamed r) low (mine ++ high) whole).1).0;
     knows = subst (λ (l : List Block). AreKnown r known (genesis r ∷ l)) blocks_before knows;
     clash = sym clashes;
-    later = λ new h. subst (λ (l : List Block). AreKnown r new (genesis r ∷ l)) (sym blocks_after) h;
+    later =
+        λ new h. subst (λ (l : List Block). AreKnown r new (genesis r ∷ l)) (sym blocks_after) h;
   }
 
   pub is_own : (ps : List (Place Seat)) (d : Place Seat) (own : List Note)

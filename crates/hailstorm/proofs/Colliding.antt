@@ -136,8 +136,10 @@ module _ (r : Rules) (known : KnownBlocks) (blocks : List Block)
           added : (o : Option Block) → other b o ≡ None
               → option_or o (if is_eq (digest_cmp d d) then Some b else None) ≡ Some b
           added None e =
-              ap (λ (s : Bool). let o : Option Block = if s then Some b else None in o) (digest_self d)
-          added (Some a) e = ap (λ (y : Block). let o : Option Block = Some y in o) (one_block a b e)
+              ap (λ (s : Bool). let o : Option Block = if s then Some b else None in o)
+              (digest_self d)
+          added (Some a) e =
+              ap (λ (y : Block). let o : Option Block = Some y in o) (one_block a b e)
 
           go : In x blocks ⊎ In x (b ∷ []) → get digest_cmp new.by_digest (digest r x) ≡ Some x
           go (inl m) =
@@ -280,7 +282,9 @@ known_first r old new b d named none puts = record { each = each; only = only }
             absurd
             (let no : None ≡ Some x =
             sym
-            (ap (λ (l : List (Digest32 × Block)). lookup (λ (k : Digest32). is_eq (digest_cmp q k)) l) none)
+            (ap
+            (λ (l : List (Digest32 × Block)). lookup (λ (k : Digest32). is_eq (digest_cmp q k)) l)
+            none)
             ∙ is in
             cc)
 
@@ -461,7 +465,8 @@ pub none_taken : (r : Rules) (low high : List Block) (own : List Note) (old : �
 none_taken r low high own old known h = record { knows = h; decides = refl }
 
 module _ (r : Rules) (low high : List Block) (own : List Note) (old index : ℕ) (d : Note)
-    (knew known : KnownBlocks) (clash : Option (List ℕ × List ℕ)) (h : AreTaken r low high own old index knew)
+    (knew known : KnownBlocks) (clash : Option (List ℕ × List ℕ))
+    (h : AreTaken r low high own old index knew)
     (lt : index < length own)
     (takes : Takes r (genesis r ∷ low ++ blocks_in (take index own) ++ high) (get_or own index d)
     known clash) where

@@ -585,7 +585,8 @@ lanes_refused hash text (error.OversizeBlock line) (inr h) = (refl, h)
 pub turned_on : (hash : List ℕ → Digest32) (x : Laned) (order : List ℕ)
     (cursors after : List (ℕ × ℕ)) (steps more : List Entry) (places new : List (Place Seat))
     (knew known : KnownBlocks) (faulty : List Bool) (k from end : ℕ) (line : Line)
-    → IsBetween hash x order cursors steps places knew faulty → slice_get cursors k ≡ Some (from, end)
+    → IsBetween hash x order cursors steps places knew faulty
+    → slice_get cursors k ≡ Some (from, end)
     → from < end → slice_get x.script.lines from ≡ Some line
     → HavePlayed (rules_of hash x.script) (opened hash x.script)
     (played x order ++ (slice_index x.numbers from, line) ∷ []) more new known faulty

@@ -181,7 +181,8 @@ pub played_same : (r : Rules) (w : World) (rows : List (ℕ × Line)) (number nu
     → HavePlayed r w (rows ++ (number', line) ∷ []) steps' places known faulty
 played_same r w rows number number' line steps steps' places known faulty n s h =
     subst (λ (l : List Entry). HavePlayed r w (rows ++ (number', line) ∷ []) l places known faulty)
-    (sym s) (subst (λ (k : ℕ). HavePlayed r w (rows ++ (k, line) ∷ []) steps places known faulty) n h)
+    (sym s)
+    (subst (λ (k : ℕ). HavePlayed r w (rows ++ (k, line) ∷ []) steps places known faulty) n h)
 
 -- before the first line
 pub played_none : (r : Rules) (w : World) (places : List (Place Seat)) (known : KnownBlocks)

@@ -69,7 +69,8 @@ impl KnownBlocks {
         digest: &Digest32,
         block: &ChainBlock,
     ) -> Result<Option<(Items<u8>, Items<u8>)>, NoMemory>
-        ensures { IfOk result (λ clash. clash ≡ option_map (λ a. (block_bytes a, block_bytes block.now))
+        ensures { IfOk result
+            (λ clash. clash ≡ option_map (λ a. (block_bytes a, block_bytes block.now))
             (other block.now (get digest_cmp self.now.by_digest digest.now))) }
     {
         match self.by_digest.get(digest) {

@@ -122,8 +122,8 @@ returns-clause-ok g c =
             ∙ ap (λ (n : ℕ). entry_of r (run r w (lines_of (played x order))) n line) number;
       },
       turned_on hash x order cursors _ c.args.pool.now c.put_entry.new.pool c.args.places.now
-          c.turn_line.new.places c.args.known.now c.turn_line.new.known c.args.faulty.now c.args.lane c.args.from c.args.end line b
-          c.requires.cursor c.requires.some at
+          c.turn_line.new.places c.args.known.now c.turn_line.new.known c.args.faulty.now
+          c.args.lane c.args.from c.args.end line b c.requires.cursor c.requires.some at
           plays (rw c.script-plain.ensures at c.in-Ok.ensures.sound)
           (c.turn_line.auto.places ∙ b.count) refl,
     )

@@ -69,5 +69,6 @@ invariant_of-result g c =
           c.in_ok-faulty.faulty.items
           (sym c.new.ensures) refl (sym back) c.deref-2.ensures.value
           (opens_between x c.in_ok-before.before c.in_ok-before.cursors.items is hash c.in-Ok.pool
-          new c.play_before.new.known c.deref-2.result.now c.in-Ok.ensures.ok c.in-Ok.ensures.sound count),
+          new c.play_before.new.known c.deref-2.result.now c.in-Ok.ensures.ok
+          c.in-Ok.ensures.sound count),
     )
