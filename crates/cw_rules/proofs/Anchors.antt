@@ -137,7 +137,7 @@ module _ (r : Rules) (script : List Line) (w : World) (c : IsCluster r script)
 
       new : Note.Epoch epoch d ≡ note → IsAnchored x (at_notes w i ns) epoch d
       new e =
-          anchored_new r (with_done w i done) c.enough c.spans
+          anchored_new r (with_done w i done) c.spans
           (kept_keep r script (with_done w i done) k') clear (at_notes w i ns) l keep
           (fronts ns (note ∷ rest) joined) a i ns (own_at ns) (sym (append-nil ns)) epoch d
           (subst (KeepsBy r (means_at r w i) ns) (sym e) kn)

@@ -10,7 +10,7 @@ use Rattle.cw_types.specs.declared.vote.Proposal.{Proposal}
 use Rattle.cw_types.specs.declared.vote.Vote.{Vote}
 use Rattle.cw_types.specs.declared.vote.Vote.TheVariants.{Finalize, Notarize, Nullify}
 use Rattle.cw_types.specs.Block.{Block}
-use Rattle.cw_types.specs.Epochs.{Epochs, is_last, is_within, size}
+use Rattle.cw_types.specs.Epochs.{Epochs, is_last, is_within}
 use Rattle.cw_types.specs.Same.{same_commitment, same_proposal, same_vote}
 use Rattle.cw_types.specs.Votes.{finalized}
 use Rattle.cw_rules.specs.Accepted.{first_some}
@@ -76,7 +76,7 @@ pub record IsFrontOf (w : World) (i : ℕ) (notes : List Note) : Type 0 where
 
 -- members M as they were at some time in the run of a world w without a clash: their notes are
 -- fronts of those in w
-module _ (r : Rules) (w : World) (four : (epoch : ℕ) → 4 ≤ size r.epochs epoch)
+module _ (r : Rules) (w : World)
     (spans : IsSpanned r.epochs) (keepw : AllKeep r (members_of w)) (clear : NoClash r w)
     (M : Members) (l : AreLawful r.epochs (block_fits r) M) (keep : AllKeep r M)
     (fronts : (i : ℕ) (notes : List Note) → slice_get M i ≡ Some (Some notes)
@@ -90,7 +90,7 @@ module _ (r : Rules) (w : World) (four : (epoch : ℕ) → 4 ≤ size r.epochs e
       → block_under r w c ≡ Some b
   held_under i notes before rest at joined c b h =
       let f = fronts i notes at in
-      under_held r w four keepw clear i f.member before (rest ++ f.rest) f.at
+      under_held r w keepw clear i f.member before (rest ++ f.rest) f.at
       (f.joined ∙ (ap (λ ns. ns ++ f.rest) joined ∙ append_assoc before rest f.rest)) c b h
 
   pub genesis_under : block_under r w (genesis_commitment r) ≡ Some (genesis r)
@@ -429,7 +429,7 @@ module _ (r : Rules) (w : World) (four : (epoch : ℕ) → 4 ≤ size r.epochs e
           positive = pos;
           certified =
               world_certified w.members c.place g.member p (commit r f.block)
-              (sym (under_commit r w four keepw clear p.payload f.block u pos)) g.at
+              (sym (under_commit r w keepw clear p.payload f.block u pos)) g.at
               (subst (λ ns. has_certified ns p ≡ true) (sym g.joined)
               (any_front (is_certified p) c.notes g.rest c.certified));
           from = parent_by p f.over c.place c.notes before rest c.at joined f.settles;
@@ -620,9 +620,9 @@ module _ (r : Rules) (w : World) (four : (epoch : ℕ) → 4 ≤ size r.epochs e
             let h' : y.height ≡ (p.epoch + 1) * span = h ∙ ap (λ n. n * span) e in
             let z : k ≡ 0 = omega (arith, low t, down_height r w k b y d) in
             let same : b ≡ y = subst (λ n. DownTo r w n b y) z d in
-            let cy : commit r y ≡ c = under_commit r w four keepw clear c y v high in
+            let cy : commit r y ≡ c = under_commit r w keepw clear c y v high in
             let cb : commit r b ≡ p.payload =
-            under_commit r w four keepw clear p.payload b u
+            under_commit r w keepw clear p.payload b u
             (subst (λ (z : Block). 0 < z.height) (sym same) high) in
             record {
               proposal = p;

@@ -1,12 +1,10 @@
 -- In a world without a clash a commitment has one block, and blocks lead down to genesis.
-use Rattle.std.proofs.Common.{◌≡◌, ℕ, zero, suc, ◌+◌, ◌<◌, ◌≤◌, Bool, true, false, ◌&&◌, ◌==◌, nat_lt, cond, List, [], ◌∷◌, ◌++◌, Option, Some, None, IsTrue, slice_get, refl, sym, ◌∙◌, ap, subst, inl, inr, ◌⊎◌, arith, ne_eqb, length-append, option_and_then, option_map, length, map, flat_map}
+use Rattle.std.proofs.Common.{◌≡◌, ℕ, zero, suc, ◌+◌, ◌<◌, Bool, true, false, ◌&&◌, ◌==◌, nat_lt, cond, List, [], ◌∷◌, ◌++◌, Option, Some, None, IsTrue, slice_get, refl, sym, ◌∙◌, ap, subst, inl, inr, ◌⊎◌, arith, ne_eqb, length-append, option_and_then, option_map, length, map, flat_map}
 use Rattle.std.specs.Option.{option_or, option_map_or}
 use Rattle.std.proofs.lemmas.Bool.{cases_Bool, cond-true, cond-false}
 use Rattle.cw_types.specs.declared.commitment.Commitment.{Commitment}
 use Rattle.cw_types.specs.declared.note.Note.{Note}
 use Rattle.cw_types.specs.Block.{Block}
-use Rattle.cw_types.specs.Epochs.{size}
-use Rattle.cw_types.specs.Numbers.{least_chunks}
 use Rattle.cw_types.specs.Same.{same_commitment}
 use Rattle.cw_rules.specs.Accepted.{first_some}
 use Rattle.cw_rules.specs.Chains.{Follow, IsChain, all_notes, block_under, is_certified_in, link_commitment, links_to}
@@ -118,8 +116,7 @@ in_first c b (n ∷ notes) (inr h) = go (noted_block_of c n) refl (in_first c b 
 abbrev pub NoClash : Rules → World → Type 0
 NoClash r w = (a b : Block) → IsKnown r w a → IsKnown r w b → digest r a ≡ digest r b → a ≡ b
 
-module _ (r : Rules) (w : World) (four : (epoch : ℕ) → 4 ≤ size r.epochs epoch)
-    (keep : AllKeep r (members_of w)) (clear : NoClash r w) where
+module _ (r : Rules) (w : World) (keep : AllKeep r (members_of w)) (clear : NoClash r w) where
   get_member : (ms : List (Option Member)) (i : ℕ) (m : Member) → slice_get ms i ≡ Some (Some m)
       → slice_get (map (option_map member_notes) ms) i ≡ Some (Some (member_notes m))
   get_member [] i m h = cc
@@ -136,35 +133,34 @@ module _ (r : Rules) (w : World) (four : (epoch : ℕ) → 4 ≤ size r.epochs e
       (keep n.place (member_notes n.member) (get_member w.members n.place n.member n.at))
       n.noted).1
 
-  -- no block is committed to as genesis
-  not_genesis : (c : Commitment) (b : Block) → commit r b ≡ c
-      → same_commitment c (genesis_commitment r) ≡ false
-  not_genesis c b e = go (cases_Bool (same_commitment c (genesis_commitment r)))
-    where
-      go : (same_commitment c (genesis_commitment r) ≡ true)
-          ⊎ (same_commitment c (genesis_commitment r) ≡ false)
-          → same_commitment c (genesis_commitment r) ≡ false
-      go (inl t) =
-          let f : commit r b ≡ genesis_commitment r =
-          e ∙ same_commitment-true c (genesis_commitment r) t in
-          let g : least_chunks (size r.epochs b.context.epoch) ≡ 1 =
-          ap (λ (x : Commitment). x.config.minimum) f in
-          absurd (omega (arith, four b.context.epoch))
-      go (inr n) = n
-
-  -- a noted block is the one under its commitment
+  -- a noted block is the one under its commitment: under genesis's it is genesis
   pub under_noted : (c : Commitment) (b : Block) → In (Note.Block c b) (all_notes w)
       → block_under r w c ≡ Some b
-  under_noted c b h =
-      let e = noted_commit c b h in
-      let (x, f) = in_first c b (all_notes w) h in
-      let g = first_in c (all_notes w) x f in
-      let same : x ≡ b =
-      clear x b (inr (c, g)) (inr (c, h))
-      (ap (λ (y : Commitment). y.block) (noted_commit c x g ∙ sym e)) in
-      cond-false (same_commitment c (genesis_commitment r)) (Some (genesis r))
-      (first_some (noted_block_of c) (all_notes w)) (not_genesis c b e)
-      ∙ (f ∙ ap Some same)
+  under_noted c b h = go (cases_Bool (same_commitment c (genesis_commitment r)))
+    where
+      named : digest r b ≡ c.block
+      named = ap (λ (y : Commitment). y.block) (noted_commit c b h)
+
+      go : (same_commitment c (genesis_commitment r) ≡ true)
+          ⊎ (same_commitment c (genesis_commitment r) ≡ false)
+          → block_under r w c ≡ Some b
+      go (inl t) =
+          let e = same_commitment-true c (genesis_commitment r) t in
+          let same : genesis r ≡ b =
+          clear (genesis r) b (inl refl) (inr (c, h))
+          (sym (named ∙ ap (λ (y : Commitment). y.block) e)) in
+          cond-true (same_commitment c (genesis_commitment r)) (Some (genesis r))
+          (first_some (noted_block_of c) (all_notes w)) t
+          ∙ ap Some same
+      go (inr n) =
+          let (x, f) = in_first c b (all_notes w) h in
+          let g = first_in c (all_notes w) x f in
+          let same : x ≡ b =
+          clear x b (inr (c, g)) (inr (c, h))
+          (ap (λ (y : Commitment). y.block) (noted_commit c x g) ∙ sym named) in
+          cond-false (same_commitment c (genesis_commitment r)) (Some (genesis r))
+          (first_some (noted_block_of c) (all_notes w)) n
+          ∙ (f ∙ ap Some same)
 
   -- what a member held at some time is the one
   pub under_held : (i : ℕ) (m : Member) (before rest : List Note)

@@ -11,13 +11,15 @@ use Rattle.cw_types.specs.declared.message.Message.{Message}
 use Rattle.cw_types.specs.declared.vote.Proposal.{Proposal}
 use Rattle.cw_types.specs.declared.vote.Vote.{Vote}
 use Rattle.cw_types.specs.Block.{Block}
-use Rattle.cw_types.specs.Epochs.{is_member}
+use Rattle.cw_types.specs.Epochs.{is_member, size}
 use Rattle.cw_types.specs.Same.{same_commitment}
 use Rattle.cw_types.specs.Votes.{finalized, vote_epoch, well_formed}
 use Rattle.cw_rules.specs.Accepted.{Ballot, Came, Part, Row, Whole, accepted, add_wish, first_some, is_chunk_of, is_valid, same_ballot, same_part, take_ballot, take_part, wish_for}
-use Rattle.cw_rules.specs.Coding.{AreApart, AreByteChunks, AreRowsOf, IsCoder, IsCodeword, IsText, first_chunks}
-use Rattle.cw_rules.specs.Held.{if_committed, row_of, shown, whole_of}
-use Rattle.cw_rules.specs.Rules.{Chunk, Rules, block_of, chunk_at, chunks, commit, config, is_under, rows_of}
+use Rattle.cw_rules.specs.Coding.{AreApart, AreByteChunks, AreRowsOf, IsCoder, IsCodeword, IsText}
+use Rattle.cw_rules.specs.Held.{first_chunks, if_committed, row_of, shown, shown_by, shown_by_rows, whole_of}
+use Rattle.cw_rules.specs.Rules.{Chunk, Rules, block_of, chunk_at, chunks, commit, config, config_among, is_under, root_by, rows_of}
+use Rattle.cw_rules.specs.declared.travel.Travel.{Travel}
+use Rattle.cw_rules.specs.declared.travel.Travel.TheVariants.{Chunked, Uncut}
 use Rattle.cw_coding.specs.Totals.{total_of}
 use Rattle.cw_rules.specs.Step.{taken_came}
 use Rattle.cw_types.proofs.Same.{same_commitment-true, same_commitment_self}
@@ -168,7 +170,18 @@ taken_apart r signed came _ a = a
 
 -- ---- what is shown
 
-module _ (r : Rules) (coder : IsCoder r) where
+-- a block is cut in at least one row
+some_rows : (t : Travel) (n : ℕ) → 0 < (config_among t n).minimum
+some_rows Chunked n = omega arith
+some_rows Uncut n = omega arith
+
+module _ (r : Rules) (cut : r.travel ≡ Chunked) (coder : IsCoder r) where
+  -- where no whole block came, what the chunks show is shown
+  by_cut : (came : Came) (c : Commitment) → first_some (whole_of r c) came.parts ≡ None
+      → shown r came c ≡ shown_by_rows r came c
+  by_cut came c none =
+      ap (λ t. shown_by t r came c) cut ∙ ap (λ o. option_or o (shown_by_rows r came c)) none
+
   -- what chunks show is a block of whose codeword they are
   shown_codeword : (came : Came) (c : Commitment) (b : Block)
       → first_some (whole_of r c) came.parts ≡ None → shown r came c ≡ Some b
@@ -176,13 +189,7 @@ module _ (r : Rules) (coder : IsCoder r) where
   shown_codeword came c b none h =
       let e : option_and_then (if_committed r c) (block_of r c.config (first_chunks came c))
       ≡ Some b =
-      sym
-      (ap
-      (λ o. option_or o
-      (option_and_then (if_committed r c)
-      (block_of r c.config (first_chunks came c))))
-      none)
-      ∙ h in
+      sym (by_cut came c none) ∙ h in
       let (x, f, g) =
       and_then_some (if_committed r c) (block_of r c.config (first_chunks came c)) b e in
       let (text, t, read) =
@@ -228,10 +235,7 @@ module _ (r : Rules) (coder : IsCoder r) where
       let same : same_commitment (commit r b) c ≡ true =
       subst (λ d. same_commitment (commit r b) d ≡ true) k.committed
       (same_commitment_self (commit r b)) in
-      ap
-      (λ o. option_or o
-      (option_and_then (if_committed r c) (block_of r c.config (first_chunks came c))))
-      none
+      by_cut came c none
       ∙ (ap (option_and_then (if_committed r c)) block
       ∙ cond-true (same_commitment (commit r b) c) (Some b) None same)
 
@@ -266,10 +270,13 @@ module _ (r : Rules) (coder : IsCoder r) where
   pub cut_under : (b : Block)
       → AllByRecursion (λ x. IsTrue (is_under r (commit r b) x)) (chunks r b)
   cut_under b =
-      go 0 (rows_of r b) (coder.widths (config r b.context.epoch) (r.block_bytes b) (omega arith))
+      go 0 (rows_of r b) (coder.widths (config r b.context.epoch) (r.block_bytes b) least)
       (λ i row h. subst (λ j. slice_get (rows_of r b) j ≡ Some row) (zero_plus i) h)
-      (omega (arith, coder.count (config r b.context.epoch) (r.block_bytes b) (omega arith)))
+      (omega (arith, coder.count (config r b.context.epoch) (r.block_bytes b) least))
     where
+      least : 0 < (config r b.context.epoch).minimum
+      least = some_rows r.travel (size r.epochs b.context.epoch)
+
       all : List (List ℕ)
       all = rows_of r b
 
@@ -286,9 +293,10 @@ module _ (r : Rules) (coder : IsCoder r) where
       go low [] w at le = tt
       go low (row ∷ rest) w at le = (
         under_from b (chunk_at r all low row) (omega arith) w.0.0 w.0.1
-            (coder.count (config r b.context.epoch) (r.block_bytes b) (omega arith))
+            (coder.count (config r b.context.epoch) (r.block_bytes b) least)
+            (subst (λ t. r.leads_to (root_by t r b) (chunk_at r all low row) ≡ true) (sym cut)
             (coder.leads all low row
-            (subst (λ i. slice_get all i ≡ Some row) (plus_zero low) (at 0 row refl))),
+            (subst (λ i. slice_get all i ≡ Some row) (plus_zero low) (at 0 row refl)))),
         go (low + 1) rest w.1
             (λ i x h. subst (λ j. slice_get all j ≡ Some x) (shift low i) (at (suc i) x h))
             (omega arith),

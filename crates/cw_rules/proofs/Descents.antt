@@ -8,8 +8,7 @@ use Rattle.cw_types.specs.declared.note.Note.{Note}
 use Rattle.cw_types.specs.declared.vote.Proposal.{Proposal}
 use Rattle.cw_types.specs.declared.vote.Vote.TheVariants.{Finalize, Notarize}
 use Rattle.cw_types.specs.Block.{Block}
-use Rattle.cw_types.specs.Epochs.{Epochs, is_within, size}
-use Rattle.cw_types.specs.Same.{same_commitment}
+use Rattle.cw_types.specs.Epochs.{Epochs, is_within}
 use Rattle.cw_rules.specs.Accepted.{first_some}
 use Rattle.cw_rules.specs.Chains.{block_under, chain_to, link_commitment, links_to}
 use Rattle.cw_rules.specs.Fits.{block_fits}
@@ -28,7 +27,7 @@ use Rattle.cw_rules.proofs.Bases.{IsFrontOf, At_genesis, At_entry, At_proposal, 
 
 -- members M as they were at some time in the run of a world w without a clash: their notes are
 -- fronts of those in w
-module _ (r : Rules) (w : World) (four : (epoch : ℕ) → 4 ≤ size r.epochs epoch)
+module _ (r : Rules) (w : World)
     (spans : IsSpanned r.epochs) (keepw : AllKeep r (members_of w)) (clear : NoClash r w)
     (M : Members) (l : AreLawful r.epochs (block_fits r) M) (keep : AllKeep r M)
     (fronts : (i : ℕ) (notes : List Note) → slice_get M i ≡ Some (Some notes)
@@ -38,31 +37,31 @@ module _ (r : Rules) (w : World) (four : (epoch : ℕ) → 4 ≤ size r.epochs e
 
   -- what `Bases` shows of these members
   genesis_under : block_under r w (genesis_commitment r) ≡ Some (genesis r)
-  genesis_under = Bases.genesis_under r w four spans keepw clear M l keep fronts
+  genesis_under = Bases.genesis_under r w spans keepw clear M l keep fronts
 
   entered_at : (i : ℕ) (notes : List Note) → slice_get M i ≡ Some (Some notes)
       → (epoch : ℕ) (c : Commitment) → In (Note.Epoch epoch c) notes
-      → Bases.Entering r w four spans keepw clear M l keep fronts epoch c
-  entered_at = Bases.entered_at r w four spans keepw clear M l keep fronts
+      → Bases.Entering r w spans keepw clear M l keep fronts epoch c
+  entered_at = Bases.entered_at r w spans keepw clear M l keep fronts
 
   module _ (anchors : AllAnchored x M) where
     abbrev Parent : Proposal → Commitment → Type 0
-    Parent = Bases.Parent r w four spans keepw clear M l keep fronts anchors
+    Parent = Bases.Parent r w spans keepw clear M l keep fronts anchors
 
     abbrev pub Linked : Proposal → Type 0
-    Linked = Bases.Linked r w four spans keepw clear M l keep fronts anchors
+    Linked = Bases.Linked r w spans keepw clear M l keep fronts anchors
 
     pub linked : (p : Proposal) → IsCertifiedIn M p → Linked p
-    linked = Bases.linked r w four spans keepw clear M l keep fronts anchors
+    linked = Bases.linked r w spans keepw clear M l keep fronts anchors
 
     abbrev Base : Proposal → Block → Type 0
-    Base = Bases.Base r w four spans keepw clear M l keep fronts anchors
+    Base = Bases.Base r w spans keepw clear M l keep fronts anchors
 
     abbrev Based : Proposal → Type 0
-    Based = Bases.Based r w four spans keepw clear M l keep fronts anchors
+    Based = Bases.Based r w spans keepw clear M l keep fronts anchors
 
     finalized_based : (p : Proposal) → Stands x M (Finalize p) → Based p
-    finalized_based = Bases.finalized_based r w four spans keepw clear M l keep fronts anchors
+    finalized_based = Bases.finalized_based r w spans keepw clear M l keep fronts anchors
 
     -- ---- descents
 
@@ -252,10 +251,10 @@ module _ (r : Rules) (w : World) (four : (epoch : ℕ) → 4 ≤ size r.epochs e
         (compare a.proposal a'.proposal a.stands a'.stands n.reach.block m.reach.block u
         v) in
         let cn : commit r n.reach.block ≡ c =
-        under_commit r w four keepw clear c n.reach.block n.reach.under
+        under_commit r w keepw clear c n.reach.block n.reach.under
         (omega (arith, n.reach.height, n.positive)) in
         let cm : commit r m.reach.block ≡ d =
-        under_commit r w four keepw clear d m.reach.block m.reach.under
+        under_commit r w keepw clear d m.reach.block m.reach.under
         (omega (arith, m.reach.height, m.positive)) in
         sym cn ∙ (ap (commit r) block ∙ cm)
       where
@@ -311,7 +310,7 @@ module _ (r : Rules) (w : World) (four : (epoch : ℕ) → 4 ≤ size r.epochs e
         high_link k pos =
             cond-false (k.parent.height == 0) (genesis_commitment r) (commit r k.parent)
             (ne_eqb k.parent.height 0 (λ z. omega arith))
-            ∙ under_commit r w four keepw clear k.over k.parent k.over_under pos
+            ∙ under_commit r w keepw clear k.over k.parent k.over_under pos
 
         go : (k : Linked p) → Fit r p k.block k.over k.parent → Parent p k.over
             → ((s : Proposal) → IsCertifiedIn M s → Stands x M (Notarize s) → s.epoch < suc epochs
@@ -381,7 +380,7 @@ module _ (r : Rules) (w : World) (four : (epoch : ℕ) → 4 ≤ size r.epochs e
       where
         u : block_under r w y.commitment ≡ Some block
         u =
-            Bases.held_under r w four spans keepw clear M l keep fronts i notes before rest at
+            Bases.held_under r w spans keepw clear M l keep fronts i notes before rest at
             joined y.commitment block holds
 
         go : ((y.height == 0) ≡ true) ⊎ ((y.height == 0) ≡ false) → Branch y
@@ -399,7 +398,7 @@ module _ (r : Rules) (w : World) (four : (epoch : ℕ) → 4 ≤ size r.epochs e
         go (inr f) =
             let pos : 0 < y.height = omega (arith, eqb-false y.height 0 f) in
             let t =
-            Bases.reaching r w four spans keepw clear M l keep fronts i notes before rest at
+            Bases.reaching r w spans keepw clear M l keep fronts i notes before rest at
             joined y.height y.commitment pos high in
             let same_block : t.block ≡ block = same_Some t.block block (sym t.under ∙ u) in
             High pos t.proposal t.stands t.top t.block t.top_under t.steps t.down t.under t.height
@@ -451,7 +450,7 @@ module _ (r : Rules) (w : World) (four : (epoch : ℕ) → 4 ≤ size r.epochs e
         sym
         (cond-false (a.height == 0) (genesis_commitment r) (commit r a)
         (ne_eqb a.height 0 (λ z. omega arith))
-        ∙ under_commit r w four keepw clear y.commitment a u pos)
+        ∙ under_commit r w keepw clear y.commitment a u pos)
 
     -- each lower branch is a link below a higher one
     link_below : (z y : Handed) (a : Block) → 0 < z.height → (p : Proposal)

@@ -3,6 +3,7 @@ pub mod NoteLemmas
 pub mod Chain
 pub mod Lists
 pub mod OwedKeeps
+pub mod Uncuts
 pub mod StepKeeps
 pub mod KeptNotes
 pub mod Marks

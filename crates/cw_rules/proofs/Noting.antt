@@ -1,11 +1,11 @@
 -- What a step notes can be written, where what the member noted and what came can be.
-use Rattle.std.proofs.Common.{◌≡◌, ℕ, zero, suc, ◌+◌, ◌-◌, ◌*◌, ◌%◌, ◌^◌, ◌<◌, ◌≤◌, Bool, true, false, ◌&&◌, ◌==◌, not, cond, nat_lt, nat_le, List, [], ◌∷◌, ◌++◌, Option, Some, None, length, filter_map, slice_get, take, unwrap_or, option_map, option_and_then, refl, sym, ◌∙◌, subst, inl, inr, ◌⊎◌, arith, ltb-true, leb-true}
+use Rattle.std.proofs.Common.{◌≡◌, ℕ, zero, suc, ◌+◌, ◌-◌, ◌*◌, ◌%◌, ◌^◌, ◌<◌, ◌≤◌, Bool, true, false, ◌&&◌, ◌==◌, not, cond, nat_lt, nat_le, List, [], ◌∷◌, ◌++◌, Option, Some, None, length, filter_map, slice_get, unwrap_or, option_map, option_and_then, refl, sym, ◌∙◌, subst, inl, inr, ◌⊎◌, arith, ltb-true, leb-true}
 use Rattle.std.specs.List.{AllByRecursion}
 use Rattle.std.specs.Option.{option_map_or, option_or}
 use Rattle.std.proofs.lemmas.Bool.{and_parts, cases_Bool, cond-true, cond-false}
 use Rattle.std.proofs.lemmas.Option.{same_Some}
 use Rattle.cw_base.specs.ReadsBack.{IsConfig}
-use Rattle.cw_types.specs.Values.{IsBlock, IsCommitment, IsPayload}
+use Rattle.cw_types.specs.Values.{IsBlock, IsCommitment, IsDigest, IsPayload}
 use Rattle.cw_types.specs.declared.commitment.Commitment.{Commitment}
 use Rattle.cw_types.specs.declared.event.Event.{Event}
 use Rattle.cw_types.specs.declared.message.Message.{Message}
@@ -18,11 +18,13 @@ use Rattle.cw_types.specs.Epochs.{is_last, is_member, is_within, leader, members
 use Rattle.cw_types.specs.Same.{same_commitment}
 use Rattle.cw_rules.specs.Accepted.{Came, Part, Row, State, Whole, first_some}
 use Rattle.cw_rules.specs.Direct.{best_parent, direct, least, proposal_notes, propose_new, propose_over, proposed, proposed_block}
-use Rattle.cw_rules.specs.Held.{at_height, greatest_prune, held, if_committed, last_ack, noted_block_of, pending, row_of, shown, whole_of}
+use Rattle.cw_rules.specs.Held.{at_height, first_chunks, greatest_prune, held, if_committed, last_ack, noted_block_of, pending, shown, shown_by, shown_by_rows, shown_whole, whole_of}
 use Rattle.cw_rules.specs.Notes.{entered, epoch_of, greatest, has_block, has_cert, view_of}
 use Rattle.cw_rules.specs.Owed.{block_owed, cert_owed, certified_owed, epoch_owed, finalize_owed, floor_owed, has_closed, has_voted, named_commitments, named_proposals, named_votes, notarize_owed, owed, reached_epoch, signers_of, top_epoch}
 use Rattle.cw_rules.specs.Reached.{IsCluster}
-use Rattle.cw_rules.specs.Rules.{Chunk, Rules, block_of, commit, config, genesis, genesis_commitment, rows_of}
+use Rattle.cw_rules.specs.Rules.{Rules, block_of, commit, config_among, genesis, genesis_commitment, root_by, rows_of}
+use Rattle.cw_rules.specs.declared.travel.Travel.{Travel}
+use Rattle.cw_rules.specs.declared.travel.Travel.TheVariants.{Chunked, Uncut}
 use Rattle.cw_rules.specs.Step.{marks, settle, step_notes, with_notes}
 use Rattle.cw_rules.specs.Telling.{TellsBlocks}
 use Rattle.cw_rules.specs.World.{Line}
@@ -91,24 +93,29 @@ module _ (r : Rules) (script : List Line) (tells : TellsBlocks r)
             (cluster.there epoch),
       )
 
-  config_can : (epoch : ℕ) → IsConfig (config r epoch)
-  config_can epoch =
-      let n = size r.epochs epoch in
+  config_by : (t : Travel) (epoch : ℕ) → IsConfig (config_among t (size r.epochs epoch))
+  config_by Chunked epoch =
       record {
         minimum = (omega arith, omega (arith, few_members epoch));
         extra = (omega (arith, cluster.enough epoch), omega (arith, few_members epoch));
       }
+  config_by Uncut epoch =
+      record { minimum = (omega arith, omega arith); extra = (omega arith, omega arith) }
+
+  root_can : (t : Travel) (b : Block) → IsDigest (root_by t r b)
+  root_can Chunked b = tells.roots (rows_of r b)
+  root_can Uncut b = tells.digests _
 
   commit_can : (b : Block) → IsCommitment (commit r b)
   commit_can b =
       record {
         block = tells.digests _;
-        root = tells.roots (rows_of r b);
+        root = root_can r.travel b;
         context = tells.digests _;
-        config = config_can b.context.epoch;
+        config = config_by r.travel b.context.epoch;
       }
 
-  first_can : IsCommitment (genesis_commitment r)
+  pub first_can : IsCommitment (genesis_commitment r)
   first_can =
       record {
         block = tells.digests _;
@@ -143,7 +150,7 @@ module _ (r : Rules) (script : List Line) (tells : TellsBlocks r)
     payload = omega arith;
   }
 
-  leader_can : (epoch view : ℕ) → leader r.epochs epoch view < 2 ^ 16
+  pub leader_can : (epoch view : ℕ) → leader r.epochs epoch view < 2 ^ 16
   leader_can epoch view =
       go (slice_get (members_in r.epochs epoch) (view % size r.epochs epoch)) refl
     where
@@ -160,7 +167,7 @@ module _ (r : Rules) (script : List Line) (tells : TellsBlocks r)
 
   -- ---- what is held
 
-  noted_can : (c : Commitment) (n : Note) (b : Block) → CanNote r n → noted_block_of c n ≡ Some b
+  pub noted_can : (c : Commitment) (n : Note) (b : Block) → CanNote r n → noted_block_of c n ≡ Some b
       → IsBlock b × IsCommitment c
   noted_can c (Note.Block d x) b can h = go (cases_Bool (same_commitment c d))
     where
@@ -403,23 +410,27 @@ module _ (r : Rules) (script : List Line) (tells : TellsBlocks r)
   whole_can c (Whole x) b can h = committed_can c x b can h
   whole_can c (Row d x) b can h = cc
 
-  shown_can : (came : Came) (c : Commitment) (b : Block) → AllByRecursion CanPart came.parts
-      → shown r came c ≡ Some b → IsBlock b
-  shown_can came c b a h =
-      go
-      (or_some (first_some (whole_of r c) came.parts)
-      (option_and_then (if_committed r c) (block_of r c.config rows)) b h)
-    where
-      rows : List Chunk
-      rows = take c.config.minimum (filter_map (row_of c) came.parts)
+  whole_shown_can : (came : Came) (c : Commitment) (b : Block) → AllByRecursion CanPart came.parts
+      → shown_whole r came c ≡ Some b → IsBlock b
+  whole_shown_can came c b a h =
+      first_some_at (whole_of r c) CanPart IsBlock came.parts a (whole_can c) b h
 
-      go : (first_some (whole_of r c) came.parts ≡ Some b)
-          ⊎ (option_and_then (if_committed r c) (block_of r c.config rows) ≡ Some b)
-          → IsBlock b
-      go (inl e) = first_some_at (whole_of r c) CanPart IsBlock came.parts a (whole_can c) b e
+  shown_can : (t : Travel) (came : Came) (c : Commitment) (b : Block)
+      → AllByRecursion CanPart came.parts → shown_by t r came c ≡ Some b → IsBlock b
+  shown_can Chunked came c b a h =
+      go (or_some (shown_whole r came c) (shown_by_rows r came c) b h)
+    where
+      go : (shown_whole r came c ≡ Some b) ⊎ (shown_by_rows r came c ≡ Some b) → IsBlock b
+      go (inl e) = whole_shown_can came c b a e
       go (inr e) =
-          let (x, f, g) = and_then_some (if_committed r c) (block_of r c.config rows) b e in
-          committed_can c x b (tells.shown c.config rows x f) g
+          let (x, f, g) =
+          and_then_some (if_committed r c) (block_of r c.config (first_chunks came c)) b e in
+          committed_can c x b (tells.shown c.config (first_chunks came c) x f) g
+  shown_can Uncut came c b a h = go (same_commitment c (genesis_commitment r)) h
+    where
+      go : (t : Bool) → cond t None (shown_whole r came c) ≡ Some b → IsBlock b
+      go true e = cc
+      go false e = whole_shown_can came c b a e
 
   reached_can : (notes : List Note) (span : ℕ) → 0 < span → AllByRecursion (CanNote r) notes
       → (top : ℕ) (note : Note) → reached_epoch r notes span top ≡ Some note → CanNote r note
@@ -506,7 +517,7 @@ module _ (r : Rules) (script : List Line) (tells : TellsBlocks r)
       block c n u f =
           let (b, e, g) = and_then_some _ (shown r s.came c) n f in
           subst Q (when_some _ (Note.Block c b) n g).1
-          (shown_can s.came c b parts e, shown_under r s.came c b e)
+          (shown_can r.travel s.came c b parts e, shown_under r s.came c b e)
 
       cert : (v : Vote) (n : Note) → Unit {0} → cert_owed r id s v ≡ Some n → Q n
       cert v n u f = go (cases_Bool (has_cert s.notes v))

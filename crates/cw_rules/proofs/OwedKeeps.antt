@@ -1,5 +1,5 @@
 -- Each owed note has among the notes before it what it rests on.
-use Rattle.std.proofs.Common.{◌≡◌, ℕ, zero, suc, ◌*◌, ◌<◌, true, false, ◌&&◌, ◌||◌, ◌==◌, Bool, find, not, List, [], ◌∷◌, Option, Some, None, IsTrue, is_some, sym, ◌∙◌, ap, subst, inl, inr, ◌⊎◌, arith, length, nat_le}
+use Rattle.std.proofs.Common.{◌≡◌, ℕ, zero, suc, ◌*◌, ◌<◌, true, false, ◌&&◌, ◌||◌, ◌==◌, Bool, cond, find, not, List, [], ◌∷◌, Option, Some, None, IsTrue, is_some, sym, ◌∙◌, ap, subst, inl, inr, ◌⊎◌, arith, length, nat_le}
 use Rattle.std.specs.List.{list_any, AllByRecursion}
 use Rattle.std.specs.Option.{option_or, option_map_or, option_map}
 use Rattle.std.proofs.lemmas.Bool.{or_cases, or_left, or_right, and_parts, false≢true, cases_Bool, cond-true, cond-false, leb-true, eqb-true, not-true, leb-false}
@@ -15,14 +15,16 @@ use Rattle.cw_types.specs.Same.{same_commitment, same_vote}
 use Rattle.cw_types.specs.Votes.{vote_epoch, well_formed}
 use Rattle.cw_rules.specs.Accepted.{Ballot, Came, Many, Part, Row, Single, State, Whole, first_some}
 use Rattle.cw_rules.specs.Fits.{fits}
-use Rattle.cw_rules.specs.Held.{at_height, held, if_committed, row_of, shown, whole_of}
+use Rattle.cw_rules.specs.Held.{at_height, first_chunks, held, if_committed, shown, shown_by, shown_by_rows, shown_whole, whole_of}
 use Rattle.cw_rules.specs.Keeps.{IsClosed, IsRising, IsSound, Keeps, Meaning}
 use Rattle.cw_rules.specs.Notes.{enters, entry, epoch_of, has_begun, has_cert, has_certified, has_vote, root_of, settled, settler}
-use Rattle.cw_rules.specs.Owed.{all_nullified, block_owed, cert_owed, certified_owed, epoch_owed, finalize_owed, floor_owed, has_closed, has_voted, is_ready, is_single, known, knows, named_commitments, named_proposals, named_votes, notarize_owed, owed, reached_epoch, signers_in, signers_of, top_epoch, when}
-use Rattle.cw_rules.specs.Rules.{Chunk, Rules, block_of, commit, genesis_commitment}
+use Rattle.cw_rules.specs.Owed.{all_nullified, block_owed, can_vote, cert_owed, certified_owed, epoch_owed, finalize_owed, floor_owed, has_closed, has_voted, is_ready, is_single, known, knows, named_commitments, named_proposals, named_votes, notarize_owed, owed, reached_epoch, signers_in, signers_of, top_epoch, when}
+use Rattle.cw_rules.specs.Rules.{Rules, block_of, commit, genesis_commitment}
+use Rattle.cw_rules.specs.declared.travel.Travel.{Travel}
+use Rattle.cw_rules.specs.declared.travel.Travel.TheVariants.{Chunked, Uncut}
 use Rattle.cw_rules.specs.Stands.{IsSettled}
 use Rattle.cw_types.proofs.Same.{same_vote-true, same_commitment-true}
-use Rattle.std.proofs.Common.{take, filter_map, option_and_then}
+use Rattle.std.proofs.Common.{filter_map}
 use Rattle.cw_rules.proofs.Lists.{or_some, when_some, first_some_at, all_true, and_then_some, map_some, map_or_true, is_in, filter_rises, filter_in}
 
 -- what an owed note is told of: what came is sound, and the member backs its own votes
@@ -47,25 +49,33 @@ whole_under : (r : Rules) (c : Commitment) (p : Part) (b : Block) → whole_of r
 whole_under r c (Whole x) b h = committed_under r c x b h
 whole_under r c (Row d x) b h = cc
 
+whole_shown : (r : Rules) (came : Came) (c : Commitment) (b : Block) → shown_whole r came c ≡ Some b
+    → commit r b ≡ c
+whole_shown r came c b h =
+    first_some_at (whole_of r c) (λ _. Unit {0}) (λ x. commit r x ≡ c) came.parts
+    (all_true came.parts) (λ p x u f. whole_under r c p x f) b h
+
+by_travel : (t : Travel) (r : Rules) (came : Came) (c : Commitment) (b : Block)
+    → shown_by t r came c ≡ Some b → commit r b ≡ c
+by_travel Chunked r came c b h =
+    go (or_some (shown_whole r came c) (shown_by_rows r came c) b h)
+  where
+    go : (shown_whole r came c ≡ Some b) ⊎ (shown_by_rows r came c ≡ Some b) → commit r b ≡ c
+    go (inl e) = whole_shown r came c b e
+    go (inr e) =
+        let (x, f, g) =
+        and_then_some (if_committed r c)
+        (block_of r c.config (first_chunks came c)) b e in
+        committed_under r c x b g
+by_travel Uncut r came c b h = go (same_commitment c (genesis_commitment r)) h
+  where
+    go : (t : Bool) → cond t None (shown_whole r came c) ≡ Some b → commit r b ≡ c
+    go true e = cc
+    go false e = whole_shown r came c b e
+
 pub shown_under : (r : Rules) (came : Came) (c : Commitment) (b : Block) → shown r came c ≡ Some b
     → commit r b ≡ c
-shown_under r came c b h =
-    go
-    (or_some (first_some (whole_of r c) came.parts)
-    (option_and_then (if_committed r c) (block_of r c.config rows)) b h)
-  where
-    rows : List Chunk
-    rows = take c.config.minimum (filter_map (row_of c) came.parts)
-
-    go : (first_some (whole_of r c) came.parts ≡ Some b)
-        ⊎ (option_and_then (if_committed r c) (block_of r c.config rows) ≡ Some b)
-        → commit r b ≡ c
-    go (inl e) =
-        first_some_at (whole_of r c) (λ _. Unit {0}) (λ x. commit r x ≡ c) came.parts
-        (all_true came.parts) (λ p x u f. whole_under r c p x f) b e
-    go (inr e) =
-        let (x, f, g) = and_then_some (if_committed r c) (block_of r c.config rows) b e in
-        committed_under r c x b g
+shown_under r came c b h = by_travel r.travel r came c b h
 
 -- what the cases use of the test in them
 block_keeps : (r : Rules) (m : Meaning) (s : State) (c : Commitment) (note : Note) → Unit {0}
@@ -263,11 +273,7 @@ notarize_keeps : (r : Rules) (m : Meaning) (id : ℕ) (s : State) → IsTold m i
 notarize_keeps r m id s told p note u h =
     let w = when_some _ (Note.Vote (Notarize p)) note h in
     let t6 = and_parts _ (all_nullified s.notes p.epoch p.parent p.view) w.0 in
-    let t5 =
-    and_parts _
-    (option_map_or (is_ready r id s p)
-    (settled (genesis_commitment r) s.notes p.epoch p.parent) false)
-    t6.0 in
+    let t5 = and_parts _ (can_vote r id s p) t6.0 in
     let t4 = and_parts _ (not (has_voted s.notes p.epoch p.view)) t5.0 in
     let t3 =
     and_parts _

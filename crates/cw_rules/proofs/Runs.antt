@@ -574,7 +574,7 @@ pub clear_entries : (r : Rules) (script : List Line) (w : World) → IsCluster r
     → In (Note.Epoch epoch d) others → c ≡ d
 clear_entries r script w c (before, rest, joined, h) =
     let k = clear_reached r script before rest w c joined h in
-    one_entry r w c.enough c.spans (kept_keep r script w k.kept) k.clear (members_of w)
+    one_entry r w c.spans (kept_keep r script w k.kept) k.clear (members_of w)
     (kept_lawful r script w c k.kept) (kept_keep r script w k.kept) (now_fronts w) k.anchored
 
 -- each step of a descent from what is certified goes down, or keeps the payload at the last height
@@ -584,7 +584,7 @@ pub clear_down : (r : Rules) (script : List Line) (w : World) → IsCluster r sc
     → GoesDown r w q p
 clear_down r script w c (before, rest, joined, h) =
     let k = clear_reached r script before rest w c joined h in
-    goes_down r w c.enough c.spans (kept_keep r script w k.kept) k.clear (members_of w)
+    goes_down r w c.spans (kept_keep r script w k.kept) k.clear (members_of w)
     (kept_lawful r script w c k.kept) (kept_keep r script w k.kept) (now_fronts w) k.anchored
 
 -- where a script ends without a clash, all that is handed out is one chain
@@ -595,17 +595,17 @@ script_chain r script w c h x at =
     let k =
     subst (IsClearRun r script w) (sym (handed_parts r script))
     (clear_reached r script script [] w c (sym (append-nil script)) h) in
-    one_chain r w c.enough c.spans (kept_keep r script w k.kept) k.clear (members_of w)
+    one_chain r w c.spans (kept_keep r script w k.kept) k.clear (members_of w)
     (kept_lawful r script w c k.kept) (kept_keep r script w k.kept) (now_fronts w) k.anchored
     (handed_in r script)
     (λ y i. by_gave k y (k.gave y i)) x at
   where
     by_gave : (k : IsClearRun r script w (handed_in r script)) (y : Handed) → Gave r w y
-        → Branch r w c.enough c.spans (kept_keep r script w k.kept) k.clear (members_of w)
+        → Branch r w c.spans (kept_keep r script w k.kept) k.clear (members_of w)
         (kept_lawful r script w c k.kept) (kept_keep r script w k.kept) (now_fronts w)
         k.anchored y
     by_gave k y g =
-        branch_of r w c.enough c.spans (kept_keep r script w k.kept) k.clear (members_of w)
+        branch_of r w c.spans (kept_keep r script w k.kept) k.clear (members_of w)
         (kept_lawful r script w c k.kept) (kept_keep r script w k.kept) (now_fronts w)
         k.anchored g.place (member_notes g.member) g.before g.rest
         (get-map (option_map member_notes) w.members g.place (Some g.member) g.at) g.joined y

@@ -19,7 +19,9 @@ use Rattle.cw_rules.specs.Accepted.{Came, Row, State, first_some, is_chunk_of, s
 use Rattle.cw_rules.specs.Held.{held, noted_block_of}
 use Rattle.cw_rules.specs.Notes.{epoch_of, has_vote, is_vote}
 use Rattle.cw_rules.specs.Rules.{Chunk, Rules, chunks, commit, config, genesis_commitment}
-use Rattle.cw_rules.specs.Sends.{answer, chunk_out, finalization_at, finalization_outs, missing, note_sends, own_chunk, sends, to_all}
+use Rattle.cw_rules.specs.declared.travel.Travel.{Travel}
+use Rattle.cw_rules.specs.declared.travel.Travel.TheVariants.{Chunked, Uncut}
+use Rattle.cw_rules.specs.Sends.{answer, block_sends, chunk_out, finalization_at, finalization_outs, missing, note_sends, own_chunk, sends, to_all}
 use Rattle.cw_rules.specs.Step.{nothing_came, start}
 use Rattle.cw_rules.specs.World.{is_sent_vote, is_vote_of, sent_from}
 use Rattle.cw_base.specs.Config.{same_counts}
@@ -99,6 +101,14 @@ module _ (i : ℕ) (v : Vote) where
   none_when true xs n h = n h
   none_when false xs n h = false≢true h
 
+  -- what a block sends holds no vote
+  block_none : (t : Travel) (r : Rules) (id epoch : ℕ) (b : Block)
+      → list_any votes (block_sends t r id epoch b) ≡ true → ⊥
+  block_none Chunked r id epoch b =
+      none_filtered (chunk_out id (members_in r.epochs epoch) (commit r b))
+      (λ x. chunk_none id (members_in r.epochs epoch) (commit r b) x) (chunks r b)
+  block_none Uncut r id epoch b = false≢true
+
   -- what a note sends
   note_votes : (r : Rules) (id : ℕ) (all : List Note) (notes : List Note)
       → list_any votes (flat_map (note_sends r id all) notes) ≡ true → has_vote notes v ≡ true
@@ -116,11 +126,8 @@ module _ (i : ℕ) (v : Vote) where
           go (inr e) = absurd (false≢true e)
       here (Note.Verified epoch view c) h =
           absurd
-          (none_optional
-          (λ b. filter_map (chunk_out id (members_in r.epochs epoch) (commit r b))
-          (chunks r b))
-          (λ b. none_filtered (chunk_out id (members_in r.epochs epoch) (commit r b))
-          (λ x. chunk_none id (members_in r.epochs epoch) (commit r b) x) (chunks r b))
+          (none_optional (block_sends r.travel r id epoch)
+          (λ b. block_none r.travel r id epoch b)
           (first_some (noted_block_of c) all) h)
       here _ h = absurd (false≢true h)
 

@@ -1,24 +1,23 @@
--- What is held, reached, found and handed out asks neither for the members nor for the application,
--- nor for what came.
-use Rattle.std.proofs.Common.{◌≡◌, ℕ, zero, suc, Bool, ◌+◌, ◌==◌, if◌then◌else◌, nat_lt, List, [], ◌∷◌, ◌++◌, length, filter_map, Option, Some, None, option_map, option_and_then, refl, sym, ap, ◌∙◌}
+-- What is held, reached, found and handed out asks neither for how blocks travel nor for the members
+-- nor for the application, nor for what came.
+use Rattle.std.proofs.Common.{◌≡◌, ℕ, zero, suc, Bool, ◌==◌, if◌then◌else◌, nat_lt, List, [], ◌∷◌, ◌++◌, length, filter_map, Some, None, option_map, option_and_then, refl}
 use Rattle.std.specs.Option.{option_map_or}
 use Rattle.cw_base.specs.declared.hash.Digest32.{Digest32}
 use Rattle.cw_types.specs.Block.{Block}
 use Rattle.cw_types.specs.Epochs.{Epochs}
 use Rattle.cw_types.specs.Same.{same_digest}
-use Rattle.cw_types.specs.declared.commitment.Commitment.{Commitment}
-use Rattle.cw_types.specs.declared.event.Handed.{Handed}
 use Rattle.cw_types.specs.declared.note.Note.{Note}
 use Rattle.cw_rules.specs.Accepted.{Came, State, first_some}
 use Rattle.cw_rules.specs.Held.{at_height, finalization_of, held, next, parent_of, pending, reached}
 use Rattle.cw_rules.specs.Rules.{Rules, among, digest, genesis, genesis_commitment}
+use Rattle.cw_rules.specs.declared.travel.Travel.{Travel}
 use Rattle.cw_rules.specs.Sends.{finalization_at}
-use Rattle.cw_rules.specs.Step.{Of_commitment, Of_digest, Wanted, deliveries, deliveries_within, delivery, found, handing, most_delivered, noted_of, with_given}
+use Rattle.cw_rules.specs.Step.{Of_commitment, Of_digest, Wanted, deliveries, deliveries_within, delivery, found, handing, most_delivered, noted_of}
 
-module _ (r : Rules) (epochs : Epochs) (accepts : Block → Block → Bool) where
+module _ (r : Rules) (travel : Travel) (epochs : Epochs) (accepts : Block → Block → Bool) where
   module _ (backlog : ℕ) (notes : List Note) where
     abbrev other : Rules
-    other = among r epochs backlog accepts
+    other = among r travel epochs backlog accepts
 
     pub reached_same : (steps : ℕ) → reached other notes steps ≡ reached r notes steps
     reached_same zero = refl
@@ -57,7 +56,7 @@ module _ (r : Rules) (epochs : Epochs) (accepts : Block → Block → Bool) wher
 
   module _ (notes : List Note) where
     abbrev unlike : Rules
-    unlike = among r epochs r.backlog accepts
+    unlike = among r travel epochs r.backlog accepts
 
     pub delivery_same : (came others : Came) (given : List ℕ)
         → delivery unlike (record { notes = notes; came = came; given = given })

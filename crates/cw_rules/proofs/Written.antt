@@ -5,7 +5,7 @@ use Rattle.std.specs.Option.{option_map_or}
 use Rattle.std.proofs.lemmas.Option.{same_Some}
 use Rattle.cw_base.specs.Config.{same_counts}
 use Rattle.cw_base.specs.ReadsBack.{IsBytes}
-use Rattle.cw_types.specs.Values.{IsBlock, IsMessage}
+use Rattle.cw_types.specs.Values.{IsBlock, IsCommitment, IsMessage}
 use Rattle.cw_types.proofs.MessageLaws.{message_found}
 use Rattle.cw_types.specs.Reading.{message_of}
 use Rattle.cw_types.specs.declared.commitment.Commitment.{Commitment}
@@ -30,15 +30,17 @@ use Rattle.cw_rules.specs.Held.{held, noted_block_of}
 use Rattle.cw_rules.specs.Notes.{epoch_of}
 use Rattle.cw_rules.specs.Reached.{In, IsCluster, IsKnown, Reaches}
 use Rattle.cw_rules.specs.Rules.{Chunk, Rules, chunks, commit, config, digest, genesis, genesis_commitment}
-use Rattle.cw_rules.specs.Sends.{answer, chunk_out, finalization_at, finalization_outs, missing, note_sends, own_chunk, sends, to_all}
+use Rattle.cw_rules.specs.declared.travel.Travel.{Travel}
+use Rattle.cw_rules.specs.declared.travel.Travel.TheVariants.{Chunked, Uncut}
+use Rattle.cw_rules.specs.Sends.{answer, block_sends, chunk_out, finalization_at, finalization_outs, missing, note_sends, own_chunk, sends, to_all}
 use Rattle.cw_rules.specs.Step.{Member, Stepped, cut_step, member_notes, nothing_came, start, state_of, step, step_notes, stopped, taken, taken_came, with_notes}
 use Rattle.cw_rules.specs.Telling.{FitsAsk, FitsFault, FitsLine, TellsBlocks}
 use Rattle.cw_rules.specs.World.{Ask, Cut, Do, Fault, Faulty, Line, Restart, Sent, World, as_finalization, done_by, event_of, fault_sends, faults, happens, is_to, line_member, member_at, message_for, opening, run, sent_from, sent_now, signed, turned, voted_on, with_done}
 use Rattle.cw_rules.specs.World as line
 use Rattle.cw_rules.proofs.ClashFound.{script_clash}
-use Rattle.cw_rules.proofs.Lists.{all_both, and_then_some, map_some}
+use Rattle.cw_rules.proofs.Lists.{all_both, and_then_some, first_some_at, map_some}
 use Rattle.cw_rules.proofs.Worlds.{frames_join, get-map_from, get-set, member_there}
-use Rattle.cw_rules.proofs.Noting.{CanNote, CanPart, CanSend, CanEvent, all_get, genesis_can, held_can, notes_can}
+use Rattle.cw_rules.proofs.Noting.{CanNote, CanPart, CanSend, CanEvent, all_get, first_can, genesis_can, held_can, leader_can, noted_can, notes_can}
 
 all_in : {X : Type 0} (P : X → Type 0) (xs : List X) (x : X) → AllByRecursion P xs → In x xs → P x
 all_in P [] x a h = absurd h
@@ -131,6 +133,20 @@ module _ (r : Rules) (script : List Line) (tells : TellsBlocks r)
       go None a = a
       go (Some j) a = (tt, a)
 
+  -- what a block sends can be, where the block is known to be written as it is
+  out_block : (t : Travel) (id epoch : ℕ) (b : Block) → IsBlock b
+      → AllByRecursion CanOut (block_sends t r id epoch b)
+  out_block Chunked id epoch b can =
+      out_chunks id (members_in r.epochs epoch) (commit r b) (chunks r b)
+  out_block Uncut id epoch b can = (can, tt)
+
+  -- the block of the first note of a commitment
+  first_noted_can : (c : Commitment) (all : List Note) (b : Block) → AllByRecursion (CanNote r) all
+      → first_some (noted_block_of c) all ≡ Some b → IsBlock b
+  first_noted_can c all b a e =
+      (first_some_at (noted_block_of c) (CanNote r) (λ y. IsBlock y × IsCommitment c) all a
+      (noted_can r script tells cluster c) b e).0
+
   out_optional : {X : Type 0} (f : X → List Out) (o : Option X)
       → ((x : X) → o ≡ Some x → AllByRecursion CanOut (f x))
       → AllByRecursion CanOut (option_map_or f o [])
@@ -142,19 +158,17 @@ module _ (r : Rules) (script : List Line) (tells : TellsBlocks r)
   out_if true xs a = a
   out_if false xs a = tt
 
-  out_notes : (id : ℕ) (all notes : List Note)
+  out_notes : (id : ℕ) (all notes : List Note) → AllByRecursion (CanNote r) all
       → AllByRecursion CanOut (flat_map (note_sends r id all) notes)
-  out_notes id all [] = tt
-  out_notes id all (n ∷ ns) =
+  out_notes id all [] a = tt
+  out_notes id all (n ∷ ns) a =
       all_both CanOut (note_sends r id all n) (flat_map (note_sends r id all) ns) (of n)
-      (out_notes id all ns)
+      (out_notes id all ns a)
     where
       of : (n : Note) → AllByRecursion CanOut (note_sends r id all n)
       of (Note.Verified epoch view c) =
-          out_optional
-          (λ b. filter_map (chunk_out id (members_in r.epochs epoch) (commit r b)) (chunks r b))
-          (first_some (noted_block_of c) all)
-          (λ b e. out_chunks id (members_in r.epochs epoch) (commit r b) (chunks r b))
+          out_optional (block_sends r.travel r id epoch) (first_some (noted_block_of c) all)
+          (λ b e. out_block r.travel id epoch b (first_noted_can c all b a e))
       of (Note.Vote v) = (tt, tt)
       of (Note.Cert s) = (tt, tt)
       of _ = tt
@@ -227,7 +241,7 @@ module _ (r : Rules) (script : List Line) (tells : TellsBlocks r)
       let asks = map (λ c. to_all (Message.Ask id c)) news in
       all_both CanOut (first ++ own ++ asks) (answer r id after.notes e)
       (all_both CanOut (first ++ own) asks
-      (all_both CanOut first own (out_notes id after.notes notes)
+      (all_both CanOut first own (out_notes id after.notes notes a)
       (out_own id (epoch_of before.notes) before.came e))
       (out_asks id news))
       (out_answer id after.notes e a)
@@ -305,7 +319,7 @@ module _ (r : Rules) (script : List Line) (tells : TellsBlocks r)
     outs =
         all_both CanOut (flat_map (note_sends r id all) (unwrap_or (last_or None frames) []))
         (map (λ c. to_all (Message.Ask id c)) gone)
-        (out_notes id all (unwrap_or (last_or None frames) [])) (out_asks id gone);
+        (out_notes id all (unwrap_or (last_or None frames) []) a) (out_asks id gone);
   }
     where
       all : List Note
@@ -447,14 +461,14 @@ module _ (r : Rules) (script : List Line) (tells : TellsBlocks r)
       → AllByRecursion CanOut (fault_sends r w a fault)
   fault_can w a line.Silent fits = tt
   fault_can w a (line.Offer view payload) fits =
-      all_both CanOut (filter_map (chunk_out a (members_in r.epochs 0) (commit r b)) (chunks r b))
+      all_both CanOut (block_sends r.travel r a 0 b)
       (to_all (Message.Vote a (Notarize (record {
         epoch = 0;
         view = view;
         parent = 0;
         payload = commit r b;
       }))) ∷ [])
-      (out_chunks a (members_in r.epochs 0) (commit r b) (chunks r b)) (tt, tt)
+      (out_block r.travel a 0 b can) (tt, tt)
     where
       b : Block
       b =
@@ -469,6 +483,21 @@ module _ (r : Rules) (script : List Line) (tells : TellsBlocks r)
             height = 1;
             payload = payload;
           }
+
+      can : IsBlock b
+      can = record {
+        context =
+            record {
+              epoch = omega arith;
+              view = fits.0;
+              leader = leader_can r script tells cluster 0 view;
+              parent_view = omega arith;
+              parent = first_can r script tells cluster;
+            };
+        parent = tells.digests _;
+        height = omega arith;
+        payload = fits.1;
+      }
   fault_can w a (line.Notarize_of number) fits = votes_can a Notarize (voted_on w number)
   fault_can w a (line.Finalize_of number) fits = votes_can a Finalize (voted_on w number)
   fault_can w a (line.Nullify_of view) fits = (tt, tt)

@@ -14,7 +14,7 @@ use Rattle.cw_types.specs.declared.note.Note.{Note}
 use Rattle.cw_types.specs.declared.vote.Cert.{Cert}
 use Rattle.cw_types.specs.declared.vote.Proposal.{Proposal}
 use Rattle.cw_types.specs.declared.vote.Vote.{Vote}
-use Rattle.cw_rules.specs.Rules.{Chunk, Rules, is_under}
+use Rattle.cw_rules.specs.Rules.{Chunk, Rules, is_chunked, is_under}
 use Rattle.cw_types.specs.Numbers.{config_for}
 
 -- what f answers at the first element at which it answers something
@@ -80,10 +80,12 @@ take_part came fits x =
       wishes = came.wishes;
     } else came
 
--- a chunk of a commitment with the config of some epoch, which stands under its root
+-- a chunk of a commitment with the config of some epoch, which stands under its root; none where
+-- blocks aren't cut
 abbrev pub is_chunk_of : Rules → Commitment → Chunk → Bool
 is_chunk_of r c x =
-    list_any (λ list. same_counts c.config (config_for (length list))) r.epochs.lists
+    is_chunked r.travel
+    && list_any (λ list. same_counts c.config (config_for (length list))) r.epochs.lists
     && is_under r c x
 
 -- what a delivered message leaves

@@ -1,11 +1,9 @@
 -- What the rules ask of the codewords, the tree and the texts below them.
-use Rattle.std.specs.Prelude.{[], ℕ, ◌%◌, ◌<◌, ◌^◌, ◌∷◌, ◌≡◌, ◌≢◌, ◌≤◌, IsTrue, List, Some, filter_map, length, map, slice_get, take}
+use Rattle.std.specs.Prelude.{[], ℕ, ◌%◌, ◌<◌, ◌^◌, ◌∷◌, ◌≡◌, ◌≢◌, ◌≤◌, IsTrue, List, Some, length, map, slice_get}
 use Rattle.std.specs.List.{AllByRecursion}
 use Rattle.cw_base.specs.Counts.{Counts}
 use Rattle.cw_types.specs.Block.{Block}
 use Rattle.cw_types.specs.declared.commitment.Commitment.{Commitment}
-use Rattle.cw_rules.specs.Accepted.{Came}
-use Rattle.cw_rules.specs.Held.{row_of}
 use Rattle.cw_rules.specs.Rules.{Chunk, Rules, chunk_at, chunks, commit, rows_under}
 use Rattle.cw_coding.specs.Totals.{total_of}
 
@@ -52,10 +50,6 @@ pub record IsCoder (r : Rules) : Type 0 where
   -- the way up from each place leads to the root
   pub leads : (rows : List (List ℕ)) (i : ℕ) (row : List ℕ) → slice_get rows i ≡ Some row
       → IsTrue (r.leads_to (r.root (map r.hash rows)) (chunk_at r rows i row))
-
--- the chunks of a commitment that came, at most k of them
-abbrev pub first_chunks : Came → Commitment → List Chunk
-first_chunks came c = take c.config.minimum (filter_map (row_of c) came.parts)
 
 -- a block that is written as a text and read back, of whose codeword these are k rows, and which is
 -- committed to so

@@ -11,6 +11,8 @@ use Rattle.cw_types.specs.declared.vote.Proposal.{Proposal}
 use Rattle.cw_rules.specs.Accepted.{Came, Part, Row, State, Whole, first_some}
 use Rattle.cw_rules.specs.Notes.{greatest}
 use Rattle.cw_rules.specs.Rules.{Chunk, Rules, block_of, commit, genesis, genesis_commitment}
+use Rattle.cw_rules.specs.declared.travel.Travel.{Travel}
+use Rattle.cw_rules.specs.declared.travel.Travel.TheVariants.{Chunked, Uncut}
 
 -- the block, where it is committed to so
 abbrev pub if_committed : Rules → Commitment → Block → Option Block
@@ -26,13 +28,30 @@ abbrev pub row_of : Commitment → Part → Option Chunk
 row_of c (Row d x) = if same_commitment c d then Some x else None
 row_of c (Whole b) = None
 
--- the block as which a commitment is shown: one that came whole, else the one of whose codeword its
--- first k chunks are rows
+-- the chunks of a commitment that came, at most k of them
+abbrev pub first_chunks : Came → Commitment → List Chunk
+first_chunks came c = take c.config.minimum (filter_map (row_of c) came.parts)
+
+-- the block under the commitment of whose codeword its first k chunks are rows
+abbrev pub shown_by_rows : Rules → Came → Commitment → Option Block
+shown_by_rows r came c =
+    option_and_then (if_committed r c)
+    (block_of r c.config (first_chunks came c))
+
+-- the first block that came whole under the commitment
+abbrev pub shown_whole : Rules → Came → Commitment → Option Block
+shown_whole r came c = first_some (whole_of r c) came.parts
+
+-- the block that came whole, else the one that chunks show. Where blocks aren't cut there are no
+-- chunks, and genesis' commitment, which a block may then have, is never shown
+abbrev pub shown_by : Travel → Rules → Came → Commitment → Option Block
+shown_by Chunked r came c = option_or (shown_whole r came c) (shown_by_rows r came c)
+shown_by Uncut r came c =
+    if same_commitment c (genesis_commitment r) then None else shown_whole r came c
+
+-- the block as which a commitment is shown
 abbrev pub shown : Rules → Came → Commitment → Option Block
-shown r came c =
-    option_or (first_some (whole_of r c) came.parts)
-    (option_and_then (if_committed r c)
-    (block_of r c.config (take c.config.minimum (filter_map (row_of c) came.parts))))
+shown r came c = shown_by r.travel r came c
 
 -- the block of a note, where it is under that commitment
 abbrev pub noted_block_of : Commitment → Note → Option Block

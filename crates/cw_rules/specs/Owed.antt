@@ -1,6 +1,6 @@
 -- The note that a member owes: that of the first case that applies. Within a case what came is
 -- tried in order, and then the notes.
-use Rattle.std.specs.Prelude.{ℕ, ◌&&◌, ◌*◌, ◌++◌, ◌+◌, ◌-◌, ◌/◌, ◌==◌, ◌||◌, Bool, List, None, Option, Some, false, filter, filter_map, if◌then◌else◌, length, map, max, nat_le, nat_lt, not, option_and_then, option_map, suc, true, zero}
+use Rattle.std.specs.Prelude.{ℕ, ◌&&◌, ◌*◌, ◌++◌, ◌+◌, ◌-◌, ◌/◌, ◌==◌, ◌||◌, Bool, List, None, Option, Some, false, filter, filter_map, if◌then◌else◌, is_some, length, map, max, nat_le, nat_lt, not, option_and_then, option_map, suc, true, zero}
 use Rattle.std.specs.List.{list_all, list_any, range_with_len}
 use Rattle.std.specs.Option.{option_map_or, option_or}
 use Rattle.cw_base.specs.Config.{same_counts}
@@ -18,6 +18,8 @@ use Rattle.cw_rules.specs.Fits.{block_fits, context_for}
 use Rattle.cw_rules.specs.Held.{at_height, finalization_of, floor_height, greatest_floor, greatest_prune, held, next, shown}
 use Rattle.cw_rules.specs.Notes.{epoch_of, greatest, has_block, has_cert, has_certified, has_vote, nullified, settled, view_of}
 use Rattle.cw_rules.specs.Rules.{Rules, commit, config, genesis_commitment}
+use Rattle.cw_rules.specs.declared.travel.Travel.{Travel}
+use Rattle.cw_rules.specs.declared.travel.Travel.TheVariants.{Chunked, Uncut}
 
 -- ---- what names what
 
@@ -192,6 +194,19 @@ has_own_row r id s p =
     option_map_or (λ at. list_any (is_row_at at p.payload) s.came.parts) (place r.epochs p.epoch id)
     false
 
+-- the block of the commitment is shown, or held
+abbrev pub is_known : Rules → State → Commitment → Bool
+is_known r s c = is_some (shown r s.came c) || is_some (held r s.notes c)
+
+-- what a vote asks to have of a payload: the member's own chunk, or the block where it isn't cut
+abbrev pub has_part_by : Travel → Rules → ℕ → State → Proposal → Bool
+has_part_by Chunked r id s p = has_own_row r id s p
+has_part_by Uncut r id s p = is_known r s p.payload
+
+-- the member has of the proposal's payload what its vote asks
+abbrev pub has_part : Rules → ℕ → State → Proposal → Bool
+has_part r id s p = has_part_by r.travel r id s p
+
 -- the payload is one for the proposal over the payload settled for its parent view
 abbrev pub is_payload_for : Rules → Proposal → Commitment → Bool
 is_payload_for r p c =
@@ -204,10 +219,16 @@ is_again r notes p c =
     same_commitment p.payload c && nat_lt 0 p.parent
     && option_map_or (λ a. is_last r.epochs p.epoch a.height) (held r notes c) false
 
--- the member can vote for the proposal: its own chunk of a fitting payload came, or it is the last
--- block again
+-- the member can vote for the proposal over that payload: it has its part of a fitting block, or it
+-- is the last block again
 abbrev pub is_ready : Rules → ℕ → State → Proposal → Commitment → Bool
-is_ready r id s p c = (has_own_row r id s p && is_payload_for r p c) || is_again r s.notes p c
+is_ready r id s p c = (has_part r id s p && is_payload_for r p c) || is_again r s.notes p c
+
+-- the member can vote for the proposal over what is settled for its parent view
+abbrev pub can_vote : Rules → ℕ → State → Proposal → Bool
+can_vote r id s p =
+    option_map_or (is_ready r id s p) (settled (genesis_commitment r) s.notes p.epoch p.parent)
+    false
 
 -- 6. a vote to notarize the leader's proposal of the member's view
 abbrev pub notarize_owed : Rules → ℕ → State → Proposal → Option Note
@@ -215,9 +236,7 @@ notarize_owed r id s p =
     when ((p.epoch == epoch_of s.notes) && (p.view == view_of s.notes p.epoch)
     && is_member r.epochs p.epoch id
     && list_any (is_single (leader r.epochs p.epoch p.view) (Notarize p)) s.came.ballots
-    && not (has_voted s.notes p.epoch p.view)
-    && option_map_or (is_ready r id s p) (settled (genesis_commitment r) s.notes p.epoch p.parent)
-    false
+    && not (has_voted s.notes p.epoch p.view) && can_vote r id s p
     && all_nullified s.notes p.epoch p.parent p.view)
     (Note.Vote (Notarize p))
 

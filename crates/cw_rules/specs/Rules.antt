@@ -1,5 +1,5 @@
 -- What the rules of a cluster stand on, and what a block is committed to by.
-use Rattle.std.specs.Prelude.{ℕ, ◌%◌, ◌&&◌, ◌+◌, ◌==◌, Bool, List, Option, length, map, nat_lt, option_and_then}
+use Rattle.std.specs.Prelude.{ℕ, ◌%◌, ◌&&◌, ◌==◌, Bool, List, Option, false, length, map, nat_lt, option_and_then, true}
 use Rattle.std.specs.List.{enumerate_from}
 use Rattle.cw_base.specs.Counts.{Counts}
 use Rattle.cw_base.specs.declared.hash.Digest32.{Digest32}
@@ -11,13 +11,22 @@ use Rattle.cw_types.specs.declared.block.Context.{Context}
 use Rattle.cw_types.specs.declared.commitment.Commitment.{Commitment}
 use Rattle.cw_coding.specs.Totals.{total_of}
 use Rattle.cw_types.specs.Commit as first
+use Rattle.cw_rules.specs.declared.travel.Travel.{Travel}
+use Rattle.cw_rules.specs.declared.travel.Travel.TheVariants.{Chunked, Uncut}
 
 -- a row of a codeword, with its place and its way up in the tree
 abbrev pub Chunk : Type 0
 Chunk = Piece Digest32
 
+-- blocks travel in chunks
+abbrev pub is_chunked : Travel → Bool
+is_chunked Chunked = true
+is_chunked Uncut = false
+
 -- what lies below the rules, none of which they look into
 pub record Rules : Type 0 where
+  -- how blocks travel
+  pub travel : Travel
   -- who the members are, epoch by epoch, and how many blocks may be pending
   pub epochs : Epochs
   pub backlog : ℕ
@@ -38,9 +47,10 @@ pub record Rules : Type 0 where
   -- the application accepts the first block over the second
   pub accepts : Block → Block → Bool
 
--- the same below, for other members, another backlog and another application
-abbrev pub among : Rules → Epochs → ℕ → (Block → Block → Bool) → Rules
-among r epochs backlog accepts = record {
+-- the same below, where blocks travel so, for other members, another backlog and another application
+abbrev pub among : Rules → Travel → Epochs → ℕ → (Block → Block → Bool) → Rules
+among r travel epochs backlog accepts = record {
+  travel = travel;
   epochs = epochs;
   backlog = backlog;
   hash = r.hash;
@@ -55,9 +65,14 @@ among r epochs backlog accepts = record {
   accepts = accepts;
 }
 
+-- the config of a block among n members: a chunk for each, or that of a text that isn't cut
+abbrev pub config_among : Travel → ℕ → Counts
+config_among Chunked n = config_for n
+config_among Uncut n = first.uncut
+
 -- the config of an epoch
 abbrev pub config : Rules → ℕ → Counts
-config r epoch = config_for (size r.epochs epoch)
+config r epoch = config_among r.travel (size r.epochs epoch)
 
 -- the rows of the codeword of a text under a config
 abbrev pub rows_under : Rules → Counts → List ℕ → List (List ℕ)
@@ -96,12 +111,17 @@ block_of r x chunks = option_and_then r.read_block (r.text_of x chunks)
 abbrev pub digest : Rules → Block → Digest32
 digest r b = r.hash (r.block_bytes b)
 
--- what names a block: its digest, the root of its chunks, the digest of its context, and its config
+-- the root that names a block: that of the tree over its rows, or its digest where it isn't cut
+abbrev pub root_by : Travel → Rules → Block → Digest32
+root_by Chunked r b = r.root (map r.hash (rows_of r b))
+root_by Uncut r b = digest r b
+
+-- what names a block: its digest, its root, the digest of its context, and its config
 abbrev pub commit : Rules → Block → Commitment
 commit r b =
     record {
       block = digest r b;
-      root = r.root (map r.hash (rows_of r b));
+      root = root_by r.travel r b;
       context = r.hash (r.context_bytes b.context);
       config = config r b.context.epoch;
     }

@@ -3,6 +3,7 @@ use Rattle.std.specs.Prelude.{[], ℕ, ◌&&◌, ◌++◌, ◌==◌, ◌∷◌, 
 use Rattle.std.specs.List.{list_any}
 use Rattle.std.specs.Option.{option_map_or}
 use Rattle.cw_base.specs.Config.{same_counts}
+use Rattle.cw_types.specs.Block.{Block}
 use Rattle.cw_types.specs.Epochs.{members_in, place}
 use Rattle.cw_types.specs.Same.{same_commitment}
 use Rattle.cw_types.specs.Votes.{proposal_of}
@@ -17,6 +18,8 @@ use Rattle.cw_rules.specs.Accepted.{Came, Row, State, first_some, is_chunk_of, s
 use Rattle.cw_rules.specs.Held.{finalization_of, held, next, noted_block_of}
 use Rattle.cw_rules.specs.Notes.{epoch_of, has_block}
 use Rattle.cw_rules.specs.Rules.{Chunk, Rules, chunks, commit, config, genesis_commitment}
+use Rattle.cw_rules.specs.declared.travel.Travel.{Travel}
+use Rattle.cw_rules.specs.declared.travel.Travel.TheVariants.{Chunked, Uncut}
 
 -- the message to every member
 abbrev pub to_all : Message → Out
@@ -29,12 +32,17 @@ chunk_out id list c x =
     (λ j. record { to = if j == id then To.All else To.One j; message = Message.Shard c x })
     (slice_get list x.index)
 
+-- how the block of an epoch goes to its members: each chunk to the member at its place, or the whole
+-- block to all
+abbrev pub block_sends : Travel → Rules → ℕ → ℕ → Block → List Out
+block_sends Chunked r id epoch b =
+    filter_map (chunk_out id (members_in r.epochs epoch) (commit r b)) (chunks r b)
+block_sends Uncut r id epoch b = to_all (Message.Block b) ∷ []
+
 -- what a note sends
 abbrev pub note_sends : Rules → ℕ → List Note → Note → List Out
 note_sends r id notes (Note.Verified epoch view c) =
-    option_map_or
-    (λ b. filter_map (chunk_out id (members_in r.epochs epoch) (commit r b)) (chunks r b))
-    (first_some (noted_block_of c) notes) []
+    option_map_or (block_sends r.travel r id epoch) (first_some (noted_block_of c) notes) []
 note_sends r id notes (Note.Vote v) = to_all (Message.Vote id v) ∷ []
 note_sends r id notes (Note.Cert s) = to_all (Message.Cert s) ∷ []
 note_sends r id notes _ = []

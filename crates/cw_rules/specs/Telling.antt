@@ -1,11 +1,11 @@
 -- When the bytes of a block tell it, and what a script may bring in.
-use Rattle.std.specs.Prelude.{ℕ, ⊤, ◌≡◌, ◌≤◌, List, Some, map}
+use Rattle.std.specs.Prelude.{ℕ, ⊤, ◌<◌, ◌^◌, ◌≡◌, ◌≤◌, List, Some, map}
 use Rattle.cw_base.specs.Counts.{Counts}
 use Rattle.cw_types.specs.Block.{Block}
 use Rattle.cw_types.specs.Values.{IsBlock, IsDigest, IsPayload}
 use Rattle.cw_rules.specs.Coding.{AreBytes}
 use Rattle.cw_rules.specs.Rules.{Chunk, Rules, block_of}
-use Rattle.cw_rules.specs.World.{Ask, Cut, Do, Fault, Faulty, Line, Propose, Raw}
+use Rattle.cw_rules.specs.World.{Ask, Cut, Do, Fault, Faulty, Line, Offer, Propose, Raw}
 
 -- the bytes of a block that can be written tell it
 pub record TellsBlocks (r : Rules) : Type 0 where
@@ -25,8 +25,9 @@ abbrev pub FitsAsk : Ask → Type 0
 FitsAsk (Propose payload) = IsPayload payload
 FitsAsk _ = ⊤
 
--- raw bytes are bytes
+-- a block that is offered has a view of eight bytes, and a payload that fits; raw bytes are bytes
 abbrev pub FitsFault : Fault → Type 0
+FitsFault (Offer view payload) = (view < 2 ^ 64) × IsPayload payload
 FitsFault (Raw bytes) = AreBytes bytes
 FitsFault _ = ⊤
 

@@ -1,9 +1,8 @@
 -- A cluster: its members, the messages that were sent, and what each line of a script does.
-use Rattle.std.specs.Prelude.{[], ℕ, ◌&&◌, ◌++◌, ◌+◌, ◌==◌, ◌||◌, ◌∷◌, Bool, List, None, Option, Some, false, filter_map, if◌then◌else◌, is_none, is_some, length, map, option_and_then, option_map, slice_get, slice_set, true}
+use Rattle.std.specs.Prelude.{[], ℕ, ◌&&◌, ◌++◌, ◌+◌, ◌==◌, ◌||◌, ◌∷◌, Bool, List, None, Option, Some, false, if◌then◌else◌, is_none, is_some, length, map, option_and_then, option_map, slice_get, slice_set, true}
 use Rattle.std.specs.List.{list_any, range_with_len}
 use Rattle.std.specs.Option.{option_map_or}
 use Rattle.cw_types.specs.Block.{Block}
-use Rattle.cw_types.specs.Epochs.{members_in}
 use Rattle.cw_types.specs.Reading.{message_of}
 use Rattle.cw_types.specs.Same.{same_vote}
 use Rattle.cw_types.specs.Votes.{finalized, proposal_of}
@@ -15,8 +14,8 @@ use Rattle.cw_types.specs.declared.vote.Proposal.{Proposal}
 use Rattle.cw_types.specs.declared.vote.Vote.{Vote}
 use Rattle.cw_types.specs.declared.vote.Vote.TheVariants.{Finalize, Notarize, Nullify}
 use Rattle.cw_rules.specs.Fits.{context_for}
-use Rattle.cw_rules.specs.Rules.{Rules, chunks, commit, digest, genesis, genesis_commitment}
-use Rattle.cw_rules.specs.Sends.{chunk_out, to_all}
+use Rattle.cw_rules.specs.Rules.{Rules, commit, digest, genesis, genesis_commitment}
+use Rattle.cw_rules.specs.Sends.{block_sends, to_all}
 use Rattle.cw_rules.specs.Step.{Member, Stepped, cut_step, start, step}
 
 -- a message that was sent, numbered from 0
@@ -126,7 +125,7 @@ fault_sends r w a (Offer view payload) =
       height = 1;
       payload = payload;
     } in
-    filter_map (chunk_out a (members_in r.epochs 0) (commit r b)) (chunks r b)
+    block_sends r.travel r a 0 b
     ++ to_all (Message.Vote a (Notarize (record {
       epoch = 0;
       view = view;

@@ -7,37 +7,42 @@ ghost use Rattle.std.specs.List.{AllByRecursion, range_with_len};
 ghost use Rattle.cw_types.specs.declared.commitment.Commitment.{Commitment};
 ghost use Rattle.cw_types.specs.declared.event.Event.{Event};
 ghost use Rattle.cw_types.specs.declared.event.Handed.{Handed};
+ghost use Rattle.cw_types.specs.declared.message.Message.{Message};
 ghost use Rattle.cw_types.specs.declared.note.Note.{Note};
 ghost use Rattle.cw_types.specs.declared.vote.Cert.{Cert};
 ghost use Rattle.cw_types.specs.declared.vote.Proposal.{Proposal};
 ghost use Rattle.cw_types.specs.declared.vote.Vote.{Vote};
 ghost use Rattle.cw_types.specs.Epochs.{Epochs, is_last, is_within, leader, members_in, single};
 ghost use Rattle.cw_types.specs.Epochs.{size};
-ghost use Rattle.cw_rules.specs.Accepted.{Came, State, first_some, is_valid};
+ghost use Rattle.cw_rules.specs.Accepted.{Came, State, Whole, accepted, first_some, is_valid};
 ghost use Rattle.cw_rules.specs.Chains.{Clashes, Ends, outcome};
 ghost use Rattle.cw_rules.specs.Fits.{block_fits};
-ghost use Rattle.cw_rules.specs.Held.{at_height, held, next, pending, row_of, shown, whole_of};
+ghost use Rattle.cw_rules.specs.Held.{at_height, first_chunks, held, next, pending, row_of, shown};
+ghost use Rattle.cw_rules.specs.Held.{whole_of};
 ghost use Rattle.cw_rules.specs.Keeps.{AreAlong, IsCertifiedIn, IsGreatest, IsRising, IsSound};
 ghost use Rattle.cw_rules.specs.Keeps.{Keeps, KeepsBy, Meaning};
 ghost use Rattle.cw_rules.specs.Notes.{epoch_of, has_vote};
-ghost use Rattle.cw_rules.specs.Owed.{epoch_owed, owed};
+ghost use Rattle.cw_rules.specs.Owed.{epoch_owed, is_known, notarize_owed, owed};
 ghost use Rattle.cw_rules.specs.Reached.{AllAnchored, AllNamed, GoesDown, In, IsClash, IsCluster};
 ghost use Rattle.cw_rules.specs.Reached.{IsMemberKept, IsOneChain, IsReported, OnlyGrows, Reaches};
 ghost use Rattle.cw_rules.specs.Reached.{ReachesClear, members_of};
 ghost use Rattle.cw_rules.specs.Report.{handed_in, report_of};
-ghost use Rattle.cw_rules.specs.Rules.{Rules, among, chunks, commit, is_under};
+ghost use Rattle.cw_rules.specs.Rules.{Chunk, Rules, among, chunks, commit, genesis_commitment};
+ghost use Rattle.cw_rules.specs.Rules.{is_under};
+ghost use Rattle.cw_rules.specs.declared.travel.Travel.{Travel};
+ghost use Rattle.cw_rules.specs.declared.travel.Travel.TheVariants.{Chunked, Uncut};
 ghost use Rattle.cw_coding.specs.Totals.{total_of};
 ghost use Rattle.cw_rules.specs.Stands.{AreKept, AreLawful, Descends, EachAfter, Members, Stands};
-ghost use Rattle.cw_rules.specs.Sends.{finalization_at};
+ghost use Rattle.cw_rules.specs.Sends.{finalization_at, own_chunk};
 ghost use Rattle.cw_rules.specs.Step.{Member, Wanted, deliveries, delivery, found, left_to_hand};
 ghost use Rattle.cw_rules.specs.Step.{marks, settle, step_notes, taken_came, with_given};
 ghost use Rattle.cw_rules.specs.Step.{with_handed, with_notes};
 ghost use Rattle.cw_rules.specs.Telling.{FitsLine, TellsBlocks};
 ghost use Rattle.cw_rules.specs.World.{Line, World, happens, opening, signed};
-ghost use Rattle.cw_rules.specs.Coding.{AreApart, AreByteChunks, IsCoder, IsCodeword, first_chunks};
+ghost use Rattle.cw_rules.specs.Coding.{AreApart, AreByteChunks, IsCoder, IsCodeword};
 ghost use Rattle.cw_types.specs.Block.{Block};
 
-use cw_types::{Commitment, Event, Handed, Note, Proposal, Vote};
+use cw_types::{Commitment, Event, Handed, Message, Note, Proposal, Vote};
 
 /// Among members of whom at most f of each epoch are faulty, and the others honest, what stands is
 /// one chain in each epoch. What it means that the block of a proposal fits is left open, so a
@@ -233,26 +238,26 @@ pub fn bound_laws()
         → (b : Block) → held r notes c ≡ Some b → b.height ≡ height }
 {}
 
-/// What a store of blocks answers, by its notes alone: neither the members of the epochs nor the
-/// application make a difference, nor does what came.
+/// What a store of blocks answers, by its notes alone: neither how blocks travel nor the members of
+/// the epochs nor the application make a difference, nor does what came.
 pub fn store_laws()
     // what stands at a height
-    ensures height { (r : Rules) (x : Epochs) (backlog : ℕ) (accepts : Block → Block → Bool)
+    ensures height { (r : Rules) (t : Travel) (x : Epochs) (backlog : ℕ) (accepts : Block → Block → Bool)
         → (notes : List Note) (height : ℕ)
-        → at_height (among r x backlog accepts) notes height ≡ at_height r notes height }
+        → at_height (among r t x backlog accepts) notes height ≡ at_height r notes height }
     // the first finalization of a height
-    ensures finalization { (r : Rules) (x : Epochs) (backlog : ℕ) (accepts : Block → Block → Bool)
+    ensures finalization { (r : Rules) (t : Travel) (x : Epochs) (backlog : ℕ) (accepts : Block → Block → Bool)
         → (notes : List Note) (height : ℕ)
-        → first_some (finalization_at (among r x backlog accepts) notes height) notes
+        → first_some (finalization_at (among r t x backlog accepts) notes height) notes
         ≡ first_some (finalization_at r notes height) notes }
     // what a ticket waits for
-    ensures found { (r : Rules) (x : Epochs) (backlog : ℕ) (accepts : Block → Block → Bool)
+    ensures found { (r : Rules) (t : Travel) (x : Epochs) (backlog : ℕ) (accepts : Block → Block → Bool)
         → (notes : List Note) (w : Wanted)
-        → found (among r x backlog accepts) notes w ≡ found r notes w }
+        → found (among r t x backlog accepts) notes w ≡ found r notes w }
     // what is handed out, with one backlog
-    ensures handed { (r : Rules) (x : Epochs) (accepts : Block → Block → Bool)
+    ensures handed { (r : Rules) (t : Travel) (x : Epochs) (accepts : Block → Block → Bool)
         → (notes : List Note) (came others : Came) (given : List ℕ)
-        → deliveries (among r x r.backlog accepts)
+        → deliveries (among r t x r.backlog accepts)
         (record { notes = notes; came = came; given = given })
         ≡ deliveries r (record { notes = notes; came = others; given = given }) }
 {}
@@ -265,7 +270,7 @@ pub fn coding_laws()
         → (c : Commitment) → AreApart (filter_map (row_of c) (taken_came r signed came e).parts) }
     // where no whole block came, a commitment is shown as exactly the block of whose codeword its
     // first k chunks are rows
-    ensures shown { (r : Rules) → IsCoder r
+    ensures shown { (r : Rules) → r.travel ≡ Chunked → IsCoder r
         → (came : Came) (c : Commitment) (b : Block) → 0 < c.config.minimum
         → total_of c.config ≤ 65535
         → ((d : Commitment) → AreApart (filter_map (row_of d) came.parts))
@@ -273,6 +278,29 @@ pub fn coding_laws()
         → first_some (whole_of r c) came.parts ≡ None
         → (shown r came c ≡ Some b) ↔ IsCodeword r c (first_chunks came c) b }
     // each chunk that a block is cut in stands under its commitment
-    ensures cut { (r : Rules) → IsCoder r
+    ensures cut { (r : Rules) → r.travel ≡ Chunked → IsCoder r
         → (b : Block) → AllByRecursion (λ x. IsTrue (is_under r (commit r b) x)) (chunks r b) }
+{}
+
+/// Where blocks travel whole, chunks count for nothing: what is shown came whole, and a member votes
+/// for no block that it never saw.
+pub fn uncut_laws()
+    // a chunk that comes changes nothing
+    ensures untaken { (r : Rules) → r.travel ≡ Uncut
+        → (signed : ℕ → Vote → Bool) (came : Came) (c : Commitment) (x : Chunk)
+        → accepted r signed came (Message.Shard c x) ≡ came }
+    // and none is passed on
+    ensures unpassed { (r : Rules) → r.travel ≡ Uncut
+        → (id epoch : ℕ) (came : Came) (e : Event) → own_chunk r id epoch came e ≡ [] }
+    // what is shown came whole, and is committed to so
+    ensures shown { (r : Rules) → r.travel ≡ Uncut
+        → (came : Came) (c : Commitment) (b : Block) → shown r came c ≡ Some b
+        → In (Whole b) came.parts × (commit r b ≡ c) }
+    // genesis' commitment is shown as nothing
+    ensures genesis { (r : Rules) → r.travel ≡ Uncut
+        → (came : Came) → shown r came (genesis_commitment r) ≡ None }
+    // the payload of a vote to notarize that is owed is shown or held
+    ensures seen { (r : Rules) → r.travel ≡ Uncut
+        → (id : ℕ) (s : State) (p : Proposal) (note : Note) → notarize_owed r id s p ≡ Some note
+        → IsTrue (is_known r s p.payload) }
 {}

@@ -6,8 +6,10 @@
 #![tactic(auto)]
 
 mod laws;
+mod travel;
 
 pub use laws::{
     bound_laws, chain_laws, clash_laws, cluster_laws, coding_laws, epoch_laws, line_laws,
-    member_laws, one_chain, owed_laws, report_laws, single_laws, store_laws,
+    member_laws, one_chain, owed_laws, report_laws, single_laws, store_laws, uncut_laws,
 };
+pub use travel::Travel;

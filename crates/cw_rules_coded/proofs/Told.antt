@@ -13,9 +13,10 @@ use Rattle.cw_types.specs.Values.{IsBlock, IsDigest}
 use Rattle.cw_types.proofs.FormatLaws.{block_again, block_found}
 use Rattle.cw_rules.specs.Rules.{Chunk, block_of}
 use Rattle.cw_rules.specs.Telling.{TellsBlocks}
+use Rattle.cw_rules.specs.declared.travel.Travel.{Travel}
 use Rattle.cw_rules.proofs.Lists.{and_then_some}
 use Rattle.cw_rules.proofs.Written.{bytes_by_place}
-use Rattle.cw_rules_coded.specs.Coded.{coded, decoded, root_over}
+use Rattle.cw_rules_coded.specs.Coded.{decoded, root_over, ruled}
 use Rattle.cw_rules_coded.proofs.RealCoder.{decoded_sound}
 
 -- two blocks that can be written are one where their bytes are
@@ -24,10 +25,10 @@ told_apart a b one other same =
     same_Some a b (sym (block_again a one) ∙ (ap block_in same ∙ block_again b other))
 
 -- what chunks show can be written
-shown_written : (hash : List ℕ → Digest32) (epochs : Epochs) (backlog : ℕ)
+shown_written : (travel : Travel) (hash : List ℕ → Digest32) (epochs : Epochs) (backlog : ℕ)
     (accepts : Block → Block → Bool) (x : Counts) (chunks : List Chunk) (b : Block)
-    → block_of (coded hash epochs backlog accepts) x chunks ≡ Some b → IsBlock b
-shown_written hash epochs backlog accepts x chunks b h =
+    → block_of (ruled travel hash epochs backlog accepts) x chunks ≡ Some b → IsBlock b
+shown_written travel hash epochs backlog accepts x chunks b h =
     let (text, is, read) = and_then_some block_in (decoded x chunks) b h in
     let (enough, is_text, rows) = decoded_sound x chunks text is in
     (block_found text b (bytes_by_place text is_text.0) read).1
@@ -44,13 +45,13 @@ root_sized hash sized ds =
     go None = refl
     go (Some top) = sized _
 
-pub tells_blocks : (hash : List ℕ → Digest32) (epochs : Epochs) (backlog : ℕ)
+pub tells_blocks : (travel : Travel) (hash : List ℕ → Digest32) (epochs : Epochs) (backlog : ℕ)
     (accepts : Block → Block → Bool)
     → ((bytes : List ℕ) → IsDigest (hash bytes)) → epochs.total ≤ 65535
-    → TellsBlocks (coded hash epochs backlog accepts)
-tells_blocks hash epochs backlog accepts sized few = record {
+    → TellsBlocks (ruled travel hash epochs backlog accepts)
+tells_blocks travel hash epochs backlog accepts sized few = record {
   blocks = told_apart;
-  shown = shown_written hash epochs backlog accepts;
+  shown = shown_written travel hash epochs backlog accepts;
   digests = sized;
   roots = λ rows. root_sized hash sized (map hash rows);
   members = few;

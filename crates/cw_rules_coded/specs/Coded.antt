@@ -19,6 +19,8 @@ use Rattle.cw_types.specs.Epochs.{Epochs}
 use Rattle.cw_types.specs.Reading.{block_in}
 use Rattle.cw_types.specs.Same.{same_digest}
 use Rattle.cw_rules.specs.Rules.{Chunk, Rules}
+use Rattle.cw_rules.specs.declared.travel.Travel.{Travel}
+use Rattle.cw_rules.specs.declared.travel.Travel.TheVariants.{Chunked, Uncut}
 use Rattle.cw_coding.specs.Totals.{total_of}
 
 -- the k + m rows of a text's codeword
@@ -78,9 +80,11 @@ if_codeword x chunks text =
 abbrev pub decoded : Counts → List Chunk → Option (List ℕ)
 decoded x chunks = if_codeword x chunks (text_in (originals x.minimum chunks))
 
--- the rules over a hash, with these committees, this backlog and this application
-abbrev pub coded : (List ℕ → Digest32) → Epochs → ℕ → (Block → Block → Bool) → Rules
-coded hash epochs backlog accepts = record {
+-- the rules over a hash, for blocks that travel so, with these committees, this backlog and this
+-- application
+abbrev pub ruled : Travel → (List ℕ → Digest32) → Epochs → ℕ → (Block → Block → Bool) → Rules
+ruled travel hash epochs backlog accepts = record {
+  travel = travel;
   epochs = epochs;
   backlog = backlog;
   hash = hash;
@@ -94,3 +98,11 @@ coded hash epochs backlog accepts = record {
   read_block = block_in;
   accepts = accepts;
 }
+
+-- for blocks that travel in chunks
+abbrev pub coded : (List ℕ → Digest32) → Epochs → ℕ → (Block → Block → Bool) → Rules
+coded hash epochs backlog accepts = ruled Chunked hash epochs backlog accepts
+
+-- for blocks that travel whole
+abbrev pub uncut : (List ℕ → Digest32) → Epochs → ℕ → (Block → Block → Bool) → Rules
+uncut hash epochs backlog accepts = ruled Uncut hash epochs backlog accepts

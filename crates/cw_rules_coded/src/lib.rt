@@ -4,14 +4,15 @@
 ghost use Rattle.std.specs.Prelude.{◌≡◌, ◌≤◌, ℕ, Bool, List, Option, Some, length, replicate};
 ghost use Rattle.cw_base.specs.declared.hash.Digest32.{Digest32};
 ghost use Rattle.cw_types.specs.Block.{Block};
-ghost use Rattle.cw_types.specs.Encoding.{block_bytes};
+ghost use Rattle.cw_types.specs.Encoding.{block_bytes, context_bytes};
 ghost use Rattle.cw_types.specs.Commit as types;
 ghost use Rattle.cw_types.specs.Epochs.{Epochs, size};
 ghost use Rattle.cw_types.specs.Values.{IsBlock};
 ghost use Rattle.cw_rules.specs.Coding.{IsCoder};
 ghost use Rattle.cw_rules.specs.Rules.{chunks, commit, config, digest, genesis};
 ghost use Rattle.cw_rules.specs.Telling.{TellsBlocks};
-ghost use Rattle.cw_rules_coded.specs.Coded.{coded};
+ghost use Rattle.cw_rules.specs.declared.travel.Travel.{Travel};
+ghost use Rattle.cw_rules_coded.specs.Coded.{coded, ruled, uncut};
 ghost use Rattle.cw_rules_coded.specs.Sums.{hi_block, summed};
 ghost use Rattle.cw_tree.specs.Widths.{shard_len};
 
@@ -33,9 +34,16 @@ pub fn coded_laws()
     prove_rows();
 }
 
-/// The bytes of a block tell it under these rules, by any hasher: two blocks that can be written
-/// have different bytes, what chunks show is such a block, and digests and roots have thirty-two
-/// bytes. With this the laws of cw_rules that ask for `TellsBlocks` hold of a real cluster.
+/// The bytes of a block tell it under these rules, by any hasher and however blocks travel: two
+/// blocks that can be written have different bytes, what chunks show is such a block, and digests and
+/// roots have thirty-two bytes. With this the laws of cw_rules that ask for `TellsBlocks` hold of a
+/// real cluster.
+pub fn ruled_tells<H: Hasher<Digest = Digest32>>()
+    ensures { (travel : Travel) (epochs : Epochs) (backlog : ℕ) (accepts : Block → Block → Bool)
+        → epochs.total ≤ 65535 → TellsBlocks (ruled travel H.digest_of epochs backlog accepts) }
+{}
+
+/// The same where blocks travel in chunks.
 pub fn coded_tells<H: Hasher<Digest = Digest32>>()
     ensures { (epochs : Epochs) (backlog : ℕ) (accepts : Block → Block → Bool)
         → epochs.total ≤ 65535 → TellsBlocks (coded H.digest_of epochs backlog accepts) }
@@ -44,7 +52,8 @@ pub fn coded_tells<H: Hasher<Digest = Digest32>>()
 /// The commitment and the chunks of a block among the members of its epoch are those of these
 /// rules, whatever the backlog and the application: what `cw_types::commit` and
 /// `commit_with_chunks` give for the size of the committee of the block's epoch is what the rules
-/// ask for.
+/// ask for. A block that travels whole is committed to by its digest twice, its context's digest and
+/// the config of a text that isn't cut.
 pub fn commits_by_rules()
     ensures commit { (hash : List ℕ → Digest32) (epochs : Epochs) (backlog : ℕ) (accepts : Block
         → Block → Bool) (b : Block)
@@ -54,6 +63,14 @@ pub fn commits_by_rules()
         → Block → Bool) (b : Block)
         → types.block_chunks hash (size epochs b.context.epoch) b ≡ chunks
         (coded hash epochs backlog accepts) b }
+    ensures whole { (hash : List ℕ → Digest32) (epochs : Epochs) (backlog : ℕ) (accepts : Block
+        → Block → Bool) (b : Block)
+        → commit (uncut hash epochs backlog accepts) b ≡ record {
+          block = hash (block_bytes b);
+          root = hash (block_bytes b);
+          context = hash (context_bytes b.context);
+          config = types.uncut;
+        } }
 {}
 
 /// Under the hash that adds up: the digests of genesis and of the block of view 1 with the payload

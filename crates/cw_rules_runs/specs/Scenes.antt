@@ -5,7 +5,8 @@ use Rattle.cw_types.specs.declared.event.Event.{Event}
 use Rattle.cw_types.specs.declared.event.TicketOut.{TicketOut}
 use Rattle.cw_types.specs.Block.{Block}
 use Rattle.cw_types.specs.Epochs.{Epochs, single}
-use Rattle.cw_rules.specs.Rules.{Rules, commit, digest, genesis, genesis_commitment}
+use Rattle.cw_rules.specs.Rules.{Rules, among, commit, digest, genesis, genesis_commitment}
+use Rattle.cw_rules.specs.declared.travel.Travel.TheVariants.{Uncut}
 use Rattle.cw_rules.specs.Report.{Entry, report_of}
 use Rattle.cw_rules.specs.Step.{Member, start, step}
 use Rattle.cw_rules.specs.World.{world_of, Line, Do, Cut, Restart, Faulty, Propose, Timeout, Deliver, Offer}
@@ -150,3 +151,33 @@ steps_from skipped r script =
 -- the heights of the links of a script's chain
 abbrev pub chain_heights : Rules → List Line → List ℕ
 chain_heights r script = map (λ b. b.height) (report_of r script (world_of r script)).chain
+
+-- ---- blocks that travel whole
+
+-- four members in one epoch without end, among whom blocks travel whole
+abbrev pub whole_four : Rules
+whole_four = among four Uncut (single 4) 3 four.accepts
+
+-- a block goes from member 1 to members 0 and 2, which vote for it
+abbrev pub whole_voted : List Line
+whole_voted =
+    Do 1 (Propose (104 ∷ 105 ∷ [])) ∷ Do 0 (Deliver 0) ∷ Do 0 (Deliver 1) ∷ Do 2 (Deliver 0)
+    ∷ Do 2 (Deliver 1) ∷ Do 0 (Deliver 3) ∷ []
+
+-- members 0, 1 and 2 vote to finalize it, and member 2 has the vote of member 0
+abbrev pub whole_certified : List Line
+whole_certified = whole_voted ++ Do 1 (Deliver 4) ∷ Do 2 (Deliver 4) ∷ Do 2 (Deliver 5) ∷ []
+
+-- and that of member 1
+abbrev pub whole_finalized : List Line
+whole_finalized = whole_certified ++ Do 2 (Deliver 7) ∷ []
+
+-- the same with that last line cut before anything is on the disk, and a restart
+abbrev pub whole_cut : List Line
+whole_cut = whole_certified ++ Cut 3 0 0 2 (Deliver 7) ∷ Restart 2 ∷ []
+
+-- member 1 is faulty and offers a block to all. Member 0 has its proposal and then the block, member
+-- 2 the block alone
+abbrev pub whole_offer : List Line
+whole_offer =
+    Faulty 1 (Offer 1 (61 ∷ [])) ∷ Do 0 (Deliver 1) ∷ Do 0 (Deliver 0) ∷ Do 2 (Deliver 0) ∷ []

@@ -16,6 +16,7 @@ use Rattle.cw_types.specs.Block.{Block}
 use Rattle.cw_types.specs.Epochs.{Epochs}
 use Rattle.cw_types.specs.Votes.{proposal_of}
 use Rattle.cw_rules.specs.Rules.{Chunk, Rules}
+use Rattle.cw_rules.specs.declared.travel.Travel.TheVariants.{Chunked}
 use Rattle.cw_rules.specs.Step.{member_notes}
 use Rattle.cw_rules.specs.World.{World, Sent}
 
@@ -45,6 +46,7 @@ toy_read blocks text = find (λ b. bytes_eq (toy_block_bytes b) text) blocks
 -- a cluster of these committees, with this hash, that knows these blocks by their bytes
 abbrev pub hashed_by : (List ℕ → Digest32) → Epochs → ℕ → List Block → Rules
 hashed_by hash epochs backlog blocks = record {
+  travel = Chunked;
   epochs = epochs;
   backlog = backlog;
   hash = hash;

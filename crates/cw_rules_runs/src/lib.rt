@@ -15,7 +15,9 @@ pub use random::{
 };
 pub use worked::{
     a_block_at_the_end_of_its_epoch_is_proposed_again, a_block_is_finalized, a_clash_ends_the_run,
-    a_cut_leaves_all_or_none, a_faulty_leader_offers_two_blocks, premises_met,
-    the_next_epochs_leader_proposes, three_epochs_follow_one_another, tickets_wait_for_blocks,
+    a_cut_leaves_all_or_none, a_faulty_leader_offers_two_blocks,
+    a_payload_that_was_not_seen_gets_no_vote, a_whole_block_is_finalized,
+    a_whole_block_is_notarized, premises_met, the_next_epochs_leader_proposes,
+    three_epochs_follow_one_another, tickets_wait_for_blocks,
     timeouts_and_a_block_in_the_next_view,
 };

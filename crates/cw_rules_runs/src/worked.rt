@@ -19,7 +19,8 @@ ghost use Rattle.cw_rules_runs.specs.Scenes.{adding, again, ascending, chain_hei
 ghost use Rattle.cw_rules_runs.specs.Scenes.{cut_run, descending, finalized_run, first_block, four};
 ghost use Rattle.cw_rules_runs.specs.Scenes.{fresh, next_epoch, proposed_next, short_epochs};
 ghost use Rattle.cw_rules_runs.specs.Scenes.{steps_from, three_epochs, tickets_of, timeouts};
-ghost use Rattle.cw_rules_runs.specs.Scenes.{two_committees, two_offers};
+ghost use Rattle.cw_rules_runs.specs.Scenes.{two_committees, two_offers, whole_cut};
+ghost use Rattle.cw_rules_runs.specs.Scenes.{whole_finalized, whole_four, whole_offer, whole_voted};
 
 /// Three timeouts, a nullification, and a block in the next view, which is not finalized.
 pub fn timeouts_and_a_block_in_the_next_view()
@@ -190,4 +191,41 @@ pub fn premises_met()
     ensures cluster { IsCluster two_committees three_epochs }
     ensures reached { ReachesClear two_committees three_epochs
         (world_of two_committees three_epochs) }
+{}
+
+/// Blocks travel whole: a block goes to all, and who has it and its leader's vote votes for it.
+pub fn a_whole_block_is_notarized()
+    ensures sent { told_from 0 (world_of whole_four whole_voted).pool
+        ≡ (1 ∷ 100 ∷ 5 ∷ 1 ∷ []) ∷ (1 ∷ 100 ∷ 1 ∷ 1 ∷ 0 ∷ 0 ∷ 1 ∷ 0 ∷ []) ∷
+        (0 ∷ 100 ∷ 1 ∷ 0 ∷ 0 ∷ 0 ∷ 1 ∷ 0 ∷ []) ∷ (2 ∷ 100 ∷ 1 ∷ 2 ∷ 0 ∷ 0 ∷ 1 ∷ 0 ∷ []) ∷
+        (0 ∷ 100 ∷ 2 ∷ 3 ∷ 0 ∷ 0 ∷ 1 ∷ 0 ∷ []) ∷ (0 ∷ 100 ∷ 1 ∷ 0 ∷ 2 ∷ 0 ∷ 1 ∷ 0 ∷ []) ∷ [] }
+    ensures entries { steps_from 0 whole_four whole_voted ≡ (2, None, 0 ∷ 1 ∷ [], []) ∷
+        (3, None, [], []) ∷ (4, None, 2 ∷ [], []) ∷ (5, None, [], []) ∷ (6, None, 3 ∷ [], []) ∷
+        (7, None, 4 ∷ 5 ∷ [], []) ∷ [] }
+    ensures counts { counts (world_of whole_four whole_voted) ≡ (5, 1) ∷ (3, 1) ∷ (2, 1) ∷ (0, 1)
+        ∷ [] }
+    ensures chain { chain_heights whole_four whole_voted ≡ 0 ∷ [] }
+{}
+
+/// It is finalized and handed out. Where the last step is cut, the member finds five notes, and sends
+/// its last certificate and its last vote again.
+pub fn a_whole_block_is_finalized()
+    ensures entries { steps_from 6 whole_four whole_finalized ≡ (8, None, 6 ∷ 7 ∷ [], []) ∷
+        (9, None, 8 ∷ 9 ∷ [], []) ∷ (10, None, [], []) ∷ (11, None, 10 ∷ [], 1 ∷ []) ∷ [] }
+    ensures counts { counts (world_of whole_four whole_finalized) ≡ (5, 1) ∷ (6, 1) ∷ (6, 2) ∷
+        (0, 1) ∷ [] }
+    ensures chain { chain_heights whole_four whole_finalized ≡ 0 ∷ 1 ∷ [] }
+    ensures cut { steps_from 9 whole_four whole_cut ≡ (11, None, [], []) ∷
+        (12, Some 5, 10 ∷ 11 ∷ [], 0 ∷ []) ∷ [] }
+    ensures cut_sent { told_from 10 (world_of whole_four whole_cut).pool
+        ≡ (2 ∷ 100 ∷ 2 ∷ 3 ∷ 0 ∷ 0 ∷ 1 ∷ 0 ∷ []) ∷ (2 ∷ 100 ∷ 1 ∷ 2 ∷ 2 ∷ 0 ∷ 1 ∷ 0 ∷ []) ∷ [] }
+{}
+
+/// A member votes for no payload that it never saw: with the proposal alone it waits for the block.
+pub fn a_payload_that_was_not_seen_gets_no_vote()
+    ensures entries { steps_from 0 whole_four whole_offer ≡ (2, None, 0 ∷ 1 ∷ [], []) ∷
+        (3, None, [], []) ∷ (4, None, 2 ∷ [], []) ∷ (5, None, [], []) ∷ [] }
+    ensures sent { told_from 0 (world_of whole_four whole_offer).pool
+        ≡ (1 ∷ 100 ∷ 5 ∷ 1 ∷ []) ∷ (1 ∷ 100 ∷ 1 ∷ 1 ∷ 0 ∷ 0 ∷ 1 ∷ 0 ∷ []) ∷
+        (0 ∷ 100 ∷ 1 ∷ 0 ∷ 0 ∷ 0 ∷ 1 ∷ 0 ∷ []) ∷ [] }
 {}

@@ -3,16 +3,16 @@ use Rattle.cw_rules.proofs.Stores.{at_same, deliveries_same, first_finalization,
 use Rattle.cw_rules.proofs.laws.store_laws.Goals as goal
 
 pub returns-clause-height : goal.returns-clause-height
-returns-clause-height c r x backlog accepts notes height =
-    ap (λ f. f height) (at_same r x accepts backlog notes)
+returns-clause-height c r t x backlog accepts notes height =
+    ap (λ f. f height) (at_same r t x accepts backlog notes)
 
 pub returns-clause-finalization : goal.returns-clause-finalization
-returns-clause-finalization c r x backlog accepts notes height =
-    first_finalization r x accepts backlog notes height
+returns-clause-finalization c r t x backlog accepts notes height =
+    first_finalization r t x accepts backlog notes height
 
 pub returns-clause-found : goal.returns-clause-found
-returns-clause-found c r x backlog accepts notes w = found_same r x accepts backlog notes w
+returns-clause-found c r t x backlog accepts notes w = found_same r t x accepts backlog notes w
 
 pub returns-clause-handed : goal.returns-clause-handed
-returns-clause-handed c r x accepts notes came others given =
-    deliveries_same r x accepts notes came others given
+returns-clause-handed c r t x accepts notes came others given =
+    deliveries_same r t x accepts notes came others given

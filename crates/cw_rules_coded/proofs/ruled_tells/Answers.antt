@@ -1,0 +1,9 @@
+use Rattle.cw_rules_coded.proofs.Told.{tells_blocks}
+use Rattle.cw_rules_coded.proofs.ruled_tells.Goals as goal
+
+pub returns : goal.returns
+returns g c =
+    let laws =
+    g.met.H.Hasher g.world.𝓛 g.world.𝓜 g.world.𝓡 ((λ s x. x), (λ x. x), (λ x. x), λ x. x) in
+    λ travel epochs backlog accepts few. tells_blocks travel g.H.Hasher.digest_of epochs backlog
+    accepts laws.sized few
