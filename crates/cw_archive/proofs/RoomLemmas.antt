@@ -23,18 +23,6 @@ used_newest w used kept h =
     ∙ (sum_by-append width h.others (h.newest ∷ [])
     ∙ (let e = h.wide in let f = h.counted in omega arith))
 
--- a chunk that was added is the newest
-pub newest_added : (kept : List KeptChunk) (c : Commitment) (x : Chunk)
-    → HasNewest (length x.shard) (used_of kept) (with_chunk kept c x)
-newest_added kept c x =
-    record {
-      others = kept;
-      newest = record { commitment = c; chunk = x };
-      is = refl;
-      wide = refl;
-      counted = refl;
-    }
-
 -- within the limit all stay
 pub all_stay : (limit : ℕ) (kept : List KeptChunk) → used_of kept ≤ limit
     → within_limit limit kept ≡ kept

@@ -167,8 +167,8 @@ module _ (r : Rules) (script : List Line) (tells : TellsBlocks r)
 
   -- ---- what is held
 
-  pub noted_can : (c : Commitment) (n : Note) (b : Block) → CanNote r n → noted_block_of c n ≡ Some b
-      → IsBlock b × IsCommitment c
+  pub noted_can : (c : Commitment) (n : Note) (b : Block) → CanNote r n
+      → noted_block_of c n ≡ Some b → IsBlock b × IsCommitment c
   noted_can c (Note.Block d x) b can h = go (cases_Bool (same_commitment c d))
     where
       go : (same_commitment c d ≡ true) ⊎ (same_commitment c d ≡ false) → IsBlock b × IsCommitment c

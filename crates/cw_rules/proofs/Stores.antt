@@ -1,5 +1,5 @@
--- What is held, reached, found and handed out asks neither for how blocks travel nor for the members
--- nor for the application, nor for what came.
+-- What is held, reached, found and handed out asks neither for how blocks travel nor for the
+-- members nor for the application, nor for what came.
 use Rattle.std.proofs.Common.{◌≡◌, ℕ, zero, suc, Bool, ◌==◌, if◌then◌else◌, nat_lt, List, [], ◌∷◌, ◌++◌, length, filter_map, Some, None, option_map, option_and_then, refl}
 use Rattle.std.specs.Option.{option_map_or}
 use Rattle.cw_base.specs.declared.hash.Digest32.{Digest32}

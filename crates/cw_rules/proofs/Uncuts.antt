@@ -1,4 +1,4 @@
--- Where blocks travel whole no chunk is taken or passed on, and what is shown or voted for was seen.
+-- Where blocks travel whole no chunk is taken or passed on, and what is voted for was seen.
 use Rattle.std.proofs.Common.{◌≡◌, ℕ, Bool, true, false, ◌&&◌, cond, not, nat_lt, List, [], ◌∷◌, length, Some, None, ◌==◌, IsTrue, is_some, refl, sym, ◌∙◌, ap, inl, inr, ◌⊎◌}
 use Rattle.std.specs.List.{list_any}
 use Rattle.std.specs.Option.{option_map_or}

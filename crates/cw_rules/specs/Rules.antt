@@ -47,7 +47,8 @@ pub record Rules : Type 0 where
   -- the application accepts the first block over the second
   pub accepts : Block → Block → Bool
 
--- the same below, where blocks travel so, for other members, another backlog and another application
+-- the same below, where blocks travel so, for other members, another backlog and another
+-- application
 abbrev pub among : Rules → Travel → Epochs → ℕ → (Block → Block → Bool) → Rules
 among r travel epochs backlog accepts = record {
   travel = travel;

@@ -32,7 +32,7 @@ chunk_out id list c x =
     (λ j. record { to = if j == id then To.All else To.One j; message = Message.Shard c x })
     (slice_get list x.index)
 
--- how the block of an epoch goes to its members: each chunk to the member at its place, or the whole
+-- how a block goes to the members of an epoch: each chunk to the one at its place, or the whole
 -- block to all
 abbrev pub block_sends : Travel → Rules → ℕ → ℕ → Block → List Out
 block_sends Chunked r id epoch b =

@@ -242,16 +242,19 @@ pub fn bound_laws()
 /// the epochs nor the application make a difference, nor does what came.
 pub fn store_laws()
     // what stands at a height
-    ensures height { (r : Rules) (t : Travel) (x : Epochs) (backlog : ℕ) (accepts : Block → Block → Bool)
+    ensures height { (r : Rules) (t : Travel) (x : Epochs) (backlog : ℕ)
+        (accepts : Block → Block → Bool)
         → (notes : List Note) (height : ℕ)
         → at_height (among r t x backlog accepts) notes height ≡ at_height r notes height }
     // the first finalization of a height
-    ensures finalization { (r : Rules) (t : Travel) (x : Epochs) (backlog : ℕ) (accepts : Block → Block → Bool)
+    ensures finalization { (r : Rules) (t : Travel) (x : Epochs) (backlog : ℕ)
+        (accepts : Block → Block → Bool)
         → (notes : List Note) (height : ℕ)
         → first_some (finalization_at (among r t x backlog accepts) notes height) notes
         ≡ first_some (finalization_at r notes height) notes }
     // what a ticket waits for
-    ensures found { (r : Rules) (t : Travel) (x : Epochs) (backlog : ℕ) (accepts : Block → Block → Bool)
+    ensures found { (r : Rules) (t : Travel) (x : Epochs) (backlog : ℕ)
+        (accepts : Block → Block → Bool)
         → (notes : List Note) (w : Wanted)
         → found (among r t x backlog accepts) notes w ≡ found r notes w }
     // what is handed out, with one backlog
@@ -282,8 +285,8 @@ pub fn coding_laws()
         → (b : Block) → AllByRecursion (λ x. IsTrue (is_under r (commit r b) x)) (chunks r b) }
 {}
 
-/// Where blocks travel whole, chunks count for nothing: what is shown came whole, and a member votes
-/// for no block that it never saw.
+/// Where blocks travel whole, chunks count for nothing: what is shown came whole, and a member
+/// votes for no block that it never saw.
 pub fn uncut_laws()
     // a chunk that comes changes nothing
     ensures untaken { (r : Rules) → r.travel ≡ Uncut

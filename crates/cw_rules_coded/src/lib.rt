@@ -35,9 +35,9 @@ pub fn coded_laws()
 }
 
 /// The bytes of a block tell it under these rules, by any hasher and however blocks travel: two
-/// blocks that can be written have different bytes, what chunks show is such a block, and digests and
-/// roots have thirty-two bytes. With this the laws of cw_rules that ask for `TellsBlocks` hold of a
-/// real cluster.
+/// blocks that can be written have different bytes, what chunks show is such a block, and digests
+/// and roots have thirty-two bytes. With this the laws of cw_rules that ask for `TellsBlocks` hold
+/// of a real cluster.
 pub fn ruled_tells<H: Hasher<Digest = Digest32>>()
     ensures { (travel : Travel) (epochs : Epochs) (backlog : ℕ) (accepts : Block → Block → Bool)
         → epochs.total ≤ 65535 → TellsBlocks (ruled travel H.digest_of epochs backlog accepts) }
@@ -52,8 +52,8 @@ pub fn coded_tells<H: Hasher<Digest = Digest32>>()
 /// The commitment and the chunks of a block among the members of its epoch are those of these
 /// rules, whatever the backlog and the application: what `cw_types::commit` and
 /// `commit_with_chunks` give for the size of the committee of the block's epoch is what the rules
-/// ask for. A block that travels whole is committed to by its digest twice, its context's digest and
-/// the config of a text that isn't cut.
+/// ask for. A block that travels whole is committed to by its digest twice, its context's digest
+/// and the config of a text that isn't cut.
 pub fn commits_by_rules()
     ensures commit { (hash : List ℕ → Digest32) (epochs : Epochs) (backlog : ℕ) (accepts : Block
         → Block → Bool) (b : Block)

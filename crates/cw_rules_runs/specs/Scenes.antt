@@ -176,8 +176,8 @@ whole_finalized = whole_certified ++ Do 2 (Deliver 7) ∷ []
 abbrev pub whole_cut : List Line
 whole_cut = whole_certified ++ Cut 3 0 0 2 (Deliver 7) ∷ Restart 2 ∷ []
 
--- member 1 is faulty and offers a block to all. Member 0 has its proposal and then the block, member
--- 2 the block alone
+-- member 1 is faulty and offers a block to all. Member 0 has its proposal and then the block,
+-- member 2 the block alone
 abbrev pub whole_offer : List Line
 whole_offer =
     Faulty 1 (Offer 1 (61 ∷ [])) ∷ Do 0 (Deliver 1) ∷ Do 0 (Deliver 0) ∷ Do 2 (Deliver 0) ∷ []

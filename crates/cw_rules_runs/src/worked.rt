@@ -207,8 +207,8 @@ pub fn a_whole_block_is_notarized()
     ensures chain { chain_heights whole_four whole_voted ≡ 0 ∷ [] }
 {}
 
-/// It is finalized and handed out. Where the last step is cut, the member finds five notes, and sends
-/// its last certificate and its last vote again.
+/// It is finalized and handed out. Where the last step is cut, the member finds five notes, and
+/// sends its last certificate and its last vote again.
 pub fn a_whole_block_is_finalized()
     ensures entries { steps_from 6 whole_four whole_finalized ≡ (8, None, 6 ∷ 7 ∷ [], []) ∷
         (9, None, 8 ∷ 9 ∷ [], []) ∷ (10, None, [], []) ∷ (11, None, 10 ∷ [], 1 ∷ []) ∷ [] }

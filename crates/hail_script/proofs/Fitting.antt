@@ -1,7 +1,9 @@
 -- What the lines of a script that is run bring in can be written.
-use Rattle.std.proofs.Common.{◌≡◌, ℕ, zero, suc, ◌+◌, ◌-◌, ◌*◌, ◌<◌, ◌≤◌, ◌==◌, ◌&&◌, Bool, true, false, nat_le, nat_lt, List, [], ◌∷◌, length, drop, map, Option, Some, None, Result, Ok, Err, refl, sym, ap, subst, ◌∙◌, arith}
+use Rattle.std.proofs.Common.{◌≡◌, ℕ, zero, suc, ◌+◌, ◌-◌, ◌*◌, ◌^◌, ◌<◌, ◌≤◌, ◌==◌, ◌&&◌, Bool, true, false, nat_le, nat_lt, List, [], ◌∷◌, length, drop, map, Option, Some, None, Result, Ok, Err, refl, sym, ap, subst, ◌∙◌, arith, ltb-true}
 use Rattle.std.specs.Prelude.{bytes_eq, codes, if◌then◌else◌, option_map}
 use Rattle.std.specs.List.{AllByRecursion, list_all}
+use Rattle.std.specs.Char.{is_ascii_digit}
+use Rattle.std.specs.Str.Parse.{digits_value}
 use Rattle.std.proofs.lemmas.Bool.Decides.{nat_tests}
 use Rattle.hex.specs.Hex.{decode_of, decode_pairs, digit_or_error, hex_digit_value, pair_value, value_at, ◌>>=◌}
 use Rattle.hex.specs.declared.error.FromHexError.{FromHexError}
@@ -99,14 +101,38 @@ field_bytes field =
     (ok_bytes (decode_of field)
     (if_bytes _ (Err OddLength) (decode_pairs 0 field) tt (pairs_bytes 0 field))))
 
--- ---- raw lines hold bytes
+-- ---- raw lines hold bytes, and offers a view of eight bytes
+
+-- a number that is read is below 2^64
+number_below : (field : List ℕ) (n : ℕ) → number field ≡ Some n → n < 2 ^ 64
+unfolding number
+number_below field n h =
+    go (nat_lt 0 (length field)) (list_all is_ascii_digit field) h
+  where
+    value : ℕ
+    value = digits_value 10 field
+
+    small : (t : Bool) → nat_lt value (2 ^ 64) ≡ t → (if t then Some value else None) ≡ Some n
+        → n < 2 ^ 64
+    small true e k =
+        let same : value ≡ n = cc in
+        subst (λ x. x < 2 ^ 64) same (ltb-true value (2 ^ 64) e)
+    small false e k = cc
+
+    go : (a b : Bool)
+        → (if a && (b && nat_lt value (2 ^ 64)) then Some value else None) ≡ Some n → n < 2 ^ 64
+    go true true k = small (nat_lt value (2 ^ 64)) refl k
+    go true false k = cc
+    go false b k = cc
 
 abbrev IsRaw : Line → Type 0
 IsRaw (Faulty i (Raw bytes)) = AreBytes bytes
+IsRaw (Faulty i (Offer view payload)) = view < 2 ^ 64
 IsRaw _ = Unit {0}
 
 abbrev RawFault : Option Fault → Type 0
 RawFault (Some (Raw bytes)) = AreBytes bytes
+RawFault (Some (Offer view payload)) = view < 2 ^ 64
 RawFault _ = Unit {0}
 
 abbrev RawLine : Option Line → Type 0
@@ -130,10 +156,11 @@ raw_fault : (o : Option (List ℕ)) → SomeBytes o → RawFault (option_map Raw
 raw_fault None h = tt
 raw_fault (Some bytes) h = h
 
-offered : (o : Option ℕ) (p : Option (List ℕ)) → RawFault (lines.offering o p)
-offered None p = tt
-offered (Some view) None = tt
-offered (Some view) (Some payload) = tt
+offered : (o : Option ℕ) (p : Option (List ℕ)) → ((n : ℕ) → o ≡ Some n → n < 2 ^ 64)
+    → RawFault (lines.offering o p)
+offered None p below = tt
+offered (Some view) None below = tt
+offered (Some view) (Some payload) below = below view refl
 
 fault_raw : (parts : List (List ℕ)) → RawFault (lines.fault_in parts)
 fault_raw [] = tt
@@ -146,7 +173,7 @@ fault_raw (word ∷ field ∷ []) =
     tt)))
 fault_raw (word ∷ view ∷ payload ∷ []) =
     if_fault (bytes_eq word (codes "offer")) (lines.offering (number view) (bytes_in payload)) None
-    (offered (number view) (bytes_in payload)) tt
+    (offered (number view) (bytes_in payload) (number_below view)) tt
 fault_raw (a ∷ b ∷ c ∷ d ∷ more) = tt
 
 faulting_raw : (member : Option ℕ) (fault : Option Fault) → RawFault fault
@@ -155,7 +182,7 @@ faulting_raw None fault h = tt
 faulting_raw (Some member) None h = tt
 faulting_raw (Some member) (Some (Raw bytes)) h = h
 faulting_raw (Some member) (Some Silent) h = tt
-faulting_raw (Some member) (Some (Offer view payload)) h = tt
+faulting_raw (Some member) (Some (Offer view payload)) h = h
 faulting_raw (Some member) (Some (Notarize_of n)) h = tt
 faulting_raw (Some member) (Some (Finalize_of n)) h = tt
 faulting_raw (Some member) (Some (Nullify_of n)) h = tt
@@ -264,7 +291,7 @@ line_fits (Do i ask) h raw = ask_fits ask h i
 line_fits (Cut call cut fill i ask) h raw = ask_fits ask h i
 line_fits (Restart i) h raw = tt
 line_fits (Faulty i Silent) h raw = tt
-line_fits (Faulty i (Offer view payload)) h raw = tt
+line_fits (Faulty i (Offer view payload)) h raw = (raw, short_of payload h)
 line_fits (Faulty i (Notarize_of n)) h raw = tt
 line_fits (Faulty i (Finalize_of n)) h raw = tt
 line_fits (Faulty i (Nullify_of n)) h raw = tt

@@ -1,8 +1,8 @@
 -- The verdict on a chunk that is kept.
-use Rattle.std.proofs.Common.{◌≡◌, ℕ, ◌+◌, ◌-◌, ◌≤◌, ◌==◌, true, false, if◌then◌else◌, IsTrue, List, [], ◌∷◌, ◌++◌, length, Option, sym, ◌∙◌, ap, subst, arith, ◌⊎◌, inl, inr, eq-eqb, eqb-true, length-append}
+use Rattle.std.proofs.Common.{◌≡◌, ℕ, ◌+◌, ◌-◌, ◌≤◌, ◌==◌, true, false, if◌then◌else◌, IsTrue, List, [], ◌∷◌, ◌++◌, length, Option, sym, ◌∙◌, ap, subst, arith, eq-eqb, length-append}
 use Rattle.std.specs.List.{AllByRecursion, list_any}
 use Rattle.std.specs.Option.{option_and_then}
-use Rattle.std.proofs.lemmas.Bool.{and_parts, cases_Bool, cond-false, cond-true}
+use Rattle.std.proofs.lemmas.Bool.{and_parts, cond-false, cond-true}
 use Rattle.cw_base.specs.Config.{same_counts}
 use Rattle.cw_base.specs.declared.hash.Digest32.{Digest32}
 use Rattle.cw_types.specs.Block.{Block}
@@ -14,6 +14,7 @@ use Rattle.cw_rules.specs.Rules.{Chunk, Rules, block_of, is_under}
 use Rattle.cw_coding.specs.Totals.{total_of}
 use Rattle.cw_types.specs.Numbers.{config_for}
 use Rattle.shards.specs.Enough.{AreEnough, AreUnder}
+use Rattle.cw_rules.specs.declared.travel.Travel.TheVariants.{Chunked}
 use Rattle.shards.specs.Kept.{AreTakenOnce, chunks_of, is_known, rules_of, with_chunk}
 use Rattle.shards.specs.Verdicts.{kept_verdict, of_shown, verdict}
 use Rattle.shards.specs.declared.pieces.KeptChunk.{KeptChunk}
@@ -60,12 +61,12 @@ enough_kept hash epochs kept c x are new taken some few n =
     }
 
 -- the verdict on the k-th chunk
-pub verdict_shown : (r : Rules) (kept : List KeptChunk) (c : Commitment) (x : Chunk)
-    (block : Option Block)
+pub verdict_shown : (r : Rules) → r.travel ≡ Chunked
+    → (kept : List KeptChunk) (c : Commitment) (x : Chunk) (block : Option Block)
     → 2 ≤ c.config.minimum → length (chunks_of c kept) ≡ c.config.minimum - 1
     → block ≡ option_and_then (if_committed r c) (block_of r c.config (chunks_of c kept ++ x ∷ []))
     → of_shown block ≡ kept_verdict r kept c x
-verdict_shown r kept c x block some n is =
+verdict_shown r cut kept c x block some n is =
     let long : length (chunks_of c (with_chunk kept c x)) ≡ c.config.minimum =
     ap length (chunks_with c kept x)
     ∙ omega (arith, length-append (chunks_of c kept) (x ∷ [])) in
@@ -75,21 +76,8 @@ verdict_shown r kept c x block some n is =
     (is
     ∙ (ap (λ xs. option_and_then (if_committed r c) (block_of r c.config xs))
     (sym (chunks_with c kept x))
-    ∙ sym (shown_kept r c (with_chunk kept c x) long)))
+    ∙ sym (shown_kept r cut c (with_chunk kept c x) long)))
     ∙ sym (cond-true (length (chunks_of c kept) + 1 == c.config.minimum) _ Kept last)
-
--- the verdict on another
-pub verdict_kept : (r : Rules) (kept : List KeptChunk) (c : Commitment) (x : Chunk)
-    → 2 ≤ c.config.minimum → (length (chunks_of c kept) ≡ c.config.minimum - 1 → ⊥)
-    → Kept ≡ kept_verdict r kept c x
-verdict_kept r kept c x some other =
-    go (cases_Bool (length (chunks_of c kept) + 1 == c.config.minimum))
-  where
-    go : ((length (chunks_of c kept) + 1 == c.config.minimum) ≡ true)
-        ⊎ ((length (chunks_of c kept) + 1 == c.config.minimum) ≡ false)
-        → Kept ≡ kept_verdict r kept c x
-    go (inl t) = absurd (other (let e = eqb-true _ _ t in omega arith))
-    go (inr f) = sym (cond-false (length (chunks_of c kept) + 1 == c.config.minimum) _ Kept f)
 
 -- the verdict on a chunk that isn't known and that the rules take
 pub verdict_taken : (r : Rules) (kept : List KeptChunk) (c : Commitment) (x : Chunk) (v : Verdict)

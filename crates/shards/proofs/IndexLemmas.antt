@@ -266,6 +266,3 @@ module _ (old new : ByCommitment) (c : Commitment) (x : Chunk) (put : HasAdded c
             (same_Some (chunks_by old c ++ x ∷ []) xs h)
             (omega (arith, length-append (chunks_by old c) (x ∷ [])))
         some d xs false h = are.some d xs h
-
-pub none_gathered : AreGathered [] []
-none_gathered = record { there = tt; found = λ c. refl; some = λ c xs e. cc e }

@@ -8,8 +8,9 @@ use Rattle.cw_types.specs.Same.{same_commitment}
 use Rattle.cw_types.specs.declared.commitment.Commitment.{Commitment}
 use Rattle.cw_rules.specs.Accepted.{first_some, is_chunk_of}
 use Rattle.cw_rules.specs.Coding.{AreApart}
-use Rattle.cw_rules.specs.Held.{if_committed, row_of, shown, whole_of}
+use Rattle.cw_rules.specs.Held.{if_committed, row_of, shown, shown_by, shown_by_rows, whole_of}
 use Rattle.cw_rules.specs.Rules.{Chunk, Rules, block_of}
+use Rattle.cw_rules.specs.declared.travel.Travel.TheVariants.{Chunked}
 use Rattle.shards.specs.Kept.{AreTakenOnce, came_of, chunks_of, is_known, part_of, with_chunk}
 use Rattle.shards.specs.declared.pieces.KeptChunk.{KeptChunk}
 use Rattle.cw_types.proofs.Same.{same_commitment-true}
@@ -34,20 +35,16 @@ none_whole r c [] = refl
 none_whole r c (k ∷ ks) = none_whole r c ks
 
 -- what k kept chunks show
-pub shown_kept : (r : Rules) (c : Commitment) (kept : List KeptChunk)
+pub shown_kept : (r : Rules) → r.travel ≡ Chunked → (c : Commitment) (kept : List KeptChunk)
     → length (chunks_of c kept) ≡ c.config.minimum →
     shown r (came_of kept) c
     ≡ option_and_then (if_committed r c) (block_of r c.config (chunks_of c kept))
-shown_kept r c kept enough =
-    ap
-    (λ o. option_or o
-    (option_and_then (if_committed r c)
-    (block_of r c.config
-    (take c.config.minimum (filter_map (row_of c) (map part_of kept))))))
-    (none_whole r c kept)
+shown_kept r cut c kept enough =
+    ap (λ t. shown_by t r (came_of kept) c) cut
+    ∙ (ap (λ o. option_or o (shown_by_rows r (came_of kept) c)) (none_whole r c kept)
     ∙ ap (λ xs. option_and_then (if_committed r c) (block_of r c.config xs))
     (ap (take c.config.minimum) (rows_kept c kept)
-    ∙ take_all c.config.minimum (chunks_of c kept) (omega (arith, enough)))
+    ∙ take_all c.config.minimum (chunks_of c kept) (omega (arith, enough))))
 
 -- one more chunk of the commitment, or of another
 pub chunks_more : (c : Commitment) (kept : List KeptChunk) (d : Commitment) (x : Chunk)

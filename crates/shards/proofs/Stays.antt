@@ -1,5 +1,5 @@
 -- What is kept shows what a member is shown, and what enough chunks show stays.
-use Rattle.std.proofs.Common.{◌≡◌, ℕ, zero, suc, ◌+◌, ◌≤◌, Bool, true, false, ◌==◌, if◌then◌else◌, List, [], ◌∷◌, ◌++◌, length, map, take, Option, Some, None, option_and_then, filter_map, refl, sym, ◌∙◌, ap, subst, arith, ◌<◌, ◌⊎◌, inl, inr, append-nil, eq-eqb, eqb-true, length-append}
+use Rattle.std.proofs.Common.{◌≡◌, ℕ, zero, suc, ◌+◌, ◌≤◌, Bool, true, false, ◌==◌, if◌then◌else◌, List, [], ◌∷◌, ◌++◌, length, take, Option, Some, None, option_and_then, filter_map, refl, sym, ◌∙◌, ap, subst, arith, ◌<◌, ◌⊎◌, inl, inr, append-nil, eq-eqb, eqb-true, length-append}
 use Rattle.std.specs.Option.{option_or}
 use Rattle.std.proofs.lemmas.Bool.{cases_Bool, cases_lt}
 use Rattle.std.proofs.lemmas.List.{take_all}
@@ -10,9 +10,10 @@ use Rattle.cw_types.specs.Same.{same_commitment}
 use Rattle.cw_types.specs.declared.commitment.Commitment.{Commitment}
 use Rattle.cw_rules.specs.Accepted.{Came, Part, Row, Whole, first_some, is_chunk_of}
 use Rattle.cw_rules.specs.Coding.{IsCoder}
-use Rattle.cw_rules.specs.Held.{if_committed, row_of, shown, whole_of}
+use Rattle.cw_rules.specs.Held.{if_committed, row_of, shown, shown_by, shown_by_rows, whole_of}
 use Rattle.cw_rules.specs.Rules.{Chunk, Rules, block_of}
-use Rattle.shards.specs.Kept.{Gathered, came_of, chunks_of, is_known, part_of, rules_of, with_chunk}
+use Rattle.cw_rules.specs.declared.travel.Travel.TheVariants.{Chunked}
+use Rattle.shards.specs.Kept.{Gathered, came_of, chunks_of, is_known, rules_of, with_chunk}
 use Rattle.shards.specs.Standing.{StandsFor, kept_of}
 use Rattle.shards.specs.Verdicts.{kept_after, of_shown, verdict}
 use Rattle.shards.specs.declared.pieces.KeptChunk.{KeptChunk}
@@ -23,19 +24,15 @@ use Rattle.shards.proofs.KeptLemmas.{chunks_more, none_whole, rows_kept}
 use Rattle.cw_types.proofs.Same.{same_commitment-true}
 
 -- what the first k chunks that are kept of a commitment show
-pub shown_first : (r : Rules) (kept : List KeptChunk) (c : Commitment)
+pub shown_first : (r : Rules) → r.travel ≡ Chunked → (kept : List KeptChunk) (c : Commitment)
     → shown r (came_of kept) c
     ≡ option_and_then (if_committed r c)
     (block_of r c.config (take c.config.minimum (chunks_of c kept)))
-shown_first r kept c =
-    ap
-    (λ o. option_or o
-    (option_and_then (if_committed r c)
-    (block_of r c.config
-    (take c.config.minimum (filter_map (row_of c) (map part_of kept))))))
-    (none_whole r c kept)
+shown_first r cut kept c =
+    ap (λ t. shown_by t r (came_of kept) c) cut
+    ∙ (ap (λ o. option_or o (shown_by_rows r (came_of kept) c)) (none_whole r c kept)
     ∙ ap (λ xs. option_and_then (if_committed r c) (block_of r c.config (take c.config.minimum xs)))
-    (rows_kept c kept)
+    (rows_kept c kept))
 
 -- ---- of a member
 
@@ -60,11 +57,8 @@ module _ (hash : List ℕ → Digest32) (t : Gathered) (r : Rules) (came : Came)
   pub member_shown : (c : Commitment) → first_some (whole_of r c) came.parts ≡ None
       → shown r came c ≡ shown (rules_of hash t.epochs) (came_of t.kept) c
   member_shown c none =
-      ap
-      (λ o. option_or o
-      (option_and_then (if_committed r c)
-      (block_of r c.config (take c.config.minimum (filter_map (row_of c) came.parts)))))
-      none
+      ap (λ (q : Rules). shown_by q.travel r came c) stands.rules
+      ∙ (ap (λ o. option_or o (shown_by_rows r came c)) none
       ∙ (ap
       (λ xs. option_and_then (if_committed r c)
       (block_of r c.config (take c.config.minimum xs)))
@@ -73,7 +67,7 @@ module _ (hash : List ℕ → Digest32) (t : Gathered) (r : Rules) (came : Came)
       (λ (q : Rules). option_and_then (if_committed q c)
       (block_of q c.config (take c.config.minimum (chunks_of c t.kept))))
       stands.rules
-      ∙ sym (shown_first (rules_of hash t.epochs) t.kept c)))
+      ∙ sym (shown_first (rules_of hash t.epochs) refl t.kept c))))
 
 -- ---- of enough chunks
 
@@ -93,15 +87,15 @@ take_first zero xs ys h = refl
 take_first (suc n) [] ys h = absurd (omega arith)
 take_first (suc n) (x ∷ xs) ys h = ap (λ zs. x ∷ zs) (take_first n xs ys (omega arith))
 
-pub enough_stay : (r : Rules) (kept more : List KeptChunk) (c : Commitment)
+pub enough_stay : (r : Rules) → r.travel ≡ Chunked → (kept more : List KeptChunk) (c : Commitment)
     → c.config.minimum ≤ length (chunks_of c kept)
     → shown r (came_of (kept ++ more)) c ≡ shown r (came_of kept) c
-enough_stay r kept more c enough =
-    shown_first r (kept ++ more) c
+enough_stay r cut kept more c enough =
+    shown_first r cut (kept ++ more) c
     ∙ (ap (λ xs. option_and_then (if_committed r c) (block_of r c.config xs))
     (ap (take c.config.minimum) (chunks_append c kept more)
     ∙ take_first c.config.minimum (chunks_of c kept) (chunks_of c more) enough)
-    ∙ sym (shown_first r kept c))
+    ∙ sym (shown_first r cut kept c))
 
 -- ---- of a verdict
 
@@ -113,14 +107,15 @@ shown_garbage : (o : Option Block) → of_shown o ≡ Garbage → o ≡ None
 shown_garbage None e = refl
 shown_garbage (Some a) e = cc
 
-module _ (r : Rules) (kept more : List KeptChunk) (c : Commitment) (x : Chunk) where
+module _ (r : Rules) (cut : r.travel ≡ Chunked) (kept more : List KeptChunk) (c : Commitment)
+    (x : Chunk) where
   -- the k-th chunk and what is kept behind it
   kth_stays : (length (chunks_of c kept) + 1 == c.config.minimum) ≡ true
       → shown r (came_of (with_chunk kept c x ++ more)) c
       ≡ shown r (came_of (with_chunk kept c x)) c
   kth_stays last =
       let e = eqb-true (length (chunks_of c kept) + 1) c.config.minimum last in
-      enough_stay r (with_chunk kept c x) more c
+      enough_stay r cut (with_chunk kept c x) more c
       (omega (
         arith,
         e,
@@ -171,10 +166,11 @@ few_are_none r coder x chunks few = go (r.text_of x chunks) refl
     go None e = rw e refl
     go (Some text) e = absurd (let long = (coder.sound x chunks text e).0 in omega arith)
 
-few_show_none : (r : Rules) → IsCoder r → (kept : List KeptChunk) (c : Commitment)
-    → length (chunks_of c kept) < c.config.minimum → shown r (came_of kept) c ≡ None
-few_show_none r coder kept c few =
-    shown_first r kept c
+few_show_none : (r : Rules) → r.travel ≡ Chunked → IsCoder r
+    → (kept : List KeptChunk) (c : Commitment) → length (chunks_of c kept) < c.config.minimum
+    → shown r (came_of kept) c ≡ None
+few_show_none r cut coder kept c few =
+    shown_first r cut kept c
     ∙ (ap (λ xs. option_and_then (if_committed r c) (block_of r c.config xs))
     (take_all c.config.minimum (chunks_of c kept) (omega (arith, few)))
     ∙ ap (option_and_then (if_committed r c))
@@ -185,10 +181,11 @@ none_held None unheld = refl
 none_held (Some b) unheld = absurd (unheld b refl)
 
 -- a chunk leaves what is shown of another commitment
-pub others_stay : (r : Rules) (kept : List KeptChunk) (c d : Commitment) (x : Chunk)
+pub others_stay : (r : Rules) → r.travel ≡ Chunked → (kept : List KeptChunk) (c d : Commitment)
+    (x : Chunk)
     → same_commitment d c ≡ false
     → shown r (came_of (kept_after r kept c x)) d ≡ shown r (came_of kept) d
-others_stay r kept c d x other = go (is_known kept c x) (is_chunk_of r c x)
+others_stay r cut kept c d x other = go (is_known kept c x) (is_chunk_of r c x)
   where
     go : (known taken : Bool)
         → shown r (came_of (if known then kept else if taken then with_chunk kept c x else kept)) d
@@ -196,16 +193,17 @@ others_stay r kept c d x other = go (is_known kept c x) (is_chunk_of r c x)
     go true taken = refl
     go false false = refl
     go false true =
-        shown_first r (with_chunk kept c x) d
+        shown_first r cut (with_chunk kept c x) d
         ∙ (ap
         (λ xs. option_and_then (if_committed r d)
         (block_of r d.config (take d.config.minimum xs)))
         (chunks_more d kept c x
         ∙ (ap (λ b. chunks_of d kept ++ (if b then x ∷ [] else [])) other
         ∙ append-nil (chunks_of d kept)))
-        ∙ sym (shown_first r kept d))
+        ∙ sym (shown_first r cut kept d))
 
-module _ (r : Rules) (coder : IsCoder r) (kept : List KeptChunk) (c : Commitment) (x : Chunk) where
+module _ (r : Rules) (cut : r.travel ≡ Chunked) (coder : IsCoder r) (kept : List KeptChunk)
+    (c : Commitment) (x : Chunk) where
   -- what is kept before the last of k chunks, and after more, shows the same
   not_last : (length (chunks_of c kept) + 1 == c.config.minimum) ≡ false
       → shown r (came_of (with_chunk kept c x)) c ≡ shown r (came_of kept) c
@@ -220,15 +218,15 @@ module _ (r : Rules) (coder : IsCoder r) (kept : List KeptChunk) (c : Commitment
       go : (length (chunks_of c kept) < c.config.minimum)
           ⊎ (c.config.minimum ≤ length (chunks_of c kept))
           → shown r (came_of (with_chunk kept c x)) c ≡ shown r (came_of kept) c
-      go (inr more) = enough_stay r kept (record { commitment = c; chunk = x } ∷ []) c more
+      go (inr more) = enough_stay r cut kept (record { commitment = c; chunk = x } ∷ []) c more
       go (inl less) = by_next (cases_lt (length (chunks_of c kept) + 1) c.config.minimum)
         where
           by_next : (length (chunks_of c kept) + 1 < c.config.minimum)
               ⊎ (c.config.minimum ≤ length (chunks_of c kept) + 1)
               → shown r (came_of (with_chunk kept c x)) c ≡ shown r (came_of kept) c
           by_next (inl few) =
-              few_show_none r coder (with_chunk kept c x) c (omega (arith, few, long))
-              ∙ sym (few_show_none r coder kept c less)
+              few_show_none r cut coder (with_chunk kept c x) c (omega (arith, few, long))
+              ∙ sym (few_show_none r cut coder kept c less)
           by_next (inr last) = absurd (other (omega (arith, less, last)))
 
   own_stays : (known taken last : Bool) → (length (chunks_of c kept) + 1 == c.config.minimum) ≡ last
@@ -246,7 +244,7 @@ module _ (r : Rules) (coder : IsCoder r) (kept : List KeptChunk) (c : Commitment
   own_stays false true true is unheld =
       let e = eqb-true (length (chunks_of c kept) + 1) c.config.minimum is in
       none_held (shown r (came_of (with_chunk kept c x)) c) unheld
-      ∙ sym (few_show_none r coder kept c (omega (arith, e)))
+      ∙ sym (few_show_none r cut coder kept c (omega (arith, e)))
 
   -- a chunk that shows no block leaves what is shown
   pub unheld_stays : (d : Commitment) → ((b : Block) → verdict r kept c x ≡ Held b → ⊥)
@@ -260,4 +258,4 @@ module _ (r : Rules) (coder : IsCoder r) (kept : List KeptChunk) (c : Commitment
           (sym (same_commitment-true d c t))
           (own_stays (is_known kept c x) (is_chunk_of r c x)
           (length (chunks_of c kept) + 1 == c.config.minimum) refl unheld)
-      go (inr f) = others_stay r kept c d x f
+      go (inr f) = others_stay r cut kept c d x f

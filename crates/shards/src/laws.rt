@@ -15,6 +15,7 @@ ghost use Rattle.cw_rules.specs.Accepted.{Came, Row, first_some, is_chunk_of, sa
 ghost use Rattle.cw_rules.specs.Coding.{IsCoder};
 ghost use Rattle.cw_rules.specs.Held.{if_committed, row_of, shown, whole_of};
 ghost use Rattle.cw_rules.specs.Rules.{Chunk, Rules, block_of};
+ghost use Rattle.cw_rules.specs.declared.travel.Travel.TheVariants.{Chunked};
 ghost use Rattle.cw_rules.specs.Step.{nothing_came, taken_came};
 ghost use Rattle.cw_rules_coded.specs.Coded.{coded};
 ghost use Rattle.shards.specs.Kept.{Gathered, came_of, chunks_of, rules_of};
@@ -78,7 +79,7 @@ pub fn shown_by_kept()
         → shown r came c ≡ shown (rules_of hash t.epochs) (came_of t.kept) c }
     // which is the block of whose codeword the first k chunks that are kept of it are rows, if it
     // is committed to so
-    ensures first { (r : Rules) (kept : List KeptChunk) (c : Commitment)
+    ensures first { (r : Rules) → r.travel ≡ Chunked → (kept : List KeptChunk) (c : Commitment)
         → shown r (came_of kept) c
         ≡ option_and_then (if_committed r c)
         (block_of r c.config (take c.config.minimum (chunks_of c kept))) }
@@ -87,24 +88,28 @@ pub fn shown_by_kept()
 /// What is shown stays so, but where a block comes to be held.
 pub fn shown_stays()
     // what is kept after enough chunks of a commitment leaves what they show
-    ensures enough { (r : Rules) (kept more : List KeptChunk) (c : Commitment)
+    ensures enough { (r : Rules) → r.travel ≡ Chunked
+        → (kept more : List KeptChunk) (c : Commitment)
         → c.config.minimum ≤ length (chunks_of c kept)
         → shown r (came_of (kept ++ more)) c ≡ shown r (came_of kept) c }
     // a block that was held is shown, whatever is kept since
-    ensures held { (r : Rules) (kept more : List KeptChunk) (c : Commitment) (x : Chunk) (b : Block)
+    ensures held { (r : Rules) → r.travel ≡ Chunked
+        → (kept more : List KeptChunk) (c : Commitment) (x : Chunk) (b : Block)
         → verdict r kept c x ≡ Verdict.Held b
         → shown r (came_of (kept_after r kept c x ++ more)) c ≡ Some b }
     // garbage shows no block, whatever is kept since
-    ensures garbage { (r : Rules) (kept more : List KeptChunk) (c : Commitment) (x : Chunk)
+    ensures garbage { (r : Rules) → r.travel ≡ Chunked
+        → (kept more : List KeptChunk) (c : Commitment) (x : Chunk)
         → verdict r kept c x ≡ Verdict.Garbage
         → shown r (came_of (kept_after r kept c x ++ more)) c ≡ None }
     // a chunk by which no block is held leaves what is shown
-    ensures unheld { (r : Rules) → IsCoder r
+    ensures unheld { (r : Rules) → r.travel ≡ Chunked → IsCoder r
         → (kept : List KeptChunk) (c : Commitment) (x : Chunk) (d : Commitment)
         → ((b : Block) → verdict r kept c x ≡ Verdict.Held b → ⊥)
         → shown r (came_of (kept_after r kept c x)) d ≡ shown r (came_of kept) d }
     // and each leaves what is shown of another commitment
-    ensures others { (r : Rules) (kept : List KeptChunk) (c d : Commitment) (x : Chunk)
+    ensures others { (r : Rules) → r.travel ≡ Chunked
+        → (kept : List KeptChunk) (c d : Commitment) (x : Chunk)
         → IsFalse (same_commitment d c)
         → shown r (came_of (kept_after r kept c x)) d ≡ shown r (came_of kept) d }
 {}

@@ -24,8 +24,8 @@ returns-in-Some g c =
     let n : length (chunks_of c.args.commitment.now c.args.kept.now)
     ≡ c.args.commitment.now.config.minimum - 1 =
     eqb-true _ _ (sym c.lack_one.ensures ∙ c.if-not-lack_one.false) in
-    verdict_shown r c.args.kept.now c.args.commitment.now c.args.chunk.now (Some c.in-Some.block)
-    c.requires.some n
+    verdict_shown r refl c.args.kept.now c.args.commitment.now c.args.chunk.now
+    (Some c.in-Some.block) c.requires.some n
     (sym c.in-Some.is
     ∙ (c.in_ok-block.ensures
     ∙ ap
@@ -39,7 +39,8 @@ returns g c =
     let n : length (chunks_of c.args.commitment.now c.args.kept.now)
     ≡ c.args.commitment.now.config.minimum - 1 =
     eqb-true _ _ (sym c.lack_one.ensures ∙ c.if-not-lack_one.false) in
-    verdict_shown r c.args.kept.now c.args.commitment.now c.args.chunk.now None c.requires.some n
+    verdict_shown r refl c.args.kept.now c.args.commitment.now c.args.chunk.now None
+    c.requires.some n
     (sym c.in-None.is
     ∙ (c.in_ok-block.ensures
     ∙ ap
