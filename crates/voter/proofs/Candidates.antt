@@ -43,7 +43,7 @@ module _ {X : Type 0} (same : X → X → Bool) (is : (a b : X) → same a b ≡
       go false false e f k m more = more k m
 
   -- the first that passes both is the first candidate that passes the second
-  firsts : (n : ℕ) (pre ys : List X) → n ≡ length pre → pre ++ ys ≡ all → list_any both pre ≡ false
+  pub firsts : (n : ℕ) (pre ys : List X) → n ≡ length pre → pre ++ ys ≡ all → list_any both pre ≡ false
       → find both ys
       ≡ find fits (map (λ (at : ℕ × X). at.1) (filter candidate (enumerate_from n ys)))
   firsts n pre [] e f g = refl
@@ -81,7 +81,7 @@ module _ {X : Type 0} (same : X → X → Bool) (is : (a b : X) → same a b ≡
       go true false true a b c more = rw (a, c, b) (more (rw (a, b) refl))
 
 -- what is answered first, by the first element that passes
-first_when : {X Y : Type 0} (f : X → Option Y) (p : X → Bool) (g : X → Y)
+pub first_when : {X Y : Type 0} (f : X → Option Y) (p : X → Bool) (g : X → Y)
     → ((x : X) → f x ≡ when (p x) (g x)) → (xs : List X)
     → first_some f xs ≡ option_map g (find p xs)
 first_when f p g e [] = refl

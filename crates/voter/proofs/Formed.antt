@@ -157,23 +157,33 @@ module _ (t : Known) (notes : list_all is_countable t.notes ≡ true)
       → well_formed v ≡ true
   found_formed p v e = found_one well_formed p (named_votes (state_of t)) v votes_formed e
 
-  uncertified_ordered : list_all is_ordered (owing.uncertified t) ≡ true
-  uncertified_ordered =
-      picked_pass is_ordered (owing.is_candidate t) 0 (named_proposals (state_of t))
+  candidates_ordered : (passes : Proposal → Bool)
+      → list_all is_ordered (owing.candidates t passes) ≡ true
+  candidates_ordered passes =
+      picked_pass is_ordered (owing.is_candidate t passes) 0 (named_proposals (state_of t))
       proposals_ordered
 
   -- a proposal that isn't certified may be noted so
   pub certified_countable : (fits : Proposal → Bool) (p : Proposal)
       → find fits (owing.uncertified t) ≡ Some p → is_countable (Note.Certified p) ≡ true
   certified_countable fits p e =
-      found_one is_ordered fits (owing.uncertified t) p uncertified_ordered e
+      found_one is_ordered fits (owing.uncertified t) p
+      (candidates_ordered (owing.is_uncertified t.notes)) e
 
   pub uncertified_counts : {X : Type 0} (of : X → Proposal) (i : ℕ) (o : Option X)
       → option_map of o ≡ slice_get (owing.uncertified t) i
       → IfSome o (λ x. IsTrue (is_ordered (of x)))
   uncertified_counts of i None e = tt
   uncertified_counts of i (Some x) e =
-      one_at is_ordered (owing.uncertified t) i (of x) uncertified_ordered (sym e)
+      one_at is_ordered (owing.uncertified t) i (of x)
+      (candidates_ordered (owing.is_uncertified t.notes)) (sym e)
+
+  -- a vote for what is votable may be noted
+  pub votable_counts : (i : ℕ) (o : Option Proposal) → o ≡ slice_get (owing.votable t) i
+      → IfSome o (λ p. IsTrue (is_countable (Note.Vote (Notarize p))))
+  votable_counts i None e = tt
+  votable_counts i (Some p) e =
+      one_at is_ordered (owing.votable t) i p (candidates_ordered (owing.is_votable t)) (sym e)
 
 module _ (hash : List ℕ → Digest32) (t : Known) (notes : list_all is_countable t.notes ≡ true)
     (ballots : list_all is_formed t.ballots ≡ true) where
@@ -206,15 +216,15 @@ module _ (hash : List ℕ → Digest32) (t : Known) (notes : list_all is_countab
   when_counts true m n h k = let same : m ≡ n = cc in subst (λ x. is_countable x ≡ true) same h
   when_counts false m n h k = cc
 
+  finalize_countable : (n : Note) → owing.finalize_owed hash t ≡ Some n → is_countable n ≡ true
+  finalize_countable n e =
+      first_passes is_ordered (finalize_owed (vote_rules hash t.epochs) t.id (state_of t)) n
+      (is_countable n ≡ true) (λ p h m. when_counts _ (Note.Vote (Finalize p)) n h m)
+      (named_proposals (state_of t)) (proposals_ordered t notes ballots) e
+
   pub vote_countable : (n : Note) → owing.vote_owed hash t ≡ Some n → is_countable n ≡ true
   vote_countable n e = go (owing.notarize_owed hash t) refl e
     where
-      finalize : owing.finalize_owed hash t ≡ Some n → is_countable n ≡ true
-      finalize k =
-          first_passes is_ordered (finalize_owed (vote_rules hash t.epochs) t.id (state_of t)) n
-          (is_countable n ≡ true) (λ p h m. when_counts _ (Note.Vote (Finalize p)) n h m)
-          (named_proposals (state_of t)) (proposals_ordered t notes ballots) k
-
       notarize : owing.notarize_owed hash t ≡ Some n → is_countable n ≡ true
       notarize k =
           first_passes is_ordered (notarize_owed (vote_rules hash t.epochs) t.id (state_of t)) n
@@ -225,9 +235,15 @@ module _ (hash : List ℕ → Digest32) (t : Known) (notes : list_all is_countab
           → option_or (owing.notarize_owed hash t) (owing.finalize_owed hash t) ≡ Some n
           → is_countable n ≡ true
       go (Some m) f k = notarize (f ∙ (rw f at k))
-      go None f k = finalize (rw f at k)
+      go None f k = finalize_countable n (rw f at k)
 
-  -- so the vote that is given may be noted
+  -- so the vote to finalize alone may be noted
+  pub final_countable : (o : Option Vote) → option_map Note.Vote o ≡ owing.finalize_owed hash t
+      → IfSome o (λ v. IsTrue (is_countable (Note.Vote v)))
+  final_countable None e = tt
+  final_countable (Some v) e = finalize_countable (Note.Vote v) (sym e)
+
+  -- so may the vote that is given
   pub given_countable : (o : Option Vote) → option_map Note.Vote o ≡ owing.vote_owed hash t
       → IfSome o (λ v. IsTrue (is_countable (Note.Vote v)))
   given_countable None e = tt

@@ -21,7 +21,7 @@ use Rattle.cw_rules.specs.Rules.{Rules, genesis_commitment}
 use Rattle.voter.specs.Facts.{HasSaid, said_at}
 use Rattle.voter.specs.Keys.{in_view, key_of, keyed}
 use Rattle.voter.specs.Known.{Known, state_of, vote_rules}
-use Rattle.voter.specs.Owing.{is_uncertified, owes_finalize, owes_notarize}
+use Rattle.voter.specs.Owing.{is_turn, is_uncertified, is_votable, owes_finalize, owes_notarize}
 use Rattle.voter.specs.Waiting.{AreWaiting, is_done, is_done_by, is_uncertified_by, undone, with_named}
 use Rattle.voter.specs.declared.key.VoteKey.{VoteKey}
 use Rattle.voter.proofs.Certified.{cert_where}
@@ -91,33 +91,48 @@ certified_over (note ∷ notes) p h =
     go false e k rest = let a = rest k in let b = more in omega (arith, a, b)
 
 -- what is certified is of no view that the member is in
+viewed_left : (x : Epochs) (id : ℕ) (notes : List Note) (p : Proposal)
+    → (p.view == view_of notes p.epoch) ≡ true → is_done x id notes p ≡ false
+viewed_left x id notes p h = go (eqb-true p.view (view_of notes p.epoch) h) (has_certified notes p) refl
+  where
+    go : p.view ≡ view_of notes p.epoch → (b : Bool) → has_certified notes p ≡ b
+        → is_done x id notes p ≡ false
+    go view true e = let over = certified_over notes p e in absurd (omega (arith, over, view))
+    go view false e =
+        ap (λ b. b && not (is_member x p.epoch id && not (has_closed notes p.epoch p.view))) e
+
 pub notarize_left : (r : Rules) (id : ℕ) (s : State) (p : Proposal)
     → is_some (notarize_owed r id s p) ≡ true → is_done r.epochs id s.notes p ≡ false
 notarize_left r id s p h =
-    go
-    (eqb-true p.view (view_of s.notes p.epoch)
+    viewed_left r.epochs id s.notes p
     (second (p.epoch == epoch_of s.notes) (p.view == view_of s.notes p.epoch)
     (is_member r.epochs p.epoch id)
     (list_any (is_single (leader r.epochs p.epoch p.view) (Notarize p)) s.came.ballots)
     (not (has_voted s.notes p.epoch p.view))
     (option_map_or (is_ready r id s p) (settled (genesis_commitment r) s.notes p.epoch p.parent)
     false)
-    (all_nullified s.notes p.epoch p.parent p.view) (sym (notarize_where r id s p) ∙ h)))
-    (has_certified s.notes p) refl
+    (all_nullified s.notes p.epoch p.parent p.view) (sym (notarize_where r id s p) ∙ h))
   where
     second : (a b c d e f g : Bool) → (a && b && c && d && e && f && g) ≡ true → b ≡ true
     second true true c d e f g k = refl
     second true false c d e f g k = cc
     second false b c d e f g k = cc
 
-    go : p.view ≡ view_of s.notes p.epoch → (b : Bool) → has_certified s.notes p ≡ b
-        → is_done r.epochs id s.notes p ≡ false
-    go view true e = let over = certified_over s.notes p e in absurd (omega (arith, over, view))
-    go view false e =
-        ap
-        (λ b. b
-        && not (is_member r.epochs p.epoch id && not (has_closed s.notes p.epoch p.view)))
-        e
+pub votable_left : (t : Known) (p : Proposal) → is_votable t p ≡ true
+    → is_done t.epochs t.id t.notes p ≡ false
+unfolding is_votable is_turn
+votable_left t p h =
+    viewed_left t.epochs t.id t.notes p
+    (second (p.epoch == epoch_of t.notes) (p.view == view_of t.notes p.epoch)
+    (is_member t.epochs p.epoch t.id)
+    (list_any (is_single (leader t.epochs p.epoch p.view) (Notarize p)) t.ballots)
+    (not (has_voted t.notes p.epoch p.view))
+    (all_nullified t.notes p.epoch p.parent p.view) h)
+  where
+    second : (a b c d e f : Bool) → ((a && b && c && d && e) && f) ≡ true → b ≡ true
+    second true true c d e f k = refl
+    second true false c d e f k = cc
+    second false b c d e f k = cc
 
 pub finalize_left : (r : Rules) (id : ℕ) (s : State) (p : Proposal)
     → is_some (finalize_owed r id s p) ≡ true → is_done r.epochs id s.notes p ≡ false
@@ -296,15 +311,3 @@ note_waiting x id notes ballots note said vc vn vc' vn' pc pn pc' pn' has are e 
   where
     now : List Note
     now = notes ++ note ∷ []
-
--- the same lists
-pub same_waiting : (x : Epochs) (id : ℕ) (notes : List Note) (ballots : List Ballot)
-    (vc vn vc' vn' : List Vote) (pc pn pc' pn' : List Proposal)
-    → vc' ≡ vc → vn' ≡ vn → pc' ≡ pc → pn' ≡ pn
-    → AreWaiting x id notes ballots vc vn pc pn → AreWaiting x id notes ballots vc' vn' pc' pn'
-same_waiting x id notes ballots vc vn vc' vn' pc pn pc' pn' e f g h are = record {
-  votes_of_came = e ∙ are.votes_of_came;
-  votes_of_notes = f ∙ are.votes_of_notes;
-  of_came = g ∙ are.of_came;
-  of_notes = h ∙ are.of_notes;
-}

@@ -1,5 +1,5 @@
 -- When a vote is owed, and which.
-use Rattle.std.proofs.Common.{◌≡◌, ◌&&◌, ◌==◌, ℕ, true, false, not, List, [], ◌∷◌, map, Option, Some, None, refl}
+use Rattle.std.proofs.Common.{◌≡◌, ◌&&◌, ◌==◌, ℕ, Bool, true, false, not, List, [], ◌∷◌, map, Option, Some, None, refl}
 use Rattle.std.specs.List.{find, list_any}
 use Rattle.std.specs.Option.{is_some, option_map_or}
 use Rattle.cw_types.specs.Epochs.{is_member, leader}
@@ -46,6 +46,14 @@ notarize_where r id s p =
     && option_map_or (is_ready r id s p) (settled (genesis_commitment r) s.notes p.epoch p.parent)
     false
     && all_nullified s.notes p.epoch p.parent p.view) (Note.Vote (Notarize p))
+
+-- a vote to notarize asks what is votable, and the payload
+pub payload_last : (turn ready whole : Bool) → (turn && ready && whole) ≡ ((turn && whole) && ready)
+payload_last true true true = refl
+payload_last true true false = refl
+payload_last true false true = refl
+payload_last true false false = refl
+payload_last false ready whole = refl
 
 -- and which
 notarize_there : (r : Rules) (id : ℕ) (s : State) (p : Proposal)

@@ -11,6 +11,7 @@ use Rattle.cw_types.specs.declared.vote.Vote.{Vote}
 use Rattle.cw_rules.specs.Accepted.{Ballot, Came, Many, Part, Row, Single, State, take_ballot}
 use Rattle.cw_rules.specs.Owed.{knows}
 use Rattle.cw_rules.specs.Rules.{Rules}
+use Rattle.cw_rules.specs.declared.travel.Travel.TheVariants.{Chunked}
 use Rattle.voter.specs.declared.own.OwnChunk.{OwnChunk}
 
 -- the committees, the member's number, its notes, the votes and certificates that came, and which
@@ -48,11 +49,12 @@ with_own t c at = record {
 
 -- ---- as the rules see it
 
--- the rules of these committees and of this hash, over blocks and contexts in their bytes. Voting
--- never asks for backlog, code, root, path, leads_to, text_of, read_block and accepts: tally_stands
--- shows that any others do as well
+-- the rules of these committees and of this hash for blocks in chunks, over blocks and contexts in
+-- their bytes. Voting never asks for backlog, code, root, path, leads_to, text_of, read_block and
+-- accepts: tally_stands shows that any others do as well
 abbrev pub vote_rules : (List ℕ → Digest32) → Epochs → Rules
 vote_rules hash x = record {
+  travel = Chunked;
   epochs = x;
   backlog = 0;
   hash = hash;

@@ -44,6 +44,11 @@ is_turn t p =
     && list_any (rule.is_single (leader t.epochs p.epoch p.view) (Notarize p)) t.ballots
     && not (rule.has_voted t.notes p.epoch p.view)
 
+-- it is, and each view between its parent's and its own is nullified: a vote for it asks no more than
+-- its payload
+unfoldable pub is_votable : Known → Proposal → Bool
+is_votable t p = is_turn t p && rule.all_nullified t.notes p.epoch p.parent p.view
+
 -- the member can vote for it over the payload that is settled for its parent view
 unfoldable pub is_ready : (List ℕ → Digest32) → Known → Proposal → Bool
 is_ready hash t p =
@@ -68,19 +73,25 @@ vote_owed hash t = option_or (notarize_owed hash t) (finalize_owed hash t)
 abbrev pub is_uncertified : List Note → Proposal → Bool
 is_uncertified notes p = has_cert notes (Notarize p) && not (has_certified notes p)
 
--- the proposal at that place of those that are named is notarized, isn't certified, and isn't named
--- before
-unfoldable pub is_candidate : Known → ℕ × Proposal → Bool
-is_candidate t at =
-    is_uncertified t.notes at.1
+-- the proposal at that place of those that are named passes, and isn't named before
+unfoldable pub is_candidate : Known → (Proposal → Bool) → ℕ × Proposal → Bool
+is_candidate t passes at =
+    passes at.1
     && not (list_any (same_proposal at.1) (take at.0 (rule.named_proposals (state_of t))))
 
--- the proposals that are notarized and not certified, each once, in the order in which they are
--- first named
-abbrev pub uncertified : Known → List Proposal
-uncertified t =
+-- the proposals that pass, each once, in the order in which they are first named
+abbrev pub candidates : Known → (Proposal → Bool) → List Proposal
+candidates t passes =
     map (λ at. at.1)
-    (filter (is_candidate t) (enumerate_from 0 (rule.named_proposals (state_of t))))
+    (filter (is_candidate t passes) (enumerate_from 0 (rule.named_proposals (state_of t))))
+
+-- those that are notarized and not certified
+abbrev pub uncertified : Known → List Proposal
+uncertified t = candidates t (is_uncertified t.notes)
+
+-- those of which a vote asks no more than their payload
+abbrev pub votable : Known → List Proposal
+votable t = candidates t (is_votable t)
 
 -- the greatest settled view of the epoch below so many, with its payload, where all views above it
 -- and below so many are nullified

@@ -12,6 +12,7 @@ ghost use Rattle.cw_types.specs.declared.commitment.Commitment.{Commitment};
 ghost use Rattle.cw_types.specs.declared.event.Handed.{Handed};
 ghost use Rattle.cw_types.specs.declared.note.Note.{Note};
 ghost use Rattle.cw_types.specs.declared.vote.Proposal.{Proposal};
+ghost use Rattle.cw_types.specs.declared.vote.Vote.{Vote as VoteValue};
 ghost use Rattle.cw_rules.specs.Accepted.{Ballot, Row, State, Whole, add_wish, first_some};
 ghost use Rattle.cw_rules.specs.Accepted.{take_ballot, take_part};
 ghost use Rattle.cw_rules.specs.Direct.{best_parent};
@@ -20,6 +21,7 @@ ghost use Rattle.cw_rules.specs.Held.{held};
 ghost use Rattle.cw_rules.specs.Notes.{view_of};
 ghost use Rattle.cw_rules.specs.Owed as rule;
 ghost use Rattle.cw_rules.specs.Rules.{Chunk, Rules};
+ghost use Rattle.cw_rules.specs.declared.travel.Travel.TheVariants.{Chunked};
 ghost use Rattle.cw_rules.specs.Step.{nothing_came, with_handed, with_notes};
 ghost use Rattle.note_scans.specs.Countable.{is_countable};
 ghost use Rattle.voter.specs.Known.{Known, unknowing, with_ballot, with_note, with_own};
@@ -40,8 +42,16 @@ pub fn tally_stands()
         → IsTallyOf hash t r s
         → first_some (rule.certified_owed r s) (rule.named_proposals s)
         ≡ option_map Note.Certified (find (block_fits r t.notes) (owing.uncertified t)) }
-    ensures notarized { (hash : List ℕ → Digest32) (t : Known) (r : Rules) (s : State)
+    // however blocks travel: of the proposals of which a vote asks no more than their payload, the
+    // first that the member can vote for
+    ensures votable { (hash : List ℕ → Digest32) (t : Known) (r : Rules) (s : State)
         → IsTallyOf hash t r s
+        → first_some (rule.notarize_owed r t.id s) (rule.named_proposals s)
+        ≡ option_map (λ p. Note.Vote (VoteValue.Notarize p))
+        (find (rule.can_vote r t.id s) (owing.votable t)) }
+    // where blocks travel in chunks the tally finds it by the member's own chunks that came
+    ensures notarized { (hash : List ℕ → Digest32) (t : Known) (r : Rules) (s : State)
+        → r.travel ≡ Chunked → IsTallyOf hash t r s
         → first_some (rule.notarize_owed r t.id s) (rule.named_proposals s)
         ≡ owing.notarize_owed hash t }
     ensures finalized { (hash : List ℕ → Digest32) (t : Known) (r : Rules) (s : State)

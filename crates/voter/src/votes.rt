@@ -24,7 +24,7 @@ use cw_types::{ChainBlock, Commitment, Context, Proposal, Vote, genesis_commitme
 
 impl<H> Tally<H> {
     // Whether it is a member of the epoch.
-    fn is_member(&self, epoch: u64) -> bool
+    pub(crate) fn is_member(&self, epoch: u64) -> bool
         ensures { result ≡ is_member self.now.epochs epoch self.now.id }
     {
         self.committees.is_member(epoch, self.id)
@@ -53,16 +53,6 @@ impl<H> Tally<H> {
             return true;
         }
         (low + 1..high).all(|view| self.nullified(epoch, view))
-    }
-
-    // Whether the vote of the view's leader to notarize the proposal came.
-    fn has_leaders_vote(&self, proposal: &Proposal) -> bool
-        ensures { result ≡ list_any
-            (rule.is_single (leader self.now.epochs proposal.now.epoch proposal.now.view)
-            (Vote.Notarize proposal.now)) self.now.ballots }
-    {
-        let member = leader(&self.committees, proposal.epoch, proposal.view);
-        self.has_voted_so(&Vote::Notarize(*proposal), member)
     }
 
     // Whether the chunk at that place of that commitment came.
@@ -207,28 +197,12 @@ impl<H: Hasher<Digest = Digest32>> Tally<H> {
         }
     }
 
-    // Whether it is the proposal of the leader of the member's view, in which it hasn't voted.
-    #[tactic(auto, unfolding(crate::specs::Owing::is_turn))]
-    fn is_turn(&self, proposal: &Proposal) -> bool
-        ensures { result ≡ owing.is_turn self.now proposal.now }
-    {
-        proposal.epoch == self.epoch()
-            && proposal.view == self.view(proposal.epoch)
-            && self.is_member(proposal.epoch)
-            && self.has_leaders_vote(proposal)
-            && !self.has_voted(proposal.epoch, proposal.view)
-    }
-
     // Whether all is there for a vote to notarize the proposal.
     fn can_notarize(&self, proposal: &Proposal) -> bool
-        ensures { result ≡ (owing.is_turn self.now proposal.now
-            && owing.is_ready H.digest_of self.now proposal.now
-            && rule.all_nullified self.now.notes proposal.now.epoch proposal.now.parent
-            proposal.now.view) }
+        ensures { result ≡ (owing.is_votable self.now proposal.now
+            && owing.is_ready H.digest_of self.now proposal.now) }
     {
-        self.is_turn(proposal)
-            && self.is_ready_over_settled(proposal)
-            && self.all_nullified(proposal.epoch, proposal.parent, proposal.view)
+        self.is_votable(proposal) && self.is_ready_over_settled(proposal)
     }
 
     // Whether a vote to notarize the proposal is owed.
@@ -280,7 +254,7 @@ impl<H: Hasher<Digest = Digest32>> Tally<H> {
         }
     }
 
-    fn owed_finalize(&self) -> Option<Vote>
+    fn first_final(&self) -> Option<Vote>
         ensures { option_map Note.Vote result ≡ owing.finalize_owed H.digest_of self.now }
     {
         match self.first_to_finalize() {
@@ -295,7 +269,7 @@ impl<H: Hasher<Digest = Digest32>> Tally<H> {
     {
         match self.owed_notarize() {
             Some(vote) => Some(vote),
-            None => self.owed_finalize(),
+            None => self.first_final(),
         }
     }
 
@@ -309,5 +283,14 @@ impl<H: Hasher<Digest = Digest32>> Tally<H> {
     {
         let _ = &self.notes;
         self.first_owed()
+    }
+    /// The vote to finalize that the member owes, whatever it owes beside: of the first proposal
+    /// that is certified in a view that it hasn't closed. It can be noted. Takes no memory.
+    pub fn owed_finalize(&self) -> Option<Vote>
+        ensures value { option_map Note.Vote result ≡ owing.finalize_owed H.digest_of self.now }
+        ensures countable { IfSome result (λ vote. IsTrue (is_countable (Note.Vote vote))) }
+    {
+        let _ = &self.notes;
+        self.first_final()
     }
 }

@@ -37,7 +37,8 @@ fn has_vote(list: &[Vote], vote: &Vote) -> bool
     list.iter().any(|other| vote.is_same(other))
 }
 
-fn has_proposal(list: &[Proposal], proposal: &Proposal) -> bool
+/// Whether the proposal is among these.
+pub(crate) fn has_proposal(list: &[Proposal], proposal: &Proposal) -> bool
     ensures { result ≡ list_any (same_proposal proposal.now) list.now }
 {
     list.iter().any(|other| proposal.is_same(other))

@@ -1,4 +1,4 @@
-use Rattle.voter.proofs.Agreeing.{cert_agrees, certified_agrees, finalize_agrees, notarize_agrees}
+use Rattle.voter.proofs.Agreeing.{cert_agrees, certified_agrees, finalize_agrees, notarize_agrees, votable_agrees}
 use Rattle.voter.proofs.laws.tally_stands.Goals as goal
 
 pub returns : goal.returns
@@ -6,6 +6,7 @@ returns c =
     record {
       certificates = cert_agrees;
       certified = certified_agrees;
-      notarized = notarize_agrees;
+      votable = votable_agrees;
+      notarized = λ hash t r s cut stands. notarize_agrees hash t r s stands cut;
       finalized = finalize_agrees;
     }

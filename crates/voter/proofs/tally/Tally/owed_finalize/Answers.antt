@@ -1,21 +1,16 @@
-use Rattle.std.proofs.Common.{sym}
-use Rattle.voter.specs.Known.{vote_rules, state_of}
-use Rattle.voter.specs.Owing.{owes_finalize}
-use Rattle.voter.proofs.Voted.{finalize_found, finalize_missing}
+use Rattle.std.proofs.Common.{◌≡◌, true, subst}
+use Rattle.std.specs.List.{list_all}
+use Rattle.note_scans.specs.Countable.{is_countable}
+use Rattle.voter.specs.Standing.{is_formed}
+use Rattle.voter.proofs.Formed.{final_countable}
 use Rattle.voter.proofs.tally.Tally.owed_finalize.Goals as goal
 
-pub returns-in-Some : goal.returns-in-Some
-unfolding owes_finalize
-returns-in-Some g c =
-    sym
-    (finalize_found (vote_rules g.H.Hasher.digest_of c.args.self.now.epochs) c.args.self.now.id
-    (state_of c.args.self.now) c.first_to_finalize.result c.in-Some.proposal
-    c.first_to_finalize.ensures c.in-Some.is)
-
-pub returns-in-None : goal.returns-in-None
-unfolding owes_finalize
-returns-in-None g c =
-    sym
-    (finalize_missing (vote_rules g.H.Hasher.digest_of c.args.self.now.epochs)
-    c.args.self.now.id (state_of c.args.self.now) c.first_to_finalize.result
-    c.first_to_finalize.ensures c.in-None.is)
+pub returns-clause-countable : goal.returns-clause-countable
+returns-clause-countable g c =
+    let notes : list_all is_countable c.args.self.now.notes ≡ true =
+    subst (λ k. list_all is_countable k.notes ≡ true) c.self.view_is
+    c.self.invariant.countable in
+    let ballots : list_all is_formed c.args.self.now.ballots ≡ true =
+    subst (λ k. list_all is_formed k.ballots ≡ true) c.self.view_is c.self.invariant.formed in
+    final_countable g.H.Hasher.digest_of c.args.self.now notes ballots c.first_final.result
+    c.first_final.ensures

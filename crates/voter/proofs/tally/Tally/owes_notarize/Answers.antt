@@ -1,13 +1,18 @@
 use Rattle.std.proofs.Common.{◌∙◌, sym}
+use Rattle.cw_rules.specs.Owed.{all_nullified}
 use Rattle.voter.specs.Known.{vote_rules, state_of}
-use Rattle.voter.specs.Owing.{is_ready, is_turn, owes_notarize}
-use Rattle.voter.proofs.Voted.{notarize_where}
+use Rattle.voter.specs.Owing.{is_ready, is_turn, is_votable, owes_notarize}
+use Rattle.voter.proofs.Voted.{notarize_where, payload_last}
 use Rattle.voter.proofs.tally.Tally.owes_notarize.Goals as goal
 
 pub returns : goal.returns
-unfolding is_ready is_turn owes_notarize
+unfolding is_ready is_turn is_votable owes_notarize
 returns g c =
+    let t = c.args.self.now in
+    let p = c.args.proposal.now in
     c.can_notarize.ensures
+    ∙ (sym
+    (payload_last (is_turn t p) (is_ready g.H.Hasher.digest_of t p)
+    (all_nullified t.notes p.epoch p.parent p.view))
     ∙ sym
-    (notarize_where (vote_rules g.H.Hasher.digest_of c.args.self.now.epochs) c.args.self.now.id
-    (state_of c.args.self.now) c.args.proposal.now)
+    (notarize_where (vote_rules g.H.Hasher.digest_of t.epochs) t.id (state_of t) p))
