@@ -1,5 +1,5 @@
 -- Keys: when two are the same, and how they are ordered.
-use Rattle.std.proofs.Common.{◌≡◌, ℕ, ◌&&◌, ◌==◌, true, cond, refl, ◌∙◌, ap, subst, eqb-true, eq-eqb, List, [], ◌∷◌, Option, Some}
+use Rattle.std.proofs.Common.{◌≡◌, ◌==◌, true, cond, refl, ◌∙◌, ap, subst, eqb-true, eq-eqb, List, [], ◌∷◌, Some}
 use Rattle.std.specs.Cmp.{IsEquivalence}
 use Rattle.std.specs.Cmp.Lexicographic.{slice_cmp}
 use Rattle.std.specs.Map.{lookup}
@@ -12,7 +12,6 @@ use Rattle.std.proofs.lemmas.Map.Lookups.{exact_bytes, exact_unsigned}
 use Rattle.cw_base.specs.declared.hash.Digest32.{Digest32}
 use Rattle.cw_types.specs.Same.{same_commitment}
 use Rattle.cw_types.proofs.Same.{same_commitment-true, same_commitment_self}
-use Rattle.cw_types.specs.declared.commitment.Commitment.{Commitment}
 use Rattle.cw_rules.specs.Rules.{Chunk}
 use Rattle.cw_rules.proofs.Lists.{one_test}
 use Rattle.cw_archive.specs.Keys.{at_key, commitment_of, same_key}

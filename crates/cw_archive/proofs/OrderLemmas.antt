@@ -1,10 +1,9 @@
 -- Chunks in a map and their keys in order: what is added, and what leaves.
-use Rattle.std.proofs.Common.{◌≡◌, ℕ, ◌&&◌, ◌||◌, ◌==◌, ◌⊎◌, inl, inr, Bool, true, false, cond, if◌then◌else◌, not, refl, sym, ◌∙◌, ap, subst, eqb-true, eq-eqb, List, [], ◌∷◌, ◌++◌, Option, Some, None, is_some, slice_get, drop, map}
-use Rattle.std.specs.List.{AllByRecursion, IsDistinct, filter, filter_map, find, list_any, cons_option}
+use Rattle.std.proofs.Common.{◌≡◌, ℕ, ◌&&◌, ◌||◌, ◌==◌, Bool, true, false, cond, if◌then◌else◌, refl, sym, ◌∙◌, ap, subst, eqb-true, eq-eqb, List, [], ◌∷◌, ◌++◌, Option, Some, None, is_some, slice_get, drop, map}
+use Rattle.std.specs.List.{AllByRecursion, IsDistinct, filter, find, list_any, cons_option}
 use Rattle.std.specs.Map.{lookup}
 use Rattle.std.specs.Option.{option_map}
 use Rattle.std.specs.Ordering.{is_eq}
-use Rattle.std.proofs.lemmas.Bool.{cases_Bool, false≢true}
 use Rattle.std.proofs.lemmas.List.Elements.{filter_map-append}
 use Rattle.std.proofs.lemmas.List.Folds.{list_any-append}
 use Rattle.std.proofs.lemmas.Map.Keys.{IsDistinct-head, IsDistinct-push, IsDistinct-tail}
@@ -14,7 +13,7 @@ use Rattle.cw_types.specs.Same.{same_commitment}
 use Rattle.cw_types.specs.declared.commitment.Commitment.{Commitment}
 use Rattle.cw_rules.specs.Rules.{Chunk}
 use Rattle.cw_archive.specs.Archived.{chunk_at}
-use Rattle.shards.specs.Kept.{chunks_of, is_known, with_chunk}
+use Rattle.shards.specs.Kept.{is_known, with_chunk}
 use Rattle.cw_archive.specs.Keys.{IsInOrder, at_key, commitment_of, kept_at, kept_by, key_of, same_key}
 use Rattle.shards.specs.declared.pieces.KeptChunk.{KeptChunk}
 use Rattle.cw_archive.specs.declared.key.ChunkKey.{ChunkKey}

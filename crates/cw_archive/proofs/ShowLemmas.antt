@@ -1,14 +1,10 @@
 -- What chunks give back, by the text of which they are rows.
-use Rattle.std.proofs.Common.{◌≡◌, ◌↔◌, ℕ, ◌<◌, ◌≤◌, ◌&&◌, ◌==◌, ◌⊎◌, inl, inr, Bool, true, false, if◌then◌else◌, List, [], ◌∷◌, length, map, Option, Some, None, IfNone, refl, sym, ◌∙◌, ap, subst, arith, eqb-true}
-use Rattle.std.specs.List.{AllByRecursion}
+use Rattle.std.proofs.Common.{◌≡◌, ℕ, ◌<◌, ◌≤◌, ◌&&◌, ◌==◌, ◌⊎◌, inl, inr, Bool, true, false, if◌then◌else◌, List, length, map, Option, Some, None, refl, sym, ◌∙◌, ap, subst, arith, eqb-true}
 use Rattle.std.specs.Option.{option_and_then}
-use Rattle.std.proofs.lemmas.Bool.{cases_Bool, cond-true, cond-false}
+use Rattle.std.proofs.lemmas.Bool.{cases_Bool}
 use Rattle.std.proofs.lemmas.Option.{same_Some}
-use Rattle.cw_base.specs.Config.{same_counts}
 use Rattle.cw_base.specs.ReadsBack.{IsBytes}
 use Rattle.cw_base.specs.declared.hash.Digest32.{Digest32}
-use Rattle.cw_coding.specs.Layout.{row_digests}
-use Rattle.cw_tree.specs.Tree.{root_of}
 use Rattle.cw_types.specs.Block.{Block}
 use Rattle.cw_types.specs.Encoding.{block_bytes, context_bytes}
 use Rattle.cw_types.specs.Values.{IsBlock}
@@ -19,7 +15,7 @@ use Rattle.cw_types.proofs.Same.{same_commitment-true, same_commitment_self, sam
 use Rattle.cw_rules.specs.Coding.{AreApart, AreByteChunks, AreRowsOf, IsCoder, IsText}
 use Rattle.cw_rules.specs.Rules.{Chunk}
 use Rattle.cw_coding.specs.Totals.{total_of}
-use Rattle.cw_rules_coded.specs.Coded.{code_rows, decoded, digest_bytes, root_over}
+use Rattle.cw_rules_coded.specs.Coded.{code_rows, decoded, root_over}
 use Rattle.shards.specs.Enough.{AreOfText, IsRooted, no_committees}
 use Rattle.shards.specs.Kept.{rules_of}
 use Rattle.shards.proofs.Shown.{root_there}

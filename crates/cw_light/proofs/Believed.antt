@@ -366,7 +366,7 @@ module _ (r : Rules) (script : List Line) (w : World) (c : IsCluster r script)
   -- where a handed block lies
   abbrev Lies : Handed → Type 0
   Lies y =
-      Branch r w c.enough c.spans keep k.clear (members_of w) lawful keep (now_fronts w) k.anchored
+      Branch r w c.spans keep k.clear (members_of w) lawful keep (now_fronts w) k.anchored
       y
 
   all_lie : (y : Handed) → In y (handed_in r script) → Lies y
@@ -374,7 +374,7 @@ module _ (r : Rules) (script : List Line) (w : World) (c : IsCluster r script)
     where
       by_gave : Gave r w y → Lies y
       by_gave g =
-          branch_of r w c.enough c.spans keep k.clear (members_of w) lawful keep (now_fronts w)
+          branch_of r w c.spans keep k.clear (members_of w) lawful keep (now_fronts w)
           k.anchored g.place (member_notes g.member) g.before g.rest
           (get-map (option_map member_notes) w.members g.place (Some g.member) g.at) g.joined y
           g.gave.block g.gave.high g.gave.holds g.gave.same
@@ -382,14 +382,14 @@ module _ (r : Rules) (script : List Line) (w : World) (c : IsCluster r script)
   chain_on : (handed : List Handed) → ((y : Handed) → In y handed → Lies y) → (z : Handed)
       → In z handed → IsOneChain r w handed z
   chain_on handed all z at =
-      one_chain r w c.enough c.spans keep k.clear (members_of w) lawful keep (now_fronts w)
+      one_chain r w c.spans keep k.clear (members_of w) lawful keep (now_fronts w)
       k.anchored handed all z at
 
   module _ (p : Proposal) (stands : Stands r.epochs (members_of w) (Finalize p)) where
-    at_top : Linked r w c.enough c.spans keep k.clear (members_of w) lawful keep (now_fronts w)
+    at_top : Linked r w c.spans keep k.clear (members_of w) lawful keep (now_fronts w)
         k.anchored p
     at_top =
-        linked r w c.enough c.spans keep k.clear (members_of w) lawful keep (now_fronts w)
+        linked r w c.spans keep k.clear (members_of w) lawful keep (now_fronts w)
         k.anchored p (finalized_in r c.spans (members_of w) lawful keep p stands)
 
     abbrev top : Block
@@ -492,7 +492,7 @@ module _ (r : Rules) (script : List Line) (w : World) (c : IsCluster r script)
             f)
             ∙ at_top.under) in
             let g =
-            under_commit r w c.enough keep k.clear p.payload top at_top.under at_top.positive in
+            under_commit r w keep k.clear p.payload top at_top.under at_top.positive in
             by_same
             (same_or path b top p.payload i noted
             (ap (λ (y : Commitment). y.block) (e ∙ sym g)))
@@ -556,7 +556,7 @@ module _ (r : Rules) (script : List Line) (w : World) (c : IsCluster r script)
             (first_some (noted_block_of b.context.parent) (all_notes w)) f)
             ∙ o.under) in
             let g : commit r x ≡ b.context.parent =
-            noted_commit r w c.enough keep k.clear b.context.parent x noted in
+            noted_commit r w keep k.clear b.context.parent x noted in
             by_same x (parent_on x o root)
             (same_or path a x b.context.parent i noted
             (ap (λ (y : Commitment). y.block) (e ∙ sym g)))

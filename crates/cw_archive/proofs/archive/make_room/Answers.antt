@@ -1,4 +1,4 @@
-use Rattle.std.proofs.Common.{◌≡◌, ◌∙◌, ◌+◌, ◌-◌, ◌≤◌, List, length, ℕ, arith, subst, sym}
+use Rattle.std.proofs.Common.{◌∙◌, ◌-◌, ◌≤◌, List, length, ℕ, arith, subst, sym}
 use Rattle.cw_archive.specs.Archived.{used_of}
 use Rattle.cw_archive.specs.Showing.{HasNewest}
 use Rattle.cw_archive.proofs.RoomLemmas.{all_stay, leaves, popped, used_newest}

@@ -1,4 +1,4 @@
-use Rattle.std.proofs.Common.{◌≡◌, ◌≢◌, ◌∙◌, true, IfNone, IfOk, List, None, Ok, Err, Option, Result, Some, ℕ, inl, inr, map, subst}
+use Rattle.std.proofs.Common.{◌≡◌, ◌≢◌, ◌∙◌, true, IfNone, IfOk, None, Ok, Err, Option, Result, Some, inl, inr, map, subst}
 use Rattle.std.proofs.lemmas.Iterator.{YieldsList-from_slice, items_from_drains}
 use Rattle.cw_coding.specs.Decoding.{IsDecoding, IsDecodeRefusal}
 use Rattle.cw_coding.specs.declared.error.ReedSolomonError.TheVariants.{NoMemory}

@@ -1,4 +1,4 @@
-use Rattle.std.proofs.Common.{◌≡◌, ◌∙◌, ◌-◌, Some, None, ap, eqb-true, length, map, subst, sym}
+use Rattle.std.proofs.Common.{◌≡◌, ◌∙◌, ◌-◌, Some, None, ap, eqb-true, length, map, refl, subst, sym}
 use Rattle.std.specs.Option.{option_and_then}
 use Rattle.cw_rules.specs.Held.{if_committed}
 use Rattle.cw_rules.specs.Rules.{block_of}

@@ -1,7 +1,6 @@
-use Rattle.std.proofs.Common.{◌≡◌, ◌↔◌, ◌≤◌, IsTrue, Some, arith, subst}
+use Rattle.std.proofs.Common.{◌≡◌, ◌↔◌, IsTrue, Some, arith, subst}
 use Rattle.cw_rules.specs.Coding.{AreBytes}
 use Rattle.cw_rules.specs.Rules.{Chunk}
-use Rattle.cw_types.specs.Block.{Block}
 use Rattle.cw_types.specs.declared.commitment.Commitment.{Commitment}
 use Rattle.cw_archive.specs.Archived.{Archived, checks, given_back, least_chunks}
 use Rattle.cw_archive.specs.Showing.{Shows}

@@ -1,7 +1,6 @@
-use Rattle.std.proofs.Common.{◌≡◌, ◌∙◌, ◌≤◌, ◌<◌, IsTrue, List, ap, false, is_some, length, ℕ, refl, subst, sym, true}
+use Rattle.std.proofs.Common.{◌≡◌, ◌∙◌, ◌≤◌, ◌<◌, IsTrue, List, ap, is_some, length, ℕ, subst, sym}
 use Rattle.std.specs.List.{AllByRecursion}
 use Rattle.cw_rules.specs.Coding.{AreBytes}
-use Rattle.cw_rules.specs.Rules.{Chunk}
 use Rattle.shards.specs.Enough.{checked_of}
 use Rattle.shards.specs.Kept.{is_known, with_chunk}
 use Rattle.shards.specs.declared.pieces.KeptChunk.{KeptChunk}

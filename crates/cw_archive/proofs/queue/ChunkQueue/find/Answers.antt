@@ -1,4 +1,4 @@
-use Rattle.std.proofs.Common.{◌≡◌, ◌∙◌, ap, sym}
+use Rattle.std.proofs.Common.{◌∙◌, ap, sym}
 use Rattle.cw_archive.specs.Keys.{at_key}
 use Rattle.cw_archive.specs.Archived.{chunk_at}
 use Rattle.cw_archive.proofs.KeyLemmas.{at_key_found}

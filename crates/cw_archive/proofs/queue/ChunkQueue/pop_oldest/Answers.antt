@@ -1,4 +1,4 @@
-use Rattle.std.proofs.Common.{◌≡◌, ◌∙◌, ◌∷◌, List, None, ap, drop, slice_get, sym, subst}
+use Rattle.std.proofs.Common.{◌∙◌, List, None, ap, drop, slice_get, sym, subst}
 use Rattle.std.specs.Option.{option_map}
 use Rattle.cw_archive.specs.Keys.{IsInOrder, kept_at}
 use Rattle.shards.specs.declared.pieces.KeptChunk.{KeptChunk}

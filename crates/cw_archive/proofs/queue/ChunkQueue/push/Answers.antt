@@ -1,6 +1,6 @@
-use Rattle.std.proofs.Common.{◌≡◌, ◌∙◌, ◌++◌, ◌∷◌, [], List, None, Some, ap, sym, subst}
+use Rattle.std.proofs.Common.{◌≡◌, ◌∙◌, ◌++◌, ◌∷◌, [], List, Some, ap, sym, subst}
 use Rattle.shards.specs.Kept.{is_known, with_chunk}
-use Rattle.cw_archive.specs.Keys.{IsInOrder, at_key, kept_at, key_of}
+use Rattle.cw_archive.specs.Keys.{IsInOrder, kept_at, key_of}
 use Rattle.cw_archive.specs.declared.key.ChunkKey.{ChunkKey}
 use Rattle.cw_archive.proofs.OrderLemmas.{Sets, absent_from, kept_pushed, order_pushed, sets_of}
 use Rattle.cw_archive.proofs.queue.ChunkQueue.push.Goals as goal
