@@ -118,16 +118,6 @@ said_with old new notes note k has is sets q =
     go true = sym (or_true (list_any (says q) notes))
     go false = has q ∙ sym (or_false (list_any (says q) notes))
 
--- a note that says nothing
-pub said_same : (es : Said) (notes : List Note) (note : Note) → HasSaid notes es
-    → fact_of note ≡ None → HasSaid (notes ++ note ∷ []) es
-said_same es notes note has none q =
-    has q
-    ∙ (sym (or_false (list_any (says q) notes))
-    ∙ (ap (λ (o : Option VoteKey). list_any (says q) notes || option_map_or (same_key q) o false)
-    (sym none)
-    ∙ sym (says_more q notes note)))
-
 -- ---- in the words of the rules
 
 pub any_same : {X : Type 0} (p q : X → Bool) → ((x : X) → p x ≡ q x) → (xs : List X)

@@ -113,10 +113,6 @@ none_false : {X : Type 0} (b : Bool) (v : X) → (if b then Some v else None) �
 none_false true v h = cc
 none_false false v h = refl
 
-pub not_true : (b : Bool) → not b ≡ true → b ≡ false
-not_true true h = absurd (false≢true h)
-not_true false h = refl
-
 pub not_false : (b : Bool) → not b ≡ false → b ≡ true
 not_false true h = refl
 not_false false h = absurd (false≢true (sym h))

@@ -93,7 +93,8 @@ certified_over (note ∷ notes) p h =
 -- what is certified is of no view that the member is in
 viewed_left : (x : Epochs) (id : ℕ) (notes : List Note) (p : Proposal)
     → (p.view == view_of notes p.epoch) ≡ true → is_done x id notes p ≡ false
-viewed_left x id notes p h = go (eqb-true p.view (view_of notes p.epoch) h) (has_certified notes p) refl
+viewed_left x id notes p h =
+    go (eqb-true p.view (view_of notes p.epoch) h) (has_certified notes p) refl
   where
     go : p.view ≡ view_of notes p.epoch → (b : Bool) → has_certified notes p ≡ b
         → is_done x id notes p ≡ false

@@ -44,8 +44,8 @@ is_turn t p =
     && list_any (rule.is_single (leader t.epochs p.epoch p.view) (Notarize p)) t.ballots
     && not (rule.has_voted t.notes p.epoch p.view)
 
--- it is, and each view between its parent's and its own is nullified: a vote for it asks no more than
--- its payload
+-- it is, and each view between its parent's and its own is nullified: a vote for it asks no more
+-- than its payload
 unfoldable pub is_votable : Known → Proposal → Bool
 is_votable t p = is_turn t p && rule.all_nullified t.notes p.epoch p.parent p.view
 

@@ -54,12 +54,10 @@ impl<H> Tally<H> {
     fn nth_votable(&self, index: usize) -> Option<Proposal>
         ensures { result ≡ slice_get (owing.votable self.now) index }
     {
-        let noted = self
-            .waiting
-            .noted
-            .iter()
-            .copied()
-            .filter(|proposal| !has_proposal(self.waiting.came.as_slice(), proposal));
+        let noted = self.waiting.noted.iter().copied().filter(|proposal| !has_proposal(
+            self.waiting.came.as_slice(),
+            proposal,
+        ));
         self.waiting
             .came
             .iter()
@@ -81,8 +79,7 @@ impl<H> Tally<H> {
     pub(crate) fn is_votable(&self, proposal: &Proposal) -> bool
         ensures { result ≡ owing.is_votable self.now proposal.now }
     {
-        self.is_turn(proposal)
-            && self.all_nullified(proposal.epoch, proposal.parent, proposal.view)
+        self.is_turn(proposal) && self.all_nullified(proposal.epoch, proposal.parent, proposal.view)
     }
 
     // Whether it is the proposal of the leader of the member's view, in which it hasn't voted.
