@@ -1,5 +1,5 @@
 -- One frame more on the log of a replica.
-use Rattle.std.proofs.Common.{◌≡◌, inl, inr, ℕ, suc, ◌+◌, ◌<◌, ◌^◌, List, [], ◌∷◌, ◌++◌, length, Option, None, Some, Result, Ok, Err, refl, sym, ap, ◌∙◌, arith, length-append}
+use Rattle.std.proofs.Common.{◌≡◌, inl, inr, ℕ, ◌+◌, ◌<◌, ◌^◌, List, [], ◌∷◌, ◌++◌, length, Ok, refl, sym, ap, ◌∙◌, arith, length-append}
 use Rattle.node_disk.proofs.Compose.{stays, weakens}
 use Rattle.node_disk.specs.Disk.{DiskState, LeavesOnly}
 use Rattle.node_disk.specs.Frames.{Finds, FindsWithOrWithout}
@@ -8,52 +8,13 @@ use Rattle.node_disk.specs.Log.{IsBeforeOrSame, HasSettled, with_frame}
 use Rattle.node_disk.proofs.AtRest.{settled_images}
 use Rattle.cw_base.specs.Bytes.{be64}
 use Rattle.cw_base.proofs.Lengths.{length-be64}
-use Rattle.node_disk.proofs.Lists.{same_Ok}
-use Rattle.cw_ledger.specs.Frames.{FindsEither, FindsPayloads, IsBeforeOrPayloads, first_payload, payload_in, payloads_from, payloads_of, with_payload}
+use Rattle.cw_ledger.specs.Frames.{FindsEither, FindsPayloads, IsBeforeOrPayloads, payload_in, payloads_from, payloads_of}
 use Rattle.cw_ledger.specs.Kept.{KeepBalances, amount_in, kept_payloads, payloads_or_none}
 use Rattle.cw_ledger.specs.Ledger.{frame_of, frames_of}
 use Rattle.cw_ledger.specs.Transfers.{balances, moved_all, transfers}
-use Rattle.cw_ledger.proofs.Loading.{as_many, frames_more}
+use Rattle.cw_ledger.proofs.Loading.{as_many, frames_more, one_more}
 use Rattle.cw_ledger.proofs.Moving.{balances_more, moved_all_same}
 use Rattle.cw_ledger.proofs.Reading.{found_again}
-
--- ---- one frame more
-
-one_more : (place height : ℕ) (frames payloads : List (List ℕ)) (frame payload : List ℕ)
-    → payloads_from place height frames ≡ Ok payloads
-    → payload_in (height + length frames) frame ≡ Some payload
-    → payloads_from place height (frames ++ frame ∷ []) ≡ Ok (payloads ++ payload ∷ [])
-one_more place height [] payloads frame payload e new =
-    ap (λ n. first_payload place (payload_in n frame) (Ok []))
-    (let z : height ≡ height + 0 = omega arith in z)
-    ∙ ap (λ o. first_payload place o (Ok [])) new
-    ∙ ap (λ ps. Ok (ps ++ payload ∷ [])) (same_Ok [] payloads e)
-one_more place height (f ∷ fs) payloads frame payload e new =
-    go (λ ps is. one_more (place + 9 + length f) (height + 1) fs ps frame payload is next)
-    (payload_in height f) (payloads_from (place + 9 + length f) (height + 1) fs) refl refl e
-  where
-    next : payload_in (height + 1 + length fs) frame ≡ Some payload
-    next =
-        ap (λ n. payload_in n frame)
-        (let z : height + 1 + length fs ≡ height + suc (length fs) = omega arith in z)
-        ∙ new
-
-    go : ((ps : List (List ℕ)) → payloads_from (place + 9 + length f) (height + 1) fs ≡ Ok ps
-        → payloads_from (place + 9 + length f) (height + 1) (fs ++ frame ∷ [])
-        ≡ Ok (ps ++ payload ∷ []))
-        → (o : Option (List ℕ)) (r : Result (List (List ℕ)) ℕ) → payload_in height f ≡ o
-        → payloads_from (place + 9 + length f) (height + 1) fs ≡ r
-        → first_payload place o r ≡ Ok payloads
-        → payloads_from place height ((f ∷ fs) ++ frame ∷ []) ≡ Ok (payloads ++ payload ∷ [])
-    go later None r first rest h = absurd cc
-    go later (Some p) (Err q) first rest h = absurd cc
-    go later (Some p) (Ok ps) first rest h =
-        ap
-        (λ o. first_payload place o
-        (payloads_from (place + 9 + length f) (height + 1) (fs ++ frame ∷ [])))
-        first
-        ∙ ap (with_payload p) (later ps rest)
-        ∙ ap (λ l. Ok (l ++ payload ∷ [])) (same_Ok (p ∷ ps) payloads h)
 
 -- ---- what a log's images show
 
@@ -161,9 +122,3 @@ module _ (frames : List (List ℕ)) (entries : List (ℕ × ℕ)) (are : KeepBal
           ∙ sym (balances_more (kept_payloads frames) payload a)
           ∙ ap (λ ps. balances ps a) (sym payloads_are);
     }
-
--- the entries have what they had
-pub kept_same : (frames : List (List ℕ)) (old new : List (ℕ × ℕ)) → KeepBalances frames old
-    → ((a : ℕ) → amount_in new a ≡ amount_in old a) → KeepBalances frames new
-kept_same frames old new are same =
-    record { found = are.found; written = are.written; balanced = λ a. same a ∙ are.balanced a }

@@ -161,7 +161,3 @@ holdings_are entries are =
     in_range 0 account_count entries are.sorted (all_low (keys_of entries))
     (all_weaker (λ k. k < account_count) (λ k. k < 0 + account_count) (λ k lt. omega arith)
     (keys_of entries) are.accounts)
-
--- the same of two that have the same
-pub holdings_same : (f g : ℕ → ℕ) → ((a : ℕ) → f a ≡ g a) → holdings f ≡ holdings g
-holdings_same f g same = same_range f g 0 account_count (λ a le. same a)

@@ -1,14 +1,15 @@
 -- The frames of a log are read one behind the other.
-use Rattle.std.proofs.Common.{◌≡◌, ℕ, suc, ◌+◌, List, [], ◌∷◌, ◌++◌, length, take, drop, map, None, Some, Result, Ok, Err, refl, sym, ap, ◌∙◌, append_assoc, append-nil, add-one, arith, length-append}
-use Rattle.std.specs.List.{enumerate_from, slice_get}
-use Rattle.std.proofs.lemmas.List.{drop_all, take_all}
+use Rattle.std.proofs.Common.{◌≡◌, ℕ, suc, ◌+◌, List, [], ◌∷◌, ◌++◌, length, map, Option, None, Some, Result, Ok, Err, if◌then◌else◌, is_some, refl, sym, ap, ◌∙◌, arith}
+use Rattle.std.specs.List.{enumerate_from}
+use Rattle.std.proofs.lemmas.Option.{same_Some}
 use Rattle.cw_base.specs.ReadsBack.{IsBytes}
-use Rattle.node_disk.proofs.Lists.{at_place}
-use Rattle.node_disk.specs.Frames.{with_front}
-use Rattle.node_disk.proofs.Walks.{front_nil}
-use Rattle.cw_ledger.specs.Frames.{first_payload, payload_in, payloads_from, with_payload}
+use Rattle.node_disk.proofs.Lists.{same_Ok}
+use Rattle.node_disk.specs.Frames.{read_log}
+use Rattle.node_disk.specs.Records.{first_refused, refused_place}
+use Rattle.cw_ledger.specs.Frames.{first_payload, payload_in, payloads_from, payloads_of, read_payloads, with_payload}
 use Rattle.cw_ledger.specs.Kept.{KeepBalances, amount_in, kept_payloads, payloads_or_none}
 use Rattle.cw_ledger.specs.Ledger.{frame_of, frames_of}
+use Rattle.cw_ledger.specs.Loading.{is_payload}
 use Rattle.cw_ledger.specs.Transfers.{balances, first_balance, moved_all, transfers}
 use Rattle.cw_ledger.proofs.Moving.{balances_more, moved_all_same, nothing_moved}
 use Rattle.cw_ledger.proofs.Reading.{frame_is}
@@ -44,100 +45,114 @@ pub as_many : (frames : List (List ℕ)) (entries : List (ℕ × ℕ)) → KeepB
     → length (kept_payloads frames) ≡ length frames
 as_many frames entries are = sym (ap length are.written ∙ length_numbered 0 (kept_payloads frames))
 
+-- ---- one frame more
+
+pub one_more : (place height : ℕ) (frames payloads : List (List ℕ)) (frame payload : List ℕ)
+    → payloads_from place height frames ≡ Ok payloads
+    → payload_in (height + length frames) frame ≡ Some payload
+    → payloads_from place height (frames ++ frame ∷ []) ≡ Ok (payloads ++ payload ∷ [])
+one_more place height [] payloads frame payload e new =
+    ap (λ n. first_payload place (payload_in n frame) (Ok []))
+    (let z : height ≡ height + 0 = omega arith in z)
+    ∙ ap (λ o. first_payload place o (Ok [])) new
+    ∙ ap (λ ps. Ok (ps ++ payload ∷ [])) (same_Ok [] payloads e)
+one_more place height (f ∷ fs) payloads frame payload e new =
+    go (λ ps is. one_more (place + 9 + length f) (height + 1) fs ps frame payload is next)
+    (payload_in height f) (payloads_from (place + 9 + length f) (height + 1) fs) refl refl e
+  where
+    next : payload_in (height + 1 + length fs) frame ≡ Some payload
+    next =
+        ap (λ n. payload_in n frame)
+        (let z : height + 1 + length fs ≡ height + suc (length fs) = omega arith in z)
+        ∙ new
+
+    go : ((ps : List (List ℕ)) → payloads_from (place + 9 + length f) (height + 1) fs ≡ Ok ps
+        → payloads_from (place + 9 + length f) (height + 1) (fs ++ frame ∷ [])
+        ≡ Ok (ps ++ payload ∷ []))
+        → (o : Option (List ℕ)) (r : Result (List (List ℕ)) ℕ) → payload_in height f ≡ o
+        → payloads_from (place + 9 + length f) (height + 1) fs ≡ r
+        → first_payload place o r ≡ Ok payloads
+        → payloads_from place height ((f ∷ fs) ++ frame ∷ []) ≡ Ok (payloads ++ payload ∷ [])
+    go later None r first rest h = absurd cc
+    go later (Some p) (Err q) first rest h = absurd cc
+    go later (Some p) (Ok ps) first rest h =
+        ap
+        (λ o. first_payload place o
+        (payloads_from (place + 9 + length f) (height + 1) (fs ++ frame ∷ [])))
+        first
+        ∙ ap (with_payload p) (later ps rest)
+        ∙ ap (λ l. Ok (l ++ payload ∷ [])) (same_Ok (p ∷ ps) payloads h)
+
 -- ---- frames that are read
 
--- what was read of a log's frames
-pub record IsLoading (frames : List (List ℕ)) (index place : ℕ)
-    (entries : List (ℕ × ℕ)) : Type 0 where
-  pub payloads : List (List ℕ)
-  pub found : payloads_from 0 0 frames
-      ≡ with_front payloads (payloads_from place index (drop index frames))
-  pub written : take index frames ≡ frames_of payloads
-  pub count : length payloads ≡ index
-  pub balanced : (account : ℕ) → amount_in entries account ≡ balances payloads account
-
-pub begins : (frames : List (List ℕ)) (entries : List (ℕ × ℕ))
-    → ((account : ℕ) → amount_in entries account ≡ first_balance account)
-    → IsLoading frames 0 0 entries
-begins frames entries first = record {
-  payloads = [];
-  found = sym (front_nil (payloads_from 0 0 frames));
+-- no frame was read
+pub begins : (entries : List (ℕ × ℕ))
+    → ((account : ℕ) → amount_in entries account ≡ first_balance account) → KeepBalances [] entries
+begins entries first = record {
+  found = refl;
   written = refl;
-  count = refl;
   balanced = λ account. first account ∙ sym (nothing_moved account);
 }
 
-regroup : (front : List (List ℕ)) (payload : List ℕ) (r : Result (List (List ℕ)) ℕ)
-    → with_front front (with_payload payload r) ≡ with_front (front ++ payload ∷ []) r
-regroup front payload (Ok payloads) = ap Ok (sym (append_assoc front (payload ∷ []) payloads))
-regroup front payload (Err place) = refl
-
-pub goes_on : (frames : List (List ℕ)) (index place next : ℕ) (entries more : List (ℕ × ℕ))
-    (frame payload : List ℕ)
-    → IsLoading frames index place entries → slice_get frames index ≡ Some frame → IsBytes frame
-    → payload_in index frame ≡ Some payload
+-- a frame more was read
+pub goes_on : (frames : List (List ℕ)) (entries more : List (ℕ × ℕ)) (frame payload : List ℕ)
+    → KeepBalances frames entries → IsBytes frame → payload_in (length frames) frame ≡ Some payload
     → ((account : ℕ)
     → amount_in more account ≡ moved_all (amount_in entries) (transfers payload) account)
-    → next ≡ place + 9 + length frame → IsLoading frames (index + 1) next more
-goes_on frames index place next entries more frame payload loading at bytes is passed is_next =
-    record {
-      payloads = loading.payloads ++ payload ∷ [];
-      found = rw (add-one index, is_next) (
-          loading.found
-          ∙ ap (λ fs. with_front loading.payloads (payloads_from place index fs)) here.0
-          ∙ ap
-          (λ o. with_front loading.payloads
-          (first_payload place o
-          (payloads_from (place + 9 + length frame) (index + 1) (drop (suc index) frames))))
-          is
-          ∙ regroup loading.payloads payload
-          (payloads_from (place + 9 + length frame) (index + 1) (drop (suc index) frames))
-          ∙ ap
-          (λ n. with_front (loading.payloads ++ payload ∷ [])
-          (payloads_from (place + 9 + length frame) n (drop (suc index) frames)))
-          (add-one index));
-      written = rw (add-one index) (
-          here.1 ∙ ap (λ fs. fs ++ frame ∷ []) loading.written
-          ∙ ap (λ f. frames_of loading.payloads ++ f ∷ [])
-          (frame_is index frame payload bytes is
-          ∙ ap (λ n. frame_of (n, payload)) (sym loading.count))
-          ∙ sym (frames_more loading.payloads payload));
-      count = omega (arith, length-append loading.payloads (payload ∷ []), loading.count);
-      balanced =
-          λ account. passed account
-          ∙ moved_all_same (amount_in entries) (balances loading.payloads) (transfers payload)
-          loading.balanced account
-          ∙ sym (balances_more loading.payloads payload account);
-    }
+    → KeepBalances (frames ++ frame ∷ []) more
+goes_on frames entries more frame payload are bytes is passed = record {
+  found = found ∙ ap Ok (sym payloads_are);
+  written =
+      ap (λ fs. fs ++ frame ∷ []) are.written
+      ∙ ap (λ f. frames_of payloads ++ f ∷ [])
+      (frame_is (length frames) frame payload bytes is
+      ∙ ap (λ n. frame_of (n, payload)) (sym (as_many frames entries are)))
+      ∙ sym (frames_more payloads payload) ∙ ap frames_of (sym payloads_are);
+  balanced =
+      λ account. passed account
+      ∙ moved_all_same (amount_in entries) (balances payloads) (transfers payload) are.balanced
+      account
+      ∙ sym (balances_more payloads payload account)
+      ∙ ap (λ ps. balances ps account) (sym payloads_are);
+}
   where
-    here : (drop index frames ≡ frame ∷ drop (suc index) frames)
-        × (take (suc index) frames ≡ take index frames ++ frame ∷ [])
-    here = at_place frames index frame at
+    payloads : List (List ℕ)
+    payloads = kept_payloads frames
 
-pub refuses : (frames : List (List ℕ)) (index place : ℕ) (entries : List (ℕ × ℕ)) (frame : List ℕ)
-    → IsLoading frames index place entries → slice_get frames index ≡ Some frame
-    → payload_in index frame ≡ None → payloads_from 0 0 frames ≡ Err place
-refuses frames index place entries frame loading at none =
-    let here = at_place frames index frame at in
-    loading.found
-    ∙ ap (λ fs. with_front loading.payloads (payloads_from place index fs)) here.0
-    ∙ ap
-    (λ o. with_front loading.payloads
-    (first_payload place o
-    (payloads_from (place + 9 + length frame) (index + 1) (drop (suc index) frames))))
-    none
+    found : payloads_from 0 0 (frames ++ frame ∷ []) ≡ Ok (kept_payloads frames ++ payload ∷ [])
+    found =
+        one_more 0 0 frames (kept_payloads frames) frame payload are.found
+        (ap (λ n. payload_in n frame)
+        (let z : 0 + length frames ≡ length frames = omega arith in z)
+        ∙ is)
 
-pub ends : (frames : List (List ℕ)) (index place : ℕ) (entries : List (ℕ × ℕ))
-    → IsLoading frames index place entries → index ≡ length frames → KeepBalances frames entries
-ends frames index place entries loading at_end =
-    let none : drop index frames ≡ [] = drop_all index frames (omega arith) in
-    let all : take index frames ≡ frames = take_all index frames (omega arith) in
-    let found : payloads_from 0 0 frames ≡ Ok loading.payloads =
-    loading.found ∙ ap (λ fs. with_front loading.payloads (payloads_from place index fs)) none
-    ∙ ap Ok (append-nil loading.payloads) in
-    let are : loading.payloads ≡ kept_payloads frames = sym (ap payloads_or_none found) in
-    record {
-      found = found ∙ ap Ok are;
-      written = sym all ∙ loading.written ∙ ap frames_of are;
-      balanced = λ account. loading.balanced account ∙ ap (λ ps. balances ps account) are;
-    }
+    payloads_are : kept_payloads (frames ++ frame ∷ []) ≡ kept_payloads frames ++ payload ∷ []
+    payloads_are = ap payloads_or_none found
+
+-- ---- frames that are refused
+
+refused_first : (at place : ℕ) (o : Option (List ℕ)) (later : Option ℕ)
+    (more : Result (List (List ℕ)) ℕ)
+    → (later ≡ Some place → more ≡ Err place)
+    → (if is_some o then later else Some at) ≡ Some place → first_payload at o more ≡ Err place
+refused_first at place None later more on so = ap (λ n. Err n) (same_Some at place so)
+refused_first at place (Some p) later more on so = ap (with_payload p) (on so)
+
+refused_from : (at height : ℕ) (frames : List (List ℕ)) (place : ℕ)
+    → first_refused is_payload at height frames ≡ Some place
+    → payloads_from at height frames ≡ Err place
+refused_from at height [] place refused = absurd cc
+refused_from at height (f ∷ frames) place refused =
+    refused_first at place (payload_in height f)
+    (first_refused is_payload (at + 9 + length f) (height + 1) frames)
+    (payloads_from (at + 9 + length f) (height + 1) frames)
+    (λ so. refused_from (at + 9 + length f) (height + 1) frames place so) refused
+
+pub refused_so : (bytes : List ℕ) (place : ℕ)
+    → refused_place is_payload (read_log bytes) ≡ Some place → read_payloads bytes ≡ Err place
+refused_so bytes place refused = go (read_log bytes) refused
+  where
+    go : (r : Result (List (List ℕ)) ℕ) → refused_place is_payload r ≡ Some place
+        → payloads_of r ≡ Err place
+    go (Ok frames) so = refused_from 0 0 frames place so
+    go (Err p) so = ap (λ n. Err n) (same_Some p place so)

@@ -2,3 +2,4 @@ pub mod Transfers
 pub mod Ledger
 pub mod Frames
 pub mod Kept
+pub mod Loading

@@ -1,18 +1,16 @@
 //! Payloads as the frames of a log, and read back from them.
 
-ghost use Rattle.std.specs.Prelude.{◌≡◌, ◌<◌, ℕ, IfOk, OnOk, Err, IsErrOf};
-ghost use Rattle.std.specs.Prelude.{option_map};
+ghost use Rattle.std.specs.Prelude.{◌≡◌, ℕ, [], IfOk, OnOk, option_map};
 ghost use Rattle.cw_base.specs.ReadsBack.{IsBytes};
-ghost use Rattle.cw_ledger.specs.Frames.{payload_in, payloads_from};
+ghost use Rattle.cw_ledger.specs.Frames.{payload_in};
 ghost use Rattle.cw_ledger.specs.Kept.{KeepBalances, amount_in};
 ghost use Rattle.cw_ledger.specs.Ledger.{frame_of};
 ghost use Rattle.cw_ledger.specs.Transfers.{moved_all, transfers};
-ghost use Rattle.node_disk.specs.LogWords.{log_frames};
 
 use crate::balances::Balances;
 use crate::transfer::transfers_of;
 use cw_base::{NoMemory, Reader, put_be64, put_bytes};
-use node_disk::{Disk, Log, StoreError, place_behind};
+use node_disk::Records;
 use std::alloc::Global;
 
 /// The frame of a block of this height.
@@ -43,26 +41,52 @@ fn are_bytes(bytes: &[u8])
     let _bytes = bytes;
 }
 
-/// The balances that the frames of a log leave.
-pub(crate) fn loaded<D: Disk>(alloc: Global, log: &Log<D>) -> Result<Balances, StoreError>
-    ensures kept { IfOk result (λ balances. KeepBalances (log_frames log.now) balances) }
-    ensures foreign { (place : ℕ) → IsErrOf result (StoreError.Foreign place)
-        → payloads_from 0 0 (log_frames log.now) ≡ Err place }
-    ensures disk { IsErrOf result StoreError.Disk → ⊥ }
-    ensures failed { IsErrOf result StoreError.Failed → ⊥ }
-{
-    let mut balances = Balances::new(alloc)?;
-    let mut place = 0;
-    for index in 0..log.frames() {
-        let frame = log.frame(index);
-        are_bytes(frame);
-        let Some(payload) = payload_in(frame, index as u64) else {
-            return Err(StoreError::Foreign(place));
-        };
-        take_payload(alloc, &mut balances, payload)?;
-        place = place_behind(place, frame)?;
+/// What the frames of a log leave, while they are read.
+#[derive(Drop)]
+pub(crate) struct Loading {
+    balances: Balances,
+    // how many were read
+    count: u64,
+}
+
+impl Loading {
+    /// Before the first frame.
+    pub(crate) fn new(alloc: Global) -> Result<Loading, NoMemory>
+        ensures { IfOk result (λ loading. KeepBalances [] loading.balances × (loading.count ≡ 0)) }
+    {
+        let balances = Balances::new(alloc)?;
+        Ok(Loading { balances, count: 0 })
     }
-    Ok(balances)
+
+    /// The balances after those that were read.
+    pub(crate) fn into_balances(self) -> Balances
+        ensures { result ≡ self.balances }
+    {
+        let Loading { balances, count: _ } = self;
+        balances
+    }
+}
+
+impl Records for Loading {
+    ghost use Rattle.cw_ledger.specs.Loading.{HaveLeft, is_payload};
+
+    ghost is_record = { is_payload };
+
+    ghost keeps = { HaveLeft };
+
+    fn read(&mut self, alloc: Global, frame: &[u8]) -> Result<bool, NoMemory> {
+        are_bytes(frame);
+        let Some(payload) = payload_in(frame, self.count) else {
+            return Ok(false);
+        };
+        // No memory holds so many frames.
+        let Some(count) = self.count.checked_add(1) else {
+            return Err(NoMemory);
+        };
+        take_payload(alloc, &mut self.balances, payload)?;
+        self.count = count;
+        Ok(true)
+    }
 }
 
 // Passes the transfers of a payload.

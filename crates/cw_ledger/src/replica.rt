@@ -14,11 +14,11 @@ ghost use Rattle.cw_ledger.specs.Ledger.{started, written_for};
 ghost use Rattle.cw_ledger.specs.Transfers.{balances, holdings};
 
 use crate::balances::{Balances, Holding};
-use crate::frames::{frame_of, loaded};
+use crate::frames::{Loading, frame_of};
 use crate::transfer::transfers_of;
 use cw_base::{Items, NoMemory};
 use cw_types::ChainBlock;
-use node_disk::{Disk, Log, MemoryDisk, StoreError, law_of_reads};
+use node_disk::{Disk, MemoryDisk, RecordLog, StoreError, law_of_reads};
 use std::alloc::Global;
 use std::marker::Model;
 
@@ -53,14 +53,14 @@ pub enum Applied {
 /// `crates/use_products` gives one a block too early, in its turn and again, and restarts it.
 #[derive(Drop)]
 pub struct Replica<D: Disk> {
-    log: Log<D>,
+    log: RecordLog<D>,
     balances: Balances,
 }
 
 impl<D: Disk> Model for Replica<D> {
     ghost use Rattle.cw_ledger.specs.Kept.{KeepBalances, kept_payloads};
     ghost use Rattle.cw_ledger.specs.Ledger.{Ledger};
-    ghost use Rattle.node_disk.specs.LogWords.{has_failed, log_disk, log_frames, log_gate};
+    ghost use Rattle.node_disk.specs.RecordWords.{has_failed, log_disk, log_frames, log_gate};
 
     ghost Value = { Ledger D };
 
@@ -120,13 +120,16 @@ impl<D: Disk> Replica<D> {
         ensures continues_err { IfErr result (λ e. D.continues disk e.0) }
     {
         law_of_reads::<D>();
-        let log = match Log::start(alloc, disk) {
-            Ok(log) => log,
-            Err(refused) => return Err(refused),
+        let mut loading = match Loading::new(alloc) {
+            Ok(loading) => loading,
+            Err(NoMemory) => return Err((disk, StoreError::NoMemory)),
         };
-        match loaded(alloc, &log) {
-            Ok(balances) => Ok(Replica { log, balances }),
-            Err(error) => Err((log.into_disk(), error)),
+        match RecordLog::start(alloc, disk, &mut loading) {
+            Ok(log) => Ok(Replica {
+                log,
+                balances: loading.into_balances(),
+            }),
+            Err(refused) => Err(refused),
         }
     }
 

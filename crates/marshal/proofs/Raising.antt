@@ -15,20 +15,6 @@ use Rattle.marshal.specs.Reach.{AreAbove, IsLifted}
 
 -- ---- one number more
 
-pub rises_behind : (reach : List ℕ) (last x : ℕ) → Some last ≡ slice_get reach (length reach - 1)
-    → last ≤ x → IsNonDecreasing reach → IsNonDecreasing (reach ++ x ∷ [])
-rises_behind reach last x is low up =
-    IsNonDecreasingBy-push (λ y. y) reach x up
-    (λ d some.
-    let at = same_Some _ _ (is ∙ slice_get-get_or reach (length reach - 1) d (omega (arith, some)))
-    in omega (arith, at))
-
-pub rises_alone : (reach : List ℕ) (x : ℕ) → None ≡ slice_get reach (length reach - 1)
-    → IsNonDecreasing (reach ++ x ∷ [])
-rises_alone [] x is = IsNonDecreasingBy-short (λ y. y) (x ∷ []) (omega arith)
-rises_alone (y ∷ ys) x is =
-    absurd (none-some _ (is ∙ slice_get-get_or (y ∷ ys) (length (y ∷ ys) - 1) 0 (omega arith)))
-
 -- ---- raised from a place on
 
 -- the numbers from a place on are a height up to another place, and those behind it are as before
@@ -137,10 +123,6 @@ raised_all old from height reach place is up end = (
             omega (arith, is.raised i d a b, above j d (omega (arith, a, le)) l)
         go (inr (inr b)) =
             omega (arith, is.behind i d b, is.behind j d (omega (arith, b, le)), on)
-
--- what isn't raised
-pub unraised : (reach : List ℕ) → IsNonDecreasing reach → IsLifted reach reach
-unraised reach up = record { as_many = refl; rising = up; higher = λ i d. omega arith }
 
 -- ---- a block behind its finalization
 

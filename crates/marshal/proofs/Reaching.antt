@@ -23,13 +23,6 @@ use Rattle.marshal.specs.Reach.{AreAbove, HasFinals, IsLifted, Reaches, final_he
 use Rattle.marshal.proofs.Growing.{first_front, held_cases}
 use Rattle.marshal.proofs.Placing.{or_none, position_cons}
 
-pub none_reached : Reaches [] []
-none_reached = record {
-  one_each = refl;
-  rising = IsNonDecreasingBy-short (λ y. y) [] (omega arith);
-  bounds = λ i note e. absurd (none-some note e);
-}
-
 front_get : {X : Type 0} (xs ys : List X) (i : ℕ) → i < length xs
     → slice_get (xs ++ ys) i ≡ slice_get xs i
 front_get [] ys i l = absurd (omega (arith, l))

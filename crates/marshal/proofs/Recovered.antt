@@ -11,7 +11,10 @@ use Rattle.cw_types.specs.declared.round.Round.{Round}
 use Rattle.cw_rules.specs.Accepted.{first_some}
 use Rattle.cw_rules.specs.Held.{held, noted_block_of}
 use Rattle.cw_rules.specs.Notes.{has_block}
-use Rattle.cw_rules.specs.Rules.{Rules, commit, genesis_commitment}
+use Rattle.cw_types.specs.Numbers.{config_for}
+use Rattle.cw_rules.specs.Rules.{Rules, commit, config_among, genesis_commitment}
+use Rattle.cw_rules.specs.declared.travel.Travel.{Travel}
+use Rattle.cw_rules.specs.declared.travel.Travel.TheVariants.{Chunked}
 use Rattle.cw_types.proofs.Same.{same_commitment-true, same_commitment_self}
 use Rattle.marshal.specs.Promises.{IsUnpruned, first_noted}
 use Rattle.marshal.specs.Writing.{block_note, certified_notes, verified_notes}
@@ -98,9 +101,13 @@ module _ (r : Rules) (notes more : List Note) (round : Round) (b : Block)
       subst Holds (sym (regroup notes (block_note r notes b) note more))
       (holds r notes b (note ∷ more) other)
 
--- a committee of four or more cuts a block in two chunks at least, so nothing is committed to as
--- genesis is
-pub cut_apart : (r : Rules) (b : Block) → 4 ≤ size r.epochs b.context.epoch
+-- where blocks travel in chunks a committee of four or more cuts each in two at least, so nothing is
+-- committed to as genesis is
+pub cut_apart : (r : Rules) (b : Block) → r.travel ≡ Chunked → 4 ≤ size r.epochs b.context.epoch
     → commit r b ≢ genesis_commitment r
-cut_apart r b enough e =
-    let one = ap (λ (c : Commitment). c.config.minimum) e in absurd (omega (arith, one))
+cut_apart r b chunked enough e =
+    let one = ap (λ (c : Commitment). c.config.minimum) e in
+    let least : (config_among r.travel (size r.epochs b.context.epoch)).minimum
+    ≡ (config_for (size r.epochs b.context.epoch)).minimum =
+    ap (λ (t : Travel). (config_among t (size r.epochs b.context.epoch)).minimum) chunked in
+    absurd (omega (arith, one, least))

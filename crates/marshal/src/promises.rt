@@ -22,6 +22,7 @@ ghost use Rattle.cw_rules.specs.Held.{greatest_prune, held, last_ack, next, pend
 ghost use Rattle.cw_rules.specs.Owed.{floor_owed};
 ghost use Rattle.cw_rules.specs.Reached.{In};
 ghost use Rattle.cw_rules.specs.Rules.{Rules, commit, digest, genesis_commitment};
+ghost use Rattle.cw_rules.specs.declared.travel.Travel.TheVariants.{Chunked};
 ghost use Rattle.cw_rules.specs.Step.{deliveries, with_handed, with_notes};
 ghost use Rattle.marshal.specs.Finding.{finalization, identified};
 ghost use Rattle.marshal.specs.Promises.{AgreeAt, IsReached, IsUnpruned, first_noted};
@@ -45,9 +46,10 @@ pub fn law_of_recovery()
         (first_noted notes (commit r b) b).height
         → held r (notes ++ certified_notes r notes round b ++ more) (commit r b) ≡ Some
         (first_noted notes (commit r b) b) }
-    // a committee cuts each block in two chunks at least, so none is committed to as genesis is
-    ensures apart { (r : Rules) (b : Block) → 4 ≤ size r.epochs b.context.epoch
-        → commit r b ≢ genesis_commitment r }
+    // where blocks travel in chunks a committee cuts each in two at least, so none is committed to as
+    // genesis is
+    ensures apart { (r : Rules) (b : Block) → r.travel ≡ Chunked
+        → 4 ≤ size r.epochs b.context.epoch → commit r b ≢ genesis_commitment r }
 {}
 
 /// What is handed out is held, and above genesis a noted finalization reaches it; both stay so

@@ -32,6 +32,11 @@ pub with_some : (frames : List (List ℕ)) (frame : List ℕ) → 0 < length fra
 with_some frames [] some = absurd (omega arith)
 with_some frames (byte ∷ bytes) some = refl
 
+pub with_long : (frames : List (List ℕ)) (frame : List ℕ) → (length frame ≡ 0 → ⊥)
+    → frames ++ frame ∷ [] ≡ with_frame frames frame
+with_long frames [] some = absurd (some refl)
+with_long frames (byte ∷ bytes) some = refl
+
 -- an empty frame isn't added
 pub with_none : (frames : List (List ℕ)) (frame : List ℕ) → length frame ≡ 0
     → frames ≡ with_frame frames frame

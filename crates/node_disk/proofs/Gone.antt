@@ -1,5 +1,5 @@
 -- What a device call did, by what it answered.
-use Rattle.std.proofs.Common.{◌≡◌, ◌≤◌, [], Bool, true, false, Result, Ok, Err, OnOk, IfOk, OnErr, refl, sym, ◌∙◌, ap, subst}
+use Rattle.std.proofs.Common.{◌≡◌, ◌≤◌, [], Bool, true, false, Result, Ok, Err, OnOk, IfOk, OnErr, sym, ◌∙◌, ap, subst}
 use Rattle.std.specs.Prelude.{IsErrOf}
 use Rattle.std.proofs.lemmas.List.{append-nil}
 use Rattle.std.specs.declared.alloc.AllocError.{AllocError}

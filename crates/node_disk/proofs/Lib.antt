@@ -2,6 +2,8 @@ pub mod Lists
 pub mod Compose
 pub mod AddFrame
 pub mod AtRest
+pub mod FramesIn
+pub mod Refusing
 pub mod Calm
 pub mod Moments
 pub mod Walks

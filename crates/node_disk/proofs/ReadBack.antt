@@ -1,11 +1,11 @@
 -- Reading a log's bytes, frame by frame.
-use Rattle.std.proofs.Common.{◌≡◌, ◌≢◌, inl, inr, ℕ, zero, suc, ◌+◌, ◌-◌, ◌^◌, ◌<◌, ◌≤◌, List, [], ◌∷◌, ◌++◌, length, take, drop, get_or, Err, true, refl, sym, ◌∙◌, ap, subst, arith, length-append, length-take, length-drop, take-append-drop}
+use Rattle.std.proofs.Common.{◌≡◌, inl, inr, ℕ, zero, suc, ◌+◌, ◌-◌, ◌^◌, ◌<◌, ◌≤◌, List, [], ◌∷◌, ◌++◌, length, take, drop, get_or, Err, true, refl, sym, ◌∙◌, ap, subst, arith, length-append, length-take, length-drop, take-append-drop}
 use Rattle.std.proofs.lemmas.List.{drop_more, get_or-take, get_or-drop, get_or_past}
 use Rattle.std.proofs.lemmas.Bool.{cases_lt}
 use Rattle.std.proofs.lemmas.Nat.{be_bytes_8}
 use Rattle.std.specs.Int.{w64, from_be_bytes}
 use Rattle.cw_base.specs.Bytes.{be64}
-use Rattle.node_disk.specs.Frames.{count_of, with_front, walk, read_log, body, blocks, all_short, IsAtRest}
+use Rattle.node_disk.specs.Frames.{count_of, with_front, walk, read_log, body, blocks, all_short}
 use Rattle.node_disk.proofs.Walks.{length-body, walk_cut, walk_blocks, short_push}
 use Rattle.node_disk.proofs.AtRest.{read_long, blocks-push}
 
@@ -92,20 +92,6 @@ reads_one frames at bytes rest frame from is one small fits lt same =
           );
       inside = omega (arith, is.inside);
       short = short_push frames frame is.short fits;
-    }
-
-pub reads_none : (bytes : List ℕ) → 2 ≤ length bytes → IsReadTo [] 0 bytes
-reads_none bytes long = record { front = refl; place = refl; inside = omega arith; short = refl }
-
-pub reads_all : (frames : List (List ℕ)) (at : ℕ) (bytes : List ℕ) → IsReadTo frames at bytes
-    → get_or bytes at 0 ≢ 1 → IsAtRest frames at bytes
-reads_all frames at bytes is shut =
-    record {
-      front = is.front;
-      place = is.place;
-      inside = is.inside;
-      closed = shut;
-      short = is.short;
     }
 
 -- the frame behind an open gate is cut

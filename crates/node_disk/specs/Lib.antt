@@ -7,4 +7,7 @@ pub mod MemoryLaws
 pub mod Memory
 pub mod Cut
 pub mod LogWords
+pub mod RecordWords
+pub mod Records
+pub mod Bytes
 pub mod Errors

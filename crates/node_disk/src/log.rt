@@ -1,20 +1,19 @@
 //! A log of frames on a disk.
 
-ghost use Rattle.std.specs.Prelude.{◌≡◌, ◌⊎◌, ◌+◌, ◌≤◌, ◌<◌, ◌^◌, ◌++◌, [], ◌∷◌, List, ℕ, length};
-ghost use Rattle.std.specs.Prelude.{true, false, IfOk, OnOk, OnErr, IfErr, Ok, Err, IsErrOf, Some};
-ghost use Rattle.std.specs.Prelude.{None, slice_get, vec_len, vec_capacity};
-ghost use Rattle.node_disk.specs.Images.{IsImage, IsDurable};
+ghost use Rattle.std.specs.Prelude.{◌≡◌, ◌⊎◌, ◌≤◌, ◌<◌, ◌^◌, [], ◌∷◌, List, ℕ, length, true, false};
+ghost use Rattle.std.specs.Prelude.{IfOk, OnOk, OnErr, IfErr, Ok, Err, IsErrOf, Some, None};
+ghost use Rattle.std.specs.Prelude.{slice_get, vec_len, vec_capacity};
+ghost use Rattle.node_disk.specs.Images.{IsImage};
 ghost use Rattle.cw_base.specs.Causes.{Rose};
-ghost use Rattle.node_disk.specs.Disk.{Holds, Torn, LeavesOnly, Synced, HasTold, IsCutShort};
-ghost use Rattle.node_disk.specs.Disk.{IsFront};
-ghost use Rattle.node_disk.specs.Frames.{body, read_log, IsAtRest, Finds, FindsWithOrWithout};
-ghost use Rattle.node_disk.specs.Log.{HasSettled, all_items, write_then_sync, with_frame};
+ghost use Rattle.node_disk.specs.Disk.{LeavesOnly, Synced, HasTold, IsCutShort, IsFront};
+ghost use Rattle.node_disk.specs.Frames.{read_log, Finds, FindsWithOrWithout, frames_in};
+ghost use Rattle.node_disk.specs.Log.{all_items, with_frame};
 ghost use Rattle.node_disk.specs.Log.{calls_of_append, start_calls, IsBeforeOrSame, HasAppended};
 ghost use Rattle.node_disk.specs.Log.{WasCutShort};
 
-use crate::reading::read_frames;
-use crate::{Disk, DiskError, MemoryDisk};
-use cw_base::{NoMemory, put_be64, put_bytes, put_u8};
+use crate::records::Bytes;
+use crate::{Disk, DiskError, MemoryDisk, RecordLog};
+use cw_base::NoMemory;
 use std::alloc::{AllocError, AllocFailed, Global};
 use thiserror::Error;
 
@@ -84,15 +83,8 @@ impl From<DiskError> for StoreError {
     }
 }
 
-/// A log of frames on a disk. It holds its frames in memory too.
-///
-/// The file is read from place 0. A gate byte that is 1 opens a frame: eight bytes of length, high
-/// byte first, the frame, and the next gate byte. Any other gate byte is closed and ends the log;
-/// what stands behind it doesn't count. A file shorter than two bytes has no frames.
-///
-/// An append writes length, frame and a closed gate behind the last gate, syncs, opens the last
-/// gate and syncs. So the gate stands closed on the disk until the frame behind it is there whole,
-/// and no checksum is needed.
+/// A log of frames on a disk, as [`RecordLog`] has them, for whoever wants their bytes: it holds them
+/// in memory too.
 ///
 /// ```text
 /// let mut log = match Log::start(alloc, MemoryDisk::new(alloc, Vec::new(alloc))) {
@@ -105,13 +97,9 @@ impl From<DiskError> for StoreError {
 #[derive(Drop)]
 pub struct Log<D: Disk> {
     alloc: Global,
-    disk: D,
+    pub(crate) log: RecordLog<D>,
     frames: Vec<Vec<u8>>,
-    // The place of the last gate, which is closed.
-    gate: u64,
-    // An earlier call left the disk in doubt.
-    failed: bool,
-    ghost settled: { failed ≡ false → HasSettled (all_items frames.items) gate (D.state disk).now },
+    ghost kept: { all_items frames.items ≡ frames_in log.count (D.state log.disk).now.seen },
 }
 
 impl<D: Disk> Log<D> {
@@ -120,8 +108,7 @@ impl<D: Disk> Log<D> {
 
     /// Opens the log of a disk: syncs, reads, and where the file is shorter than two bytes writes a
     /// closed gate and syncs. An `Err` hands the disk back.
-    #[tactic(auto, using(crate::proofs::AtRest::settled_images))]
-    pub fn start(alloc: Global, mut disk: D) -> Result<Log<D>, (D, StoreError)>
+    pub fn start(alloc: Global, disk: D) -> Result<Log<D>, (D, StoreError)>
         // The frames are those of the bytes that it found, or a frame there is cut.
         ensures ok { IfOk result (λ log. (has_failed log ≡ false)
             × Finds (log_frames log) (D.state disk).now.seen) }
@@ -165,31 +152,14 @@ impl<D: Disk> Log<D> {
         ensures continues { IfOk result (λ log. D.continues disk (log_disk log)) }
         ensures continues_err { IfErr result (λ e. D.continues disk e.0) }
     {
-        let bytes = match found_bytes(alloc, &mut disk) {
-            Ok(bytes) => bytes,
-            Err(error) => return Err((disk, StoreError::from(error))),
-        };
-        if bytes.len() < 2 {
-            if let Err(error) = write_and_sync(&mut disk, 0, &[0]) {
-                return Err((disk, StoreError::from(error)));
-            }
-            return Ok(Log {
+        let mut kept = Bytes::new(alloc);
+        match RecordLog::start(alloc, disk, &mut kept) {
+            Ok(log) => Ok(Log {
                 alloc,
-                disk,
-                frames: Vec::new(alloc),
-                gate: 0,
-                failed: false,
-            });
-        }
-        match read_frames(alloc, &bytes) {
-            Ok((frames, gate)) => Ok(Log {
-                alloc,
-                disk,
-                frames,
-                gate,
-                failed: false,
+                log,
+                frames: kept.into_frames(),
             }),
-            Err(error) => Err((disk, error)),
+            Err(refused) => Err(refused),
         }
     }
 
@@ -212,7 +182,7 @@ impl<D: Disk> Log<D> {
     pub fn is_failed(&self) -> bool
         ensures { result ≡ has_failed self.now }
     {
-        self.failed
+        self.log.is_failed()
     }
 
     /// Adds a frame, which is then on the disk, by four device calls: it writes length, frame and a
@@ -266,26 +236,23 @@ impl<D: Disk> Log<D> {
         // Its length fits the eight bytes.
         ensures short { length frame.now < 2 ^ 64 }
     {
-        let count = frame.len();
-        if self.failed {
+        if frame.is_empty() {
+            return self.log.append(frame);
+        }
+        if self.log.is_failed() {
             return Err(StoreError::Failed);
         }
-        if count == 0 {
-            return Ok(());
-        }
-        let Ok((kept, bytes, next)) = prepare(self.alloc, &mut self.frames, self.gate, frame) else {
+        let Ok(kept) = copy_for(self.alloc, &mut self.frames, frame) else {
             return Err(StoreError::NoMemory);
         };
-        self.failed = true;
-        match add_frame(&mut self.disk, self.gate, &bytes) {
-            Ok(()) => {}
-            Err(error) => return Err(StoreError::from(error)),
+        match self.log.append(frame) {
+            Ok(()) => {
+                // Room was reserved, so this takes no memory.
+                let _ = self.frames.push(kept);
+                Ok(())
+            }
+            Err(error) => Err(error),
         }
-        // Room was reserved, so this takes no memory.
-        let _ = self.frames.push(kept);
-        self.gate = next;
-        self.failed = false;
-        Ok(())
     }
 
     /// The disk of the log, as it stands.
@@ -294,137 +261,20 @@ impl<D: Disk> Log<D> {
     {
         let Log {
             alloc: _,
-            disk,
+            log,
             frames: _,
-            gate: _,
-            failed: _,
         } = self;
-        disk
+        log.into_disk()
     }
 }
-
-// Syncs a disk and reads it.
-fn found_bytes<D: Disk>(alloc: Global, disk: &mut D) -> Result<Vec<u8>, DiskError>
-    ensures bytes { IfOk result (λ bytes. bytes.items ≡ (D.state disk.old).now.seen) }
-    ensures seen { OnOk result ((D.state disk.new).now.seen ≡ (D.state disk.old).now.seen) }
-    ensures durable { OnOk result (IsDurable (D.state disk.new).now) }
-    ensures any_moment { LeavesOnly (D.state disk.old) (D.state disk.new)
-        (IsImage (D.state disk.old).now) }
-    ensures calls { OnOk result (HasTold (Synced true ∷ []) (D.state disk.old) (D.state disk.new)) }
-    ensures failed { IsErrOf result DiskError.Failed
-        → IsCutShort (Synced true ∷ []) (D.state disk.old) (D.state disk.new)
-        ⊎ HasTold (Synced true ∷ []) (D.state disk.old) (D.state disk.new) }
-    ensures no_memory { IsErrOf result DiskError.NoMemory
-        → IsFront (Synced true ∷ []) (D.state disk.old) (D.state disk.new) }
-    ensures cause { IsErrOf result DiskError.Failed
-        → Rose (D.state disk.old).faults (D.state disk.new).faults }
-    ensures faults { (D.state disk.old).faults ≤ (D.state disk.new).faults }
-    ensures never_fails { D.calm disk.old ≡ true → IsErrOf result DiskError.Failed → ⊥ }
-    ensures continues { D.continues disk.old disk.new }
-{
-    match disk.sync() {
-        Ok(()) => disk.read_all(alloc),
-        Err(error) => Err(error),
-    }
-}
-
-// What an append writes behind the last gate: length, frame and a closed gate.
-fn bytes_of(alloc: Global, frame: &[u8]) -> Result<Vec<u8>, NoMemory>
-    ensures { IfOk result (λ bytes. bytes.items ≡ body frame.now ++ 0 ∷ []) }
-{
-    let mut bytes = Vec::new(alloc);
-    put_be64(&mut bytes, frame.len() as u64)?;
-    put_bytes(&mut bytes, frame)?;
-    put_u8(&mut bytes, 0)?;
-    Ok(bytes)
-}
-
-// What an append needs of memory: room for one frame more, a copy of it, what is written, and the
-// place of the gate behind it.
-fn prepare(
-    alloc: Global,
-    frames: &mut Vec<Vec<u8>>,
-    gate: u64,
-    frame: &[u8],
-) -> Result<(Vec<u8>, Vec<u8>, u64), NoMemory>
+// A copy of a frame, and room for it behind the others.
+fn copy_for(alloc: Global, frames: &mut Vec<Vec<u8>>, frame: &[u8]) -> Result<Vec<u8>, NoMemory>
     ensures same { frames.new.items ≡ frames.old.items }
     ensures room { OnOk result (vec_len frames.new < vec_capacity frames.new) }
-    ensures made { IfOk result (λ made. (made.0.items ≡ frame.now)
-        × (made.1.items ≡ body frame.now ++ 0 ∷ [])
-        × (made.2 ≡ gate + length made.1.items)) }
-    ensures fits { OnOk result (gate + 1 < 2 ^ 64) }
+    ensures copy { IfOk result (λ kept. kept.items ≡ frame.now) }
 {
     frames.reserve(1)?;
-    let kept = frame.to_vec(alloc)?;
-    let bytes = bytes_of(alloc, frame)?;
-    // No memory holds the frames of so long a file.
-    match gate.checked_add(bytes.len() as u64) {
-        None => Err(NoMemory),
-        Some(next) => Ok((kept, bytes, next)),
-    }
-}
-
-// Writes bytes on a disk that is all synced, and syncs it.
-fn write_and_sync<D: Disk>(disk: &mut D, place: u64, bytes: &[u8]) -> Result<(), DiskError>
-    requires inside { place ≤ length (D.state disk.old).now.seen }
-    requires durable { IsDurable (D.state disk.old).now }
-    ensures written { OnOk result
-        (Holds (D.state disk.old).now.seen place bytes.now (D.state disk.new).now.seen) }
-    ensures durable { OnOk result (IsDurable (D.state disk.new).now) }
-    ensures any_moment { LeavesOnly (D.state disk.old) (D.state disk.new)
-        (Torn place (length bytes.now) (D.state disk.old).now.seen) }
-    ensures calls { OnOk result
-        (HasTold (write_then_sync place bytes.now) (D.state disk.old) (D.state disk.new)) }
-    ensures failed { IsErrOf result DiskError.Failed
-        → IsCutShort (write_then_sync place bytes.now) (D.state disk.old) (D.state disk.new) }
-    ensures no_memory { IsErrOf result DiskError.NoMemory
-        → IsFront (write_then_sync place bytes.now) (D.state disk.old) (D.state disk.new) }
-    ensures cause { IsErrOf result DiskError.Failed
-        → Rose (D.state disk.old).faults (D.state disk.new).faults }
-    ensures faults { (D.state disk.old).faults ≤ (D.state disk.new).faults }
-    ensures tried { Rose (D.state disk.old).tries (D.state disk.new).tries }
-    ensures never_fails { D.calm disk.old ≡ true → IsErrOf result DiskError.Failed → ⊥ }
-    ensures continues { D.continues disk.old disk.new }
-{
-    match disk.write_at(place, bytes) {
-        Ok(()) => disk.sync(),
-        Err(error) => Err(error),
-    }
-}
-
-// Writes a frame's bytes and a closed gate behind the last gate, and then opens that gate.
-fn add_frame<D: Disk>(disk: &mut D, gate: u64, bytes: &[u8]) -> Result<(), DiskError>
-    requires inside { gate < length (D.state disk.old).now.seen }
-    requires fits { gate + 1 < 2 ^ 64 }
-    requires durable { IsDurable (D.state disk.old).now }
-    ensures ok { OnOk result ((frames : List (List ℕ)) (frame : List ℕ)
-        → IsAtRest frames gate (D.state disk.old).now.seen → bytes.now ≡ body frame ++ 0 ∷ []
-        → length frame < 2 ^ 64
-        → HasSettled (frames ++ frame ∷ []) (gate + length bytes.now) (D.state disk.new).now) }
-    ensures any_moment { (frames : List (List ℕ)) (frame : List ℕ)
-        → IsAtRest frames gate (D.state disk.old).now.seen → bytes.now ≡ body frame ++ 0 ∷ []
-        → length frame < 2 ^ 64
-        → LeavesOnly (D.state disk.old) (D.state disk.new) (FindsWithOrWithout frames frame) }
-    ensures calls { OnOk result
-        (HasTold (write_then_sync (gate + 1) bytes.now ++ write_then_sync gate (1 ∷ []))
-        (D.state disk.old) (D.state disk.new)) }
-    ensures failed { IsErrOf result DiskError.Failed
-        → IsCutShort (write_then_sync (gate + 1) bytes.now ++ write_then_sync gate (1 ∷ []))
-        (D.state disk.old) (D.state disk.new) }
-    ensures no_memory { IsErrOf result DiskError.NoMemory
-        → IsFront (write_then_sync (gate + 1) bytes.now ++ write_then_sync gate (1 ∷ []))
-        (D.state disk.old) (D.state disk.new) }
-    ensures cause { IsErrOf result DiskError.Failed
-        → Rose (D.state disk.old).faults (D.state disk.new).faults }
-    ensures faults { (D.state disk.old).faults ≤ (D.state disk.new).faults }
-    ensures tried { Rose (D.state disk.old).tries (D.state disk.new).tries }
-    ensures never_fails { D.calm disk.old ≡ true → IsErrOf result DiskError.Failed → ⊥ }
-    ensures continues { D.continues disk.old disk.new }
-{
-    match write_and_sync(disk, gate + 1, bytes) {
-        Ok(()) => write_and_sync(disk, gate, &[1]),
-        Err(error) => Err(error),
-    }
+    Ok(frame.to_vec(alloc)?)
 }
 
 /// What a log over a disk in memory shows of it.
@@ -447,7 +297,7 @@ impl Log<MemoryDisk> {
         ensures gate { log_gate self.new ≡ log_gate self.old }
         ensures failed { has_failed self.new ≡ has_failed self.old }
     {
-        self.disk.stop_at(call, cut, fill);
+        self.log.stop_at(call, cut, fill);
     }
 
     /// Drops a stop of the disk that wasn't reached.
@@ -461,13 +311,13 @@ impl Log<MemoryDisk> {
         ensures gate { log_gate self.new ≡ log_gate self.old }
         ensures failed { has_failed self.new ≡ has_failed self.old }
     {
-        self.disk.disarm();
+        self.log.disarm();
     }
 
     /// What a read of the disk gives.
     pub fn bytes(&self) -> &[u8]
         ensures { result.now ≡ (memory_state (log_disk self.now)).now.seen }
     {
-        self.disk.bytes()
+        self.log.bytes()
     }
 }

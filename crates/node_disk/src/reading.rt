@@ -1,13 +1,12 @@
 //! Reading a log's bytes.
 
 ghost use Rattle.std.specs.Prelude.{◌≡◌, ◌+◌, ◌≤◌, ◌<◌, ◌++◌, [], ◌∷◌, ℕ, List, length, IfOk};
-ghost use Rattle.std.specs.Prelude.{IsErrOf, Ok, Err, MatchOption, take, drop};
+ghost use Rattle.std.specs.Prelude.{IsErrOf, Ok, Err, MatchOption, Some, map, slice_get, take, drop};
 ghost use Rattle.node_disk.specs.Frames.{count_of, read_log, IsAtRest};
-ghost use Rattle.node_disk.specs.Log.{all_items};
 
 use crate::StoreError;
 use cw_base::{Items, NoMemory};
-use std::alloc::{AllocError, Global};
+use std::alloc::Global;
 
 /// The frames of a log that these bytes are, without a disk: those that a start finds on a disk
 /// that gives them. `Foreign` is the place of an open gate whose frame is cut, in bytes from the
@@ -23,7 +22,7 @@ pub fn read_log(alloc: Global, bytes: &[u8]) -> Result<Items<Items<u8>>, StoreEr
         return Ok(Items::new(alloc));
     }
     match read_frames(alloc, bytes) {
-        Ok((frames, _)) => match items_of(alloc, frames) {
+        Ok((frames, _)) => match items_of(alloc, &frames) {
             Ok(items) => Ok(items),
             Err(NoMemory) => Err(StoreError::NoMemory),
         },
@@ -46,14 +45,29 @@ pub fn place_behind(place: u64, frame: &[u8]) -> Result<u64, NoMemory>
 }
 
 // The same frames, as lists that contracts see as their bytes.
-fn items_of(alloc: Global, frames: Vec<Vec<u8>>) -> Result<Items<Items<u8>>, NoMemory>
-    ensures { IfOk result (λ items. items ≡ all_items frames.items) }
+fn items_of(alloc: Global, frames: &[&[u8]]) -> Result<Items<Items<u8>>, NoMemory>
+    ensures { IfOk result (λ items. items ≡ map (λ frame. frame.now) frames.now) }
 {
     let mut items = Items::new(alloc);
-    for frame in frames {
-        items.push(Items::from_vec(frame))?;
+    for index in 0..frames.len() {
+        let copy = copy_of(alloc, frame_in(frames, index))?;
+        items.push(copy)?;
     }
     Ok(items)
+}
+
+fn copy_of(alloc: Global, frame: &[u8]) -> Result<Items<u8>, NoMemory>
+    ensures { IfOk result (λ copy. copy ≡ frame.now) }
+{
+    Ok(Items::from_vec(frame.to_vec(alloc)?))
+}
+
+/// The frame at this index.
+pub(crate) fn frame_in<'a>(frames: &[&'a [u8]], index: usize) -> &'a [u8]
+    requires { index < length frames.now }
+    ensures { slice_get (map (λ frame. frame.now) frames.now) index ≡ Some result.now }
+{
+    frames[index]
 }
 
 // The number that eight bytes say, the high byte first.
@@ -68,36 +82,36 @@ fn read_count(bytes: &[u8]) -> u64
 }
 
 // The frame that follows an open gate, if it is whole and a gate follows it.
-fn first_frame(alloc: Global, rest: &[u8]) -> Result<Option<Vec<u8>>, AllocError>
-    ensures { IfOk result (λ found. MatchOption found
+fn first_frame(rest: &[u8]) -> Option<&[u8]>
+    ensures { MatchOption result
         (length rest.now ≤ 8 + count_of rest.now)
         (λ frame. (8 + count_of rest.now < length rest.now)
-        × (frame.items ≡ take (count_of rest.now) (drop 8 rest.now)))) }
+        × (frame.now ≡ take (count_of rest.now) (drop 8 rest.now))) }
 {
     if rest.len() < 8 {
-        return Ok(None);
+        return None;
     }
     let count = read_count(rest);
     if (rest.len() - 8) as u64 <= count {
-        return Ok(None);
+        return None;
     }
-    let frame = rest[8..8 + count as usize].to_vec(alloc)?;
-    Ok(Some(frame))
+    Some(&rest[8..8 + count as usize])
 }
 
-// The frames, and the place of the gate behind the last.
-pub(crate) fn read_frames(alloc: Global, bytes: &[u8]) -> Result<(Vec<Vec<u8>>, u64), StoreError>
+/// The frames, and the place of the gate behind the last.
+pub(crate) fn read_frames(alloc: Global, bytes: &[u8]) -> Result<(Vec<&[u8]>, u64), StoreError>
     requires { 2 ≤ length bytes.now }
-    ensures found { IfOk result (λ p. IsAtRest (all_items p.0.items) p.1 bytes.now) }
+    ensures found { IfOk result
+        (λ p. IsAtRest (map (λ frame. frame.now) p.0.items) p.1 bytes.now) }
     ensures foreign { (place : ℕ) → IsErrOf result (StoreError.Foreign place)
         → read_log bytes.now ≡ Err place }
     ensures disk { IsErrOf result StoreError.Disk → ⊥ }
     ensures failed { IsErrOf result StoreError.Failed → ⊥ }
 {
-    let mut frames: Vec<Vec<u8>> = Vec::new(alloc);
+    let mut frames = Vec::new(alloc);
     let mut at = 0usize;
     while bytes[at] == 1 {
-        match first_frame(alloc, &bytes[at + 1..])? {
+        match first_frame(&bytes[at + 1..]) {
             None => return Err(StoreError::Foreign(at as u64)),
             Some(frame) => {
                 at += 9 + frame.len();

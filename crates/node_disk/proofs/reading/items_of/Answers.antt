@@ -1,25 +1,13 @@
-use Rattle.std.proofs.Common.{List, ℕ, Vec, ◌++◌, [], ◌∷◌, rules, map-id, sym, ap, ◌∙◌}
-use Rattle.std.specs.declared.alloc.Global.{Global}
-use Rattle.std.proofs.lemmas.List.{map-append}
-use Rattle.std.proofs.lemmas.Iterator.Adapters.{YieldsList-from_vec}
-use Rattle.std.proofs.lemmas.Iterator.Consumers.{YieldsList-end}
-use Rattle.node_disk.specs.Log.{all_items}
+use Rattle.std.proofs.Common.{List, ℕ, ◌++◌, [], ◌∷◌, map, take, ap, ◌∙◌}
+use Rattle.node_disk.proofs.Refusing.{one_behind}
 use Rattle.node_disk.proofs.reading.items_of.Goals as goal
 
-pub loop-frame-preserved : goal.loop-frame-preserved
-loop-frame-preserved c =
+pub loop-index-preserved : goal.loop-index-preserved
+loop-index-preserved c =
     c.in_ok-push.ensures.ok
-    ∙ ap (λ (l : List (List ℕ)). l ++ c.from_vec.result ∷ []) c.loop-frame.invariant
-    ∙ ap (λ (x : List ℕ). all_items c.loop-frame.yielded ++ x ∷ []) c.from_vec.ensures
-    ∙ sym (map-append (λ (v : Vec ℕ Global). v.items) c.loop-frame.yielded (c.in-Some.frame ∷ []))
-
-pub returns : goal.returns
-returns c =
-    let end =
-    YieldsList-end
-    (YieldsList-from_vec {s = c.into_iter-frame-iterator.result} c.args.frames.items
-    (search rules) (search rules))
-    c.loop-frame.yielded c.loop-frame.frame-iterator c.loop-frame.yielded_by c.next.result
-    c.next.new.self c.in-None.is c.next.ensures.steps in
-    let all = sym (map-id c.loop-frame.yielded) ∙ end.0 in
-    c.loop-frame.invariant ∙ ap all_items all
+    ∙ ap (λ (l : List (List ℕ)). l ++ c.in_ok-copy.copy ∷ []) c.loop-index.invariant
+    ∙ ap
+    (λ (x : List ℕ). take c.loop-index.index (map (λ frame. frame.now) c.args.frames.now) ++ x ∷ [])
+    c.in_ok-copy.ensures
+    ∙ one_behind (map (λ frame. frame.now) c.args.frames.now) c.loop-index.index
+    c.frame_in.result.now c.frame_in.ensures

@@ -1,6 +1,5 @@
-use Rattle.std.proofs.Common.{◌≡◌}
-use Rattle.node_disk.specs.Log.{all_items}
+use Rattle.std.proofs.Common.{◌≡◌, map, take}
 use Rattle.node_disk.proofs.reading.items_of.Given as goal
 
-abbrev pub invariant-loop-frame : goal.invariant-loop-frame
-invariant-loop-frame l = l.items ≡ all_items l.yielded
+abbrev pub invariant-loop-index : goal.invariant-loop-index
+invariant-loop-index l = l.items ≡ take l.index (map (λ frame. frame.now) l.frames)

@@ -2,7 +2,7 @@ use Rattle.std.proofs.Common.{◌≡◌, ◌∙◌, ◌<◌, ◌^◌, ◌++◌, 
 use Rattle.node_disk.specs.Disk.{LeavesOnly}
 use Rattle.node_disk.specs.Frames.{FindsWithOrWithout}
 use Rattle.node_disk.specs.Log.{with_frame}
-use Rattle.node_disk.specs.LogWords.{has_failed, log_disk, log_frames, log_gate}
+use Rattle.node_disk.specs.RecordWords.{has_failed, log_disk, log_frames, log_gate}
 use Rattle.cw_ledger.specs.Kept.{amount_in, kept_payloads}
 use Rattle.cw_ledger.specs.Ledger.{Ledger, frame_of}
 use Rattle.cw_ledger.specs.Transfers.{moved_all, transfers}

@@ -1,7 +1,7 @@
 use Rattle.std.proofs.Common.{◌≡◌, ◌∙◌, ℕ, List, length, refl, ap, sym, subst, false, arith, rules}
 use Rattle.node_disk.specs.Disk.{IsFront, LeavesOnly}
 use Rattle.node_disk.specs.Log.{HasAppended, WasCutShort, calls_of_append}
-use Rattle.node_disk.specs.LogWords.{log_frames}
+use Rattle.node_disk.specs.RecordWords.{log_frames}
 use Rattle.cw_ledger.specs.Frames.{FindsEither}
 use Rattle.cw_ledger.specs.Ledger.{Ledger, log_of, over}
 use Rattle.cw_ledger.proofs.Applying.{is_gap, is_known, is_next, same_error}

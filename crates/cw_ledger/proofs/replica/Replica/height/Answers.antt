@@ -1,6 +1,6 @@
 use Rattle.std.proofs.Common.{◌≡◌, ℕ, ◌-◌, ◌==◌, Some, None, cond, Bool, true, false, length, ap, sym, ◌∙◌, refl, rules}
 use Rattle.std.proofs.lemmas.Bool.{eqb-true}
-use Rattle.node_disk.specs.LogWords.{log_frames}
+use Rattle.node_disk.specs.RecordWords.{log_frames}
 use Rattle.cw_ledger.specs.Ledger.{Ledger, last_height}
 use Rattle.cw_ledger.proofs.Loading.{as_many}
 use Rattle.cw_ledger.proofs.replica.Replica.height.Goals as goal

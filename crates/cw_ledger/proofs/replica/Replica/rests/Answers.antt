@@ -1,6 +1,6 @@
 use Rattle.std.proofs.Common.{◌≡◌, ◌∙◌, false, ap}
 use Rattle.node_disk.specs.Images.{IsImage}
-use Rattle.node_disk.specs.LogWords.{has_failed, log_disk, log_frames, log_gate}
+use Rattle.node_disk.specs.RecordWords.{has_failed, log_disk, log_frames, log_gate}
 use Rattle.node_disk.proofs.AtRest.{settled_images}
 use Rattle.cw_ledger.specs.Kept.{kept_payloads}
 use Rattle.cw_ledger.specs.Ledger.{Ledger}

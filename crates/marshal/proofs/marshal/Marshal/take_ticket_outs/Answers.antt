@@ -1,5 +1,5 @@
 use Rattle.std.proofs.Common.{refl}
-use Rattle.node_disk.specs.LogWords.{log_frames}
+use Rattle.node_disk.specs.RecordWords.{log_frames}
 use Rattle.marshal.proofs.Committing.{all_are}
 use Rattle.marshal.proofs.marshal.Marshal.take_ticket_outs.Goals as goal
 

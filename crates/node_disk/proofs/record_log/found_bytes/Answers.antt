@@ -4,7 +4,7 @@ use Rattle.node_disk.specs.Disk.{DiskState, HasSynced, IsSame, Synced}
 use Rattle.node_disk.specs.declared.disk.DiskError.TheVariants.{Failed, NoMemory}
 use Rattle.node_disk.proofs.Moments.{rose_late}
 use Rattle.node_disk.proofs.WriteSync.{always, err_was, read_durable, read_seen, read_told, read_any, sync_err, cut_sync, front_none}
-use Rattle.node_disk.proofs.log.found_bytes.Goals as goal
+use Rattle.node_disk.proofs.record_log.found_bytes.Goals as goal
 
 pub returns-in-Ok : goal.returns-in-Ok
 returns-in-Ok g c =

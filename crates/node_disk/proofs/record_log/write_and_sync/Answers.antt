@@ -4,7 +4,7 @@ use Rattle.node_disk.specs.Disk.{DiskState, HasWritten, HasSynced}
 use Rattle.node_disk.specs.Log.{write_then_sync}
 use Rattle.node_disk.proofs.Moments.{rose_late, rose_on}
 use Rattle.node_disk.proofs.WriteSync.{write_err, then_sync, cut_at_write, cut_at_sync, front_none, front_write, both_told}
-use Rattle.node_disk.proofs.log.write_and_sync.Goals as goal
+use Rattle.node_disk.proofs.record_log.write_and_sync.Goals as goal
 
 pub returns-in-Ok : goal.returns-in-Ok
 returns-in-Ok g c =
