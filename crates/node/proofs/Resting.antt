@@ -16,11 +16,13 @@ use Rattle.cw_types.specs.declared.vote.Proposal.{Proposal}
 use Rattle.cw_types.specs.declared.vote.Vote.{Vote}
 use Rattle.cw_types.proofs.Same.{same_commitment-true, same_commitment_self}
 use Rattle.cw_rules.specs.Accepted.{Ballot, Came, Many, Part, Row, Single, State, Whole, first_some, is_chunk_of, is_valid, same_ballot, same_part, take_ballot, take_part, wish_for}
-use Rattle.cw_rules.specs.Held.{greatest_floor, greatest_prune, if_committed, row_of, whole_of}
+use Rattle.cw_rules.specs.Held.{greatest_floor, greatest_prune, if_committed, row_of, shown, shown_by, shown_whole, whole_of}
 use Rattle.cw_rules.specs.Notes.{has_block, is_block}
 use Rattle.cw_rules.specs.Owed.{block_owed, named_commitments, part_commitment, when}
 use Rattle.cw_rules.specs.Reached.{In}
-use Rattle.cw_rules.specs.Rules.{Rules, block_of, commit}
+use Rattle.cw_rules.specs.Rules.{Rules, block_of, commit, genesis_commitment}
+use Rattle.cw_rules.specs.declared.travel.Travel.{Travel}
+use Rattle.cw_rules.specs.declared.travel.Travel.TheVariants.{Chunked, Uncut}
 use Rattle.cw_rules.specs.Step.{taken_came, with_notes}
 use Rattle.cw_rules.proofs.Acks.{floor_grows}
 use Rattle.cw_rules.proofs.Lists.{filter_map_more, first_of_both, in_cases}
@@ -138,13 +140,6 @@ owed_last r s c owes last = go (block_owed r s c) refl
 
 -- ---- one part more
 
--- the block as which parts show a commitment
-abbrev shows : Rules → List Part → Commitment → Option Block
-shows r parts c =
-    option_or (first_some (whole_of r c) parts)
-    (option_and_then (if_committed r c)
-    (block_of r c.config (take c.config.minimum (filter_map (row_of c) parts))))
-
 or_none : {X : Type 0} (o : Option X) → option_or o None ≡ o
 or_none None = refl
 or_none (Some x) = refl
@@ -169,75 +164,101 @@ no_row : (r : Rules) (c : Commitment) (p : Part) → same_commitment c (part_com
 no_row r c (Row d x) other = rw other refl
 no_row r c (Whole b) other = refl
 
-shown_else : (r : Rules) (c : Commitment) (parts : List Part) (p : Part)
+-- however blocks travel, such a part shows no other block
+shown_else : (t : Travel) (r : Rules) (came : Came) (c : Commitment) (p : Part)
     → same_commitment c (part_commitment r p) ≡ false
-    → shows r (parts ++ p ∷ []) c ≡ shows r parts c
-shown_else r c parts p other =
-    let whole : first_some (whole_of r c) (parts ++ p ∷ []) ≡ first_some (whole_of r c) parts =
-    first_of_both (whole_of r c) parts (p ∷ [])
-    ∙ (ap (λ o. option_or (first_some (whole_of r c) parts) (option_or o None))
-    (no_whole r c p other)
-    ∙ or_none (first_some (whole_of r c) parts)) in
-    let rows : filter_map (row_of c) (parts ++ p ∷ []) ≡ filter_map (row_of c) parts =
-    filter_map_more (row_of c) parts p
-    ∙ (ap (λ o. filter_map (row_of c) parts ++ option_map_or (λ y. y ∷ []) o [])
-    (no_row r c p other)
-    ∙ append-nil (filter_map (row_of c) parts)) in
-    λ i. option_or (whole i)
-    (option_and_then (if_committed r c)
-    (block_of r c.config (take c.config.minimum (rows i))))
+    → shown_by t r (record came { parts = came.parts ++ p ∷ [] }) c ≡ shown_by t r came c
+shown_else t r came c p other = go t
+  where
+    whole : shown_whole r (record came { parts = came.parts ++ p ∷ [] }) c ≡ shown_whole r came c
+    whole =
+        first_of_both (whole_of r c) came.parts (p ∷ [])
+        ∙ (ap (λ o. option_or (first_some (whole_of r c) came.parts) (option_or o None))
+        (no_whole r c p other)
+        ∙ or_none (first_some (whole_of r c) came.parts))
+
+    rows : filter_map (row_of c) (came.parts ++ p ∷ []) ≡ filter_map (row_of c) came.parts
+    rows =
+        filter_map_more (row_of c) came.parts p
+        ∙ (ap (λ o. filter_map (row_of c) came.parts ++ option_map_or (λ y. y ∷ []) o [])
+        (no_row r c p other)
+        ∙ append-nil (filter_map (row_of c) came.parts))
+
+    go : (t : Travel)
+        → shown_by t r (record came { parts = came.parts ++ p ∷ [] }) c ≡ shown_by t r came c
+    go Chunked = λ i. option_or (whole i)
+        (option_and_then (if_committed r c)
+        (block_of r c.config (take c.config.minimum (rows i))))
+    go Uncut =
+        ap (λ (o : Option Block). cond (same_commitment c (genesis_commitment r)) None o) whole
 
 -- the parts are those, or those with one behind
 abbrev Grows : List Part → List Part → Type 0
 Grows old new = (new ≡ old) ⊎ ((p : Part) × (new ≡ old ++ p ∷ []))
 
--- what parts show a member that knows these notes it may owe
-abbrev owes : Rules → State → List Part → Commitment → Option Note
-owes r s parts c = block_owed r (record {
-  notes = s.notes;
-  came = record { ballots = s.came.ballots; parts = parts; wishes = s.came.wishes };
-  given = s.given;
-}) c
+-- what is shown asks of what came for the parts alone
+shown_same : (t : Travel) (r : Rules) (old new : Came) (c : Commitment) → new.parts ≡ old.parts
+    → shown_by t r new c ≡ shown_by t r old c
+shown_same Chunked r old new c same =
+    ap
+    (λ (ps : List Part). option_or (first_some (whole_of r c) ps)
+    (option_and_then (if_committed r c)
+    (block_of r c.config (take c.config.minimum (filter_map (row_of c) ps)))))
+    same
+shown_same Uncut r old new c same =
+    ap
+    (λ (ps : List Part). cond (same_commitment c (genesis_commitment r)) None
+    (first_some (whole_of r c) ps))
+    same
+
+-- what a member that knows these notes owes once so much came
+abbrev owes : Rules → State → Came → Commitment → Option Note
+owes r s came c = block_owed r (record { notes = s.notes; came = came; given = s.given }) c
+
+-- where the same is shown, the same is owed
+owes_shown : (r : Rules) (s : State) (came : Came) (c : Commitment)
+    → shown r came c ≡ shown r s.came c → owes r s came c ≡ block_owed r s c
+owes_shown r s came c same =
+    ap
+    (λ (o : Option Block). option_and_then
+    (λ (b : Block). when
+    (not (has_block s.notes c)
+    && nat_le (max (greatest_floor s.notes) (greatest_prune s.notes)) b.height)
+    (Note.Block c b))
+    o)
+    same
 
 abbrev names : Rules → List Part → List Commitment
 names r parts = map (part_commitment r) parts
 
-grown : (r : Rules) (s : State) → OwesNoBlock r s → (parts : List Part) → Grows s.came.parts parts
-    → (c : Commitment) → In c (names r parts)
-    → (last_or None (names r parts) ≡ Some c) ⊎ (owes r s parts c ≡ None)
-grown r s rests parts (inl same) c i =
+grown : (r : Rules) (s : State) → OwesNoBlock r s → (came : Came) → Grows s.came.parts came.parts
+    → (c : Commitment) → In c (names r came.parts)
+    → (last_or None (names r came.parts) ≡ Some c) ⊎ (owes r s came c ≡ None)
+grown r s rests came (inl same) c i =
     inr
-    (subst (λ ps. owes r s ps c ≡ None) (sym same)
-    (none_at (block_owed r s) (names r s.came.parts) c rests
-    (subst (λ ps. In c (names r ps)) same i)))
-grown r s rests parts (inr (p, more)) c i =
-    subst
-    (λ ps. (last_or None (names r ps) ≡ Some c) ⊎ (owes r s ps c ≡ None))
-    (sym more) (go (cases_Bool (same_commitment c (part_commitment r p))))
+    (owes_shown r s came c (shown_same r.travel r s.came came c same)
+    ∙ none_at (block_owed r s) (names r s.came.parts) c rests
+    (subst (λ ps. In c (names r ps)) same i))
+grown r s rests came (inr (p, more)) c i =
+    go (cases_Bool (same_commitment c (part_commitment r p)))
   where
-    both : names r (s.came.parts ++ p ∷ []) ≡ names r s.came.parts ++ part_commitment r p ∷ []
-    both = map_behind (part_commitment r) s.came.parts (p ∷ [])
+    both : names r came.parts ≡ names r s.came.parts ++ part_commitment r p ∷ []
+    both = ap (names r) more ∙ map_behind (part_commitment r) s.came.parts (p ∷ [])
 
-    last : last_or None (names r (s.came.parts ++ p ∷ [])) ≡ Some (part_commitment r p)
+    last : last_or None (names r came.parts) ≡ Some (part_commitment r p)
     last = ap (last_or None) both ∙ last_behind None (names r s.came.parts) (part_commitment r p)
 
     there : In c (names r s.came.parts) ⊎ In c (part_commitment r p ∷ [])
     there =
         in_cases c (names r s.came.parts) (part_commitment r p ∷ [])
-        (subst (λ cs. In c cs) (ap (names r) more ∙ both) i)
+        (subst (λ cs. In c cs) both i)
 
     by_front : same_commitment c (part_commitment r p) ≡ false
-        → In c (names r s.came.parts) ⊎ In c (part_commitment r p ∷ [])
-        → owes r s (s.came.parts ++ p ∷ []) c ≡ None
+        → In c (names r s.came.parts) ⊎ In c (part_commitment r p ∷ []) → owes r s came c ≡ None
     by_front other (inl front) =
-        ap
-        (λ o. option_and_then
-        (λ (b : Block). when
-        (not (has_block s.notes c)
-        && nat_le (max (greatest_floor s.notes) (greatest_prune s.notes)) b.height)
-        (Note.Block c b))
-        o)
-        (shown_else r c s.came.parts p other)
+        owes_shown r s came c
+        (shown_same r.travel r (record s.came { parts = s.came.parts ++ p ∷ [] }) came c more
+        ∙ shown_else r.travel r s.came c p other)
         ∙ none_at (block_owed r s) (names r s.came.parts) c rests front
     by_front other (inr (inl e)) =
         let yes : same_commitment c (part_commitment r p) ≡ true =
@@ -247,8 +268,7 @@ grown r s rests parts (inr (p, more)) c i =
 
     go : (same_commitment c (part_commitment r p) ≡ true)
         ⊎ (same_commitment c (part_commitment r p) ≡ false)
-        → (last_or None (names r (s.came.parts ++ p ∷ [])) ≡ Some c)
-        ⊎ (owes r s (s.came.parts ++ p ∷ []) c ≡ None)
+        → (last_or None (names r came.parts) ≡ Some c) ⊎ (owes r s came c ≡ None)
     go (inl t) =
         inl (last ∙ ap Some (sym (same_commitment-true c (part_commitment r p) t)))
     go (inr f) = inr (by_front f there)
@@ -313,7 +333,7 @@ pub event_owes : (r : Rules) (signed : ℕ → Vote → Bool) (s : State) (e : E
     → OwesLast r
     (record { notes = s.notes; came = taken_came r signed s.came e; given = s.given })
 event_owes r signed s e rests =
-    grown r s rests (taken_came r signed s.came e).parts (event_grows r signed s.came e)
+    grown r s rests (taken_came r signed s.came e) (event_grows r signed s.came e)
 
 -- ---- notes
 
@@ -337,7 +357,7 @@ kept_none false false low high height note le stays h =
 -- more notes leave no more to be owed
 no_more : (r : Rules) (s : State) (notes : List Note) (c : Commitment) → block_owed r s c ≡ None
     → block_owed r (with_notes s notes) c ≡ None
-no_more r s notes c h = go (shows r s.came.parts c) h
+no_more r s notes c h = go (shown r s.came c) h
   where
     test : List Note → Block → Option Note
     test ns b =

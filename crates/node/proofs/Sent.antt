@@ -20,7 +20,9 @@ use Rattle.cw_rules.specs.Held.{held, noted_block_of}
 use Rattle.cw_rules.specs.Notes.{epoch_of, has_vote, is_vote}
 use Rattle.cw_rules.specs.Reached.{In}
 use Rattle.cw_rules.specs.Rules.{Chunk, Rules, chunks, commit, config, genesis_commitment}
-use Rattle.cw_rules.specs.Sends.{answer, chunk_out, finalization_at, finalization_outs, missing, note_sends, own_chunk, to_all}
+use Rattle.cw_rules.specs.declared.travel.Travel.{Travel}
+use Rattle.cw_rules.specs.declared.travel.Travel.TheVariants.{Chunked, Uncut}
+use Rattle.cw_rules.specs.Sends.{answer, block_sends, chunk_out, finalization_at, finalization_outs, missing, note_sends, own_chunk, to_all}
 use Rattle.cw_rules.specs.Step.{Member, member_notes, start, state_of, step, step_notes, taken, with_notes}
 use Rattle.cw_rules.proofs.Lists.{in_cases}
 use Rattle.cw_rules.proofs.NoteLemmas.{any_back, any_front}
@@ -154,17 +156,17 @@ note_voted r id all (Note.Cert s) v (inl e) =
     let never : Message.Vote id v ≡ Message.Cert s = ap (λ (q : Out). q.message) e in cc
 note_voted r id all (Note.Cert s) v (inr none) = absurd none
 note_voted r id all (Note.Verified epoch view c) v i =
-    absurd (go (first_some (noted_block_of c) all) i)
+    absurd (go r.travel (first_some (noted_block_of c) all) i)
   where
-    go : (found : Option Block)
-        → In (out_of id v) (option_map_or
-        (λ b. filter_map (chunk_out id (members_in r.epochs epoch) (commit r b)) (chunks r b))
-        found [])
-        → ⊥
-    go None none = none
-    go (Some b) i =
+    go : (t : Travel) (found : Option Block)
+        → In (out_of id v) (option_map_or (block_sends t r id epoch) found []) → ⊥
+    go t None none = none
+    go Chunked (Some b) i =
         no_chunks id (members_in r.epochs epoch) (commit r b) (chunks r b) (out_of id v)
         (is_sent id v) i
+    go Uncut (Some b) (inl e) =
+        let never : Message.Vote id v ≡ Message.Block b = ap (λ (q : Out). q.message) e in cc
+    go Uncut (Some b) (inr none) = none
 note_voted r id all _ v none = absurd none
 
 notes_voted : (r : Rules) (id : ℕ) (all notes : List Note) (v : Vote)

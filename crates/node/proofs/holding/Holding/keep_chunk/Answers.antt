@@ -1,4 +1,4 @@
-use Rattle.std.proofs.Common.{◌≡◌, sym, ◌∙◌, ap, inl, inr, ◌++◌, ◌∷◌, [], None, true}
+use Rattle.std.proofs.Common.{◌≡◌, refl, sym, ◌∙◌, ap, inl, inr, ◌++◌, ◌∷◌, [], None, true}
 use Rattle.shards.specs.Kept as kept
 use Rattle.shards.specs.Verdicts.{after, verdict}
 use Rattle.shards.specs.declared.verdict.Verdict.TheVariants.{Foreign, Garbage, Held, Kept, Known}
@@ -135,7 +135,7 @@ returns-in_ok-add_row-in-Kept-clause-come g c =
     (λ k. let z : Known ≡ Kept = sym k ∙ told in cc)
     (λ k. let z : Foreign ≡ Kept = sym k ∙ told in cc) tally chunks
     (shows_same hash accepts h c.requires m x
-    (λ d. c.shown_stays.ensures.unheld q
+    (λ d. c.shown_stays.ensures.unheld q refl
     (c.coded_laws.ensures.coder hash h.shards.epochs 0 (λ b a. true)) h.shards.kept m x d
     (λ b held. let z : Kept ≡ Held b = sym told ∙ held in cc)))
     (c.in_ok-add_row-in-Kept.ensures.ok
@@ -183,7 +183,7 @@ returns-in_ok-add_row-in-Kept-clause-new g c =
     (λ k. let z : Known ≡ Kept = sym k ∙ told in cc)
     (λ k. let z : Foreign ≡ Kept = sym k ∙ told in cc) tally chunks
     (shows_same hash accepts h c.requires m x
-    (λ d. c.shown_stays.ensures.unheld q
+    (λ d. c.shown_stays.ensures.unheld q refl
     (c.coded_laws.ensures.coder hash h.shards.epochs 0 (λ b a. true)) h.shards.kept m x d
     (λ b held. let z : Kept ≡ Held b = sym told ∙ held in cc)))
     (c.in_ok-add_row-in-Kept.ensures.ok
@@ -231,7 +231,7 @@ returns-in_ok-add_row-in-Garbage-clause-come g c =
     (λ k. let z : Known ≡ Garbage = sym k ∙ told in cc)
     (λ k. let z : Foreign ≡ Garbage = sym k ∙ told in cc) tally chunks
     (shows_same hash accepts h c.requires m x
-    (λ d. c.shown_stays.ensures.unheld q
+    (λ d. c.shown_stays.ensures.unheld q refl
     (c.coded_laws.ensures.coder hash h.shards.epochs 0 (λ b a. true)) h.shards.kept m x d
     (λ b held. let z : Garbage ≡ Held b = sym told ∙ held in cc)))
     (c.in_ok-add_row-in-Garbage.ensures.ok
@@ -279,7 +279,7 @@ returns-in_ok-add_row-in-Garbage-clause-new g c =
     (λ k. let z : Known ≡ Garbage = sym k ∙ told in cc)
     (λ k. let z : Foreign ≡ Garbage = sym k ∙ told in cc) tally chunks
     (shows_same hash accepts h c.requires m x
-    (λ d. c.shown_stays.ensures.unheld q
+    (λ d. c.shown_stays.ensures.unheld q refl
     (c.coded_laws.ensures.coder hash h.shards.epochs 0 (λ b a. true)) h.shards.kept m x d
     (λ b held. let z : Garbage ≡ Held b = sym told ∙ held in cc)))
     (c.in_ok-add_row-in-Garbage.ensures.ok
@@ -328,9 +328,9 @@ returns-in_ok-add_last_row-in-Held-clause-come g c =
     (λ k. let z : Known ≡ Held c.in-Held.block = sym k ∙ told in cc)
     (λ k. let z : Foreign ≡ Held c.in-Held.block = sym k ∙ told in cc) tally chunks
     (shows_held hash accepts h c.requires m x c.in-Held.block told
-    (c.shown_by_kept.ensures.first q h.shards.kept m)
-    (c.shown_stays.ensures.held q h.shards.kept [] m x c.in-Held.block told)
-    (λ d no. c.shown_stays.ensures.others q h.shards.kept m d x no))
+    (c.shown_by_kept.ensures.first q refl h.shards.kept m)
+    (c.shown_stays.ensures.held q refl h.shards.kept [] m x c.in-Held.block told)
+    (λ d no. c.shown_stays.ensures.others q refl h.shards.kept m d x no))
     (c.in_ok-add_last_row-in-Held.ensures.ok
     ∙ (λ i. record (e i) {
       shards = t i;
@@ -379,9 +379,9 @@ returns-in_ok-add_last_row-in-Held-clause-new g c =
     (λ k. let z : Known ≡ Held c.in-Held.block = sym k ∙ told in cc)
     (λ k. let z : Foreign ≡ Held c.in-Held.block = sym k ∙ told in cc) tally chunks
     (shows_held hash accepts h c.requires m x c.in-Held.block told
-    (c.shown_by_kept.ensures.first q h.shards.kept m)
-    (c.shown_stays.ensures.held q h.shards.kept [] m x c.in-Held.block told)
-    (λ d no. c.shown_stays.ensures.others q h.shards.kept m d x no))
+    (c.shown_by_kept.ensures.first q refl h.shards.kept m)
+    (c.shown_stays.ensures.held q refl h.shards.kept [] m x c.in-Held.block told)
+    (λ d no. c.shown_stays.ensures.others q refl h.shards.kept m d x no))
     (c.in_ok-add_last_row-in-Held.ensures.ok
     ∙ (λ i. record (e i) {
       shards = t i;

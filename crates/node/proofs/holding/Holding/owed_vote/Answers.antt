@@ -1,4 +1,4 @@
-use Rattle.std.proofs.Common.{ℕ, sym, ◌∙◌, ap, option_map}
+use Rattle.std.proofs.Common.{ℕ, refl, sym, ◌∙◌, ap, option_map}
 use Rattle.std.specs.Option.{option_or}
 use Rattle.cw_types.specs.declared.note.Note.{Note}
 use Rattle.cw_rules.specs.Accepted.{first_some}
@@ -13,7 +13,7 @@ returns-in-Some-clause-value g c =
     let hash = g.H.Hasher.digest_of in
     let r = rules_of hash g.A.Application.accepts h in
     let n =
-    sym (c.tally_stands.ensures.notarized hash h.tally r (state_of h) c.requires.tally)
+    sym (c.tally_stands.ensures.notarized hash h.tally r (state_of h) refl c.requires.tally)
     ∙ ap (λ (k : ℕ). first_some (notarize_owed r k (state_of h)) (named_proposals (state_of h)))
     c.requires.id in
     let f =
@@ -32,7 +32,7 @@ returns-in-None-clause-value g c =
     let hash = g.H.Hasher.digest_of in
     let r = rules_of hash g.A.Application.accepts h in
     let n =
-    sym (c.tally_stands.ensures.notarized hash h.tally r (state_of h) c.requires.tally)
+    sym (c.tally_stands.ensures.notarized hash h.tally r (state_of h) refl c.requires.tally)
     ∙ ap (λ (k : ℕ). first_some (notarize_owed r k (state_of h)) (named_proposals (state_of h)))
     c.requires.id in
     let f =

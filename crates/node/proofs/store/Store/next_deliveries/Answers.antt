@@ -1,6 +1,7 @@
 use Rattle.std.proofs.Common.{◌≡◌, List, IfOk, true, subst}
 use Rattle.cw_types.specs.declared.event.Handed.{Handed}
 use Rattle.cw_rules.specs.Step.{deliveries, nothing_came}
+use Rattle.cw_rules.specs.declared.travel.Travel.TheVariants.{Chunked}
 use Rattle.marshal.specs.Stored.{notes_of, rules_of, state_of}
 use Rattle.node.specs.Store.{store_of}
 use Rattle.node.specs.Store.{stored_rules, stored_state}
@@ -12,7 +13,7 @@ returns-clause-value g c =
     let s = c.args.self.now.marshal in
     let same : deliveries (rules_of g.H.Hasher.digest_of s) (state_of s)
     ≡ deliveries (stored_rules g.H.Hasher.digest_of (store_of s)) (stored_state (store_of s)) =
-    any_deliveries g.H.Hasher.digest_of s.epochs s.backlog (λ b a. true) (notes_of s)
+    any_deliveries Chunked g.H.Hasher.digest_of s.epochs s.backlog (λ b a. true) (notes_of s)
     (state_of s).came nothing_came s.given in
     subst (λ (l : List Handed). IfOk c.next_deliveries.result (λ handed. handed.items ≡ l)) same
     c.next_deliveries.ensures.handed
