@@ -19,10 +19,7 @@ fn start_first<R: Threads + Sync>(
     disk: MemoryDisk,
 ) -> Result<Result<SumNode, (MemoryDisk, NodeError)>, Fail> {
     match start(rt, alloc, 0, Committees::single(alloc, 4)?, disk)? {
-        Ok((node, out)) => {
-            drop(out);
-            Ok(Ok(node))
-        }
+        Ok((node, _)) => Ok(Ok(node)),
         Err(refused) => Ok(Err(refused)),
     }
 }
@@ -30,11 +27,7 @@ fn start_first<R: Threads + Sync>(
 // How many notes a start finds on a disk that was given back.
 fn found_again<R: Threads + Sync>(rt: &R, alloc: Global, disk: MemoryDisk) -> Result<usize, Fail> {
     match start_first(rt, alloc, disk)? {
-        Ok(node) => {
-            let notes = node.notes().len();
-            drop(node);
-            Ok(notes)
-        }
+        Ok(node) => Ok(node.notes().len()),
         Err((_, error)) => Err(Fail::from(error)),
     }
 }
@@ -49,10 +42,7 @@ fn refused_by<R: Threads + Sync>(
     let answer = node.step(rt, alloc, &event, &Nobody, &Sequential);
     drop(event);
     match answer {
-        Ok(out) => {
-            drop(out);
-            None
-        }
+        Ok(_) => None,
         Err(error) => Some(error),
     }
 }

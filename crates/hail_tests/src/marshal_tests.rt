@@ -23,25 +23,14 @@ const ONE_NOTE: [u8; 20] = [1, 0, 0, 0, 0, 0, 0, 0, 10, 3, 1, 0, 0, 0, 0, 0, 0, 
 
 const NULLIFY: Note = Note::Vote(Vote::Nullify { epoch: 0, view: 1 });
 
-// How many notes a store has, which is let go.
-fn count_notes(marshal: Marshal<SumHasher, MemoryDisk>) -> usize {
-    let count = marshal.notes().len();
-    drop(marshal);
-    count
-}
-
 // How many notes a start finds on these bytes. What is found without a start is the same.
 fn found(alloc: Global, bytes: &[u8]) -> Result<Result<usize, MarshalError>, Fail> {
     let started = match open(alloc, 1, disk_of(alloc, bytes)?)? {
-        Ok(marshal) => Ok(count_notes(marshal)),
+        Ok(marshal) => Ok(marshal.notes().len()),
         Err(error) => Err(error),
     };
     let read = match notes_on(alloc, bytes) {
-        Ok(notes) => {
-            let count = notes.len();
-            drop(notes);
-            Ok(count)
-        }
+        Ok(notes) => Ok(notes.len()),
         Err(error) => Err(error),
     };
     if started != read {
@@ -73,11 +62,7 @@ fn stage_and_commit(
 
 fn committed_twice(alloc: Global) -> Result<String, Fail> {
     match open(alloc, 3, MemoryDisk::new(alloc, Vec::new(alloc)))? {
-        Ok(mut marshal) => {
-            let told = stage_and_commit(alloc, &mut marshal);
-            drop(marshal);
-            told
-        }
+        Ok(mut marshal) => stage_and_commit(alloc, &mut marshal),
         Err(error) => Err(Fail::from(error)),
     }
 }
@@ -143,7 +128,7 @@ fn a_log_is_cut_at_every_byte(rt: HostRuntime) -> Result<(), Fail> {
 // How many notes a start finds on a disk.
 fn found_on(alloc: Global, disk: MemoryDisk) -> Result<usize, Fail> {
     match open(alloc, 3, disk)? {
-        Ok(marshal) => Ok(count_notes(marshal)),
+        Ok(marshal) => Ok(marshal.notes().len()),
         Err(error) => Err(Fail::from(error)),
     }
 }
@@ -157,10 +142,9 @@ fn with_failing(
     let disk = MemoryDisk::new(alloc, vec![in alloc; call]?);
     match open(alloc, 3, disk)? {
         Ok(mut marshal) => {
-            let answers = commit_twice(&mut marshal);
-            let disk = marshal.into_disk();
-            let (first, second) = answers?;
-            Ok((first, second, found_on(alloc, disk)?))
+            let (first, second) = commit_twice(&mut marshal)?;
+            let notes = found_on(alloc, marshal.into_disk())?;
+            Ok((first, second, notes))
         }
         Err(error) => Ok((Err(error), Err(error), 0)),
     }
@@ -207,9 +191,8 @@ fn with_stop(
 ) -> Result<(Result<(), MarshalError>, usize), Fail> {
     match open(alloc, 3, MemoryDisk::new(alloc, Vec::new(alloc)))? {
         Ok(mut marshal) => {
-            let answer = commit_stopped(&mut marshal, call, cut, fill);
-            let disk = marshal.into_disk().reopen();
-            Ok((answer?, found_on(alloc, disk)?))
+            let first = commit_stopped(&mut marshal, call, cut, fill)?;
+            Ok((first, found_on(alloc, marshal.into_disk().reopen())?))
         }
         Err(error) => Err(Fail::from(error)),
     }

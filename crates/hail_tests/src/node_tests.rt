@@ -46,11 +46,9 @@ notes: 0";
 #[test]
 fn a_block_is_proposed_voted_on_and_finalized(rt: HostRuntime) -> Result<(), Fail> {
     let alloc = rt.alloc();
+    let scene = one_epoch(&rt, alloc)?;
     for (id, table) in [(0, FIRST), (1, SECOND), (2, THIRD), (3, NOTHING)] {
-        assert_eq!(rt;
-            first_wrong(&rt, alloc, one_epoch(&rt, alloc)?, id, ("", 0), table)?,
-            None
-        );
+        assert_eq!(rt; first_wrong(&rt, alloc, &scene, id, ("", 0), table)?, None);
     }
     Ok(())
 }
@@ -58,11 +56,9 @@ fn a_block_is_proposed_voted_on_and_finalized(rt: HostRuntime) -> Result<(), Fai
 #[test]
 fn an_event_that_comes_twice_changes_nothing(rt: HostRuntime) -> Result<(), Fail> {
     let alloc = rt.alloc();
+    let scene = one_epoch(&rt, alloc)?;
     for (id, table) in [(0, FIRST), (1, SECOND), (2, THIRD)] {
-        assert_eq!(rt;
-            first_changed(&rt, alloc, one_epoch(&rt, alloc)?, id, table)?,
-            None
-        );
+        assert_eq!(rt; first_changed(&rt, alloc, &scene, id, table)?, None);
     }
     Ok(())
 }
@@ -70,11 +66,9 @@ fn an_event_that_comes_twice_changes_nothing(rt: HostRuntime) -> Result<(), Fail
 #[test]
 fn copies_of_all_in_the_run_are_equal(rt: HostRuntime) -> Result<(), Fail> {
     let alloc = rt.alloc();
+    let scene = one_epoch(&rt, alloc)?;
     for (id, table) in [(0, FIRST), (1, SECOND), (2, THIRD)] {
-        assert_eq!(rt;
-            first_uncopied(&rt, alloc, one_epoch(&rt, alloc)?, id, table)?,
-            None
-        );
+        assert_eq!(rt; first_uncopied(&rt, alloc, &scene, id, table)?, None);
     }
     Ok(())
 }
@@ -97,9 +91,10 @@ notarization 1 1:";
 #[test]
 fn a_start_sends_again_what_the_last_whole_step_sent(rt: HostRuntime) -> Result<(), Fail> {
     let alloc = rt.alloc();
+    let scene = one_epoch(&rt, alloc)?;
     for table in [CUT_AWAY, CUT_BEHIND] {
         assert_eq!(rt;
-            first_wrong(&rt, alloc, one_epoch(&rt, alloc)?, 2, (THIRD, 5), table)?,
+            first_wrong(&rt, alloc, &scene, 2, (THIRD, 5), table)?,
             None
         );
     }
@@ -123,11 +118,9 @@ notes: 1";
 #[test]
 fn a_start_finds_what_a_torn_write_left(rt: HostRuntime) -> Result<(), Fail> {
     let alloc = rt.alloc();
+    let scene = one_epoch(&rt, alloc)?;
     for table in [TORN, GATE_FILLED] {
-        assert_eq!(rt;
-            first_wrong(&rt, alloc, one_epoch(&rt, alloc)?, 2, ("", 0), table)?,
-            None
-        );
+        assert_eq!(rt; first_wrong(&rt, alloc, &scene, 2, ("", 0), table)?, None);
     }
     Ok(())
 }
@@ -135,6 +128,7 @@ fn a_start_finds_what_a_torn_write_left(rt: HostRuntime) -> Result<(), Fail> {
 #[test]
 fn a_stopped_step_is_found_whole_or_not_at_all(rt: HostRuntime) -> Result<(), Fail> {
     let alloc = rt.alloc();
+    let scene = one_epoch(&rt, alloc)?;
     for (call, want) in [
         (1, [5; 9]),
         (2, [5; 9]),
@@ -142,7 +136,7 @@ fn a_stopped_step_is_found_whole_or_not_at_all(rt: HostRuntime) -> Result<(), Fa
         (4, [5, 6, 5, 6, 6, 6, 6, 6, 6]),
         (5, [6; 9]),
     ] {
-        let found = found_after(&rt, alloc, one_epoch(&rt, alloc)?, (THIRD, 5), call)?;
+        let found = found_after(&rt, alloc, &scene, (THIRD, 5), call)?;
         assert_eq!(rt; found.as_slice(), want.as_slice(), "at {call}");
     }
     Ok(())
@@ -176,11 +170,9 @@ notarize 2 1 1: all cert notarize 1 in 0/1 over 0 by [0, 1, 2]; all ask 0 1";
 #[test]
 fn a_member_asks_answers_and_serves(rt: HostRuntime) -> Result<(), Fail> {
     let alloc = rt.alloc();
+    let scene = one_epoch(&rt, alloc)?;
     for table in [MISSING_PARENT, TICKETS, UNSIGNED] {
-        assert_eq!(rt;
-            first_wrong(&rt, alloc, one_epoch(&rt, alloc)?, 0, ("", 0), table)?,
-            None
-        );
+        assert_eq!(rt; first_wrong(&rt, alloc, &scene, 0, ("", 0), table)?, None);
     }
     Ok(())
 }
@@ -213,15 +205,13 @@ block 1:";
 #[test]
 fn what_is_final_is_told_acknowledged_and_pruned(rt: HostRuntime) -> Result<(), Fail> {
     let alloc = rt.alloc();
+    let scene = one_epoch(&rt, alloc)?;
     for (id, before, table) in [
         (2, (THIRD, 7), FINAL),
         (0, (FIRST, 4), FLOORED),
         (0, (FIRST, 4), HINTED),
     ] {
-        assert_eq!(rt;
-            first_wrong(&rt, alloc, one_epoch(&rt, alloc)?, id, before, table)?,
-            None
-        );
+        assert_eq!(rt; first_wrong(&rt, alloc, &scene, id, before, table)?, None);
     }
     Ok(())
 }
@@ -250,15 +240,13 @@ const VOTED_AGAIN_BY_1: &str = "notarize 2 1 2: all vote 1 notarize 1 in 0/2 ove
 #[test]
 fn the_last_block_of_an_epoch_is_proposed_again(rt: HostRuntime) -> Result<(), Fail> {
     let alloc = rt.alloc();
+    let scene = short_epochs(&rt, alloc)?;
     for (id, before, table) in [
         (2, (THIRD, 4), PROPOSED_AGAIN),
         (0, (FIRST, 4), VOTED_AGAIN_BY_0),
         (1, (SECOND, 2), VOTED_AGAIN_BY_1),
     ] {
-        assert_eq!(rt;
-            first_wrong(&rt, alloc, short_epochs(&rt, alloc)?, id, before, table)?,
-            None
-        );
+        assert_eq!(rt; first_wrong(&rt, alloc, &scene, id, before, table)?, None);
     }
     Ok(())
 }
@@ -272,15 +260,13 @@ const VOTED_NEVER_AGAIN: &str = "notarize 2 1 2:";
 #[test]
 fn no_other_block_is_proposed_again(rt: HostRuntime) -> Result<(), Fail> {
     let alloc = rt.alloc();
+    let scene = one_epoch(&rt, alloc)?;
     for (id, before, table) in [
         (2, (THIRD, 4), PROPOSED_ABOVE),
         (0, (FIRST, 4), VOTED_NEVER_AGAIN),
         (1, (SECOND, 2), VOTED_NEVER_AGAIN),
     ] {
-        assert_eq!(rt;
-            first_wrong(&rt, alloc, one_epoch(&rt, alloc)?, id, before, table)?,
-            None
-        );
+        assert_eq!(rt; first_wrong(&rt, alloc, &scene, id, before, table)?, None);
     }
     Ok(())
 }
@@ -295,9 +281,10 @@ notes: 10";
 #[test]
 fn the_next_epoch_has_a_leader_of_its_own(rt: HostRuntime) -> Result<(), Fail> {
     let alloc = rt.alloc();
+    let scene = two_epochs(&rt, alloc)?;
     let before = (THIRD, 5);
     assert_eq!(rt;
-        first_wrong(&rt, alloc, two_epochs(&rt, alloc)?, 2, before, NEXT_EPOCH)?,
+        first_wrong(&rt, alloc, &scene, 2, before, NEXT_EPOCH)?,
         None
     );
     Ok(())

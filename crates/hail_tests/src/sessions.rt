@@ -44,10 +44,7 @@ fn first_of_four<R: Threads + Sync>(rt: &R, alloc: Global) -> Result<Sitting, Fa
         AcceptAll,
         &Sequential,
     ) {
-        Ok((node, out)) => {
-            drop(out);
-            Ok(Seat::new(node, AllSigned, Sequential))
-        }
+        Ok((node, _out)) => Ok(Seat::new(node, AllSigned, Sequential)),
         Err(_) => Err("a start on an empty disk".into()),
     }
 }
@@ -215,9 +212,7 @@ fn session<R: Threads + Wait + Sync>(
     seat: Sitting,
 ) -> Result<Outcome, Fail> {
     let ended = acknowledged::<Brand, R>(rt, alloc, Blank::new(2), seat)?;
-    let outcome = told(&ended);
-    drop(ended);
-    Ok(outcome)
+    Ok(told(&ended))
 }
 
 #[test]

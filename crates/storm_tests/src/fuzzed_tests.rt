@@ -34,9 +34,7 @@ fn changed_messages_change_nothing(rt: HostRuntime) -> Result<(), Fail> {
 // A script, and lines by which each message of its run comes in each form.
 fn changed<R: Threads + Sync>(rt: &R, alloc: Global, script: &str) -> Result<String, Fail> {
     let clean = run(rt, alloc, script)?;
-    let lines = fuzzed(alloc, script, &clean);
-    drop(clean);
-    lines
+    fuzzed(alloc, script, &clean)
 }
 
 // In how many entries of a script's run nothing was sent or handed out, and how its text ends.
@@ -46,9 +44,7 @@ fn idle_and_end<R: Threads + Sync>(
     script: &str,
 ) -> Result<(u64, String), Fail> {
     let ended = run(rt, alloc, script)?;
-    let told = empty_and_end(alloc, &ended);
-    drop(ended);
-    told
+    empty_and_end(alloc, &ended)
 }
 
 fn empty_and_end(alloc: Global, ended: &Ended<SumHasher>) -> Result<(u64, String), Fail> {

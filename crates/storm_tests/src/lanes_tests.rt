@@ -1,6 +1,5 @@
 //! Tests of scripts whose lanes run on threads of their own.
 
-use crate::runs::status_of;
 use cw_base::{Gate, MemorySink, MemorySource, NoGate, Sequential, SumHasher};
 use cw_types::{ChainBlock, Context, Payload, genesis_commitment};
 use hailstorm::{Report, World, lanes_program};
@@ -87,11 +86,7 @@ fn is_run_in<R: Threads + Sync>(
         _ => return Err("each lane once".into()),
     };
     match World::run::<SumHasher, _, _>(rt, alloc, plain, &Sequential) {
-        Ok(other) => {
-            let same = is_same_run(report, &other, &lines);
-            drop(other);
-            Ok(same)
-        }
+        Ok(other) => Ok(is_same_run(report, &other, &lines)),
         Err(_) => Err("a plain report".into()),
     }
 }
@@ -99,11 +94,7 @@ fn is_run_in<R: Threads + Sync>(
 // Whether two lanes behind a gate are played as the plain script in the order that is told.
 fn two_lanes<R: Threads + Wait + Sync>(rt: &R, alloc: Global, door: &Door) -> Result<bool, Fail> {
     match World::run_lanes::<SumHasher, _, _, _>(rt, alloc, TWO, &Sequential, door) {
-        Ok((order, report)) => {
-            let same = is_run_in(rt, alloc, order.as_slice(), &report);
-            drop(report);
-            same
-        }
+        Ok((order, report)) => is_run_in(rt, alloc, order.as_slice(), &report),
         Err(_) => Err("a report".into()),
     }
 }
@@ -134,7 +125,7 @@ fn ended<R: Threads + Wait + Sync>(
     let bytes = text.as_bytes().to_vec(alloc)?;
     let mut input = MemorySource::new(bytes, 4096, Vec::new(alloc));
     let mut output = MemorySink::new(alloc, 4096, Vec::new(alloc))?;
-    let status = status_of(lanes_program::<SumHasher, _, _, _, _, _>(
+    let exit = lanes_program::<SumHasher, _, _, _, _, _>(
         rt,
         alloc,
         words,
@@ -142,8 +133,11 @@ fn ended<R: Threads + Wait + Sync>(
         &mut output,
         &Sequential,
         &NoGate,
-    ));
-    Ok((status, String::from_utf8_lossy(alloc, output.bytes())?))
+    );
+    Ok((
+        exit.status(),
+        String::from_utf8_lossy(alloc, output.bytes())?,
+    ))
 }
 
 // The encoding of the block of view 1 over genesis with that payload.

@@ -94,14 +94,7 @@ pub(crate) fn told_into<H: Hasher<Digest = Digest32>, R: Threads + Sync>(
     sink: MemorySink,
 ) -> Result<(u8, String), Fail> {
     let Ended { exit, text } = run_into::<H, R>(rt, alloc, words, source, sink)?;
-    Ok((status_of(exit), text))
-}
-
-/// The status of an exit, which is let go.
-pub(crate) fn status_of<D: Drop>(exit: Exit<D>) -> u8 {
-    let status = exit.status();
-    drop(exit);
-    status
+    Ok((exit.status(), text))
 }
 
 // Runs the program on words, a source and a sink.
@@ -132,11 +125,6 @@ fn with_text<H: Hasher<Digest = Digest32>>(
     exit: Exit<Report<H>>,
     sink: &MemorySink,
 ) -> Result<Ended<H>, Fail> {
-    match String::from_utf8_lossy(alloc, sink.bytes()) {
-        Ok(text) => Ok(Ended { exit, text }),
-        Err(error) => {
-            drop(exit);
-            Err(Fail::from(error))
-        }
-    }
+    let text = String::from_utf8_lossy(alloc, sink.bytes())?;
+    Ok(Ended { exit, text })
 }

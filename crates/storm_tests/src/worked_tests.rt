@@ -83,9 +83,7 @@ cut 1 3 255 timeout 0 1
 // The disk of member 0 after a script's run.
 fn disk_after<R: Threads + Sync>(rt: &R, alloc: Global, script: &str) -> Result<String, Fail> {
     let ended = run(rt, alloc, script)?;
-    let disk = ended.first_disk(alloc);
-    drop(ended);
-    disk
+    ended.first_disk(alloc)
 }
 
 #[test]

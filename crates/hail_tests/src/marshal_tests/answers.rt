@@ -5,7 +5,7 @@ use super::calls::{StoreCall, told_by};
 use super::store::Store;
 use crate::tables::{Call, call_in, head_and_rest, two};
 use cw_base::Digest32;
-use cw_types::{Cert, ChainBlock, Commitment, Epoch, Height, Round, View};
+use cw_types::{ChainBlock, Commitment, Epoch, Height, Round, View};
 use marshal::Identifier;
 use std::alloc::Global;
 use std::fmt::Debug;
@@ -21,23 +21,9 @@ pub(crate) fn first_wrong<R: Threads + Sync>(
 ) -> Result<Option<(usize, String)>, Fail> {
     let (head, lines) = head_and_rest(table)?;
     let (backlog, list) = two(head, " ")?;
-    let backlog = backlog.parse::<u64>()?;
     let blocks = blocks_of(rt, alloc, call_in(list)?)?;
-    let wrong = wrong_on(rt, alloc, backlog, &blocks, lines);
-    drop(blocks);
-    wrong
-}
-
-// That of these calls on a new store of a backlog.
-fn wrong_on<R: Threads + Sync>(
-    rt: &R,
-    alloc: Global,
-    backlog: u64,
-    blocks: &[Made],
-    lines: &str,
-) -> Result<Option<(usize, String)>, Fail> {
-    let mut store = Store::new(alloc, backlog)?;
-    let wrong = play(rt, alloc, &mut store, blocks, lines);
+    let mut store = Store::new(alloc, backlog.parse::<u64>()?)?;
+    let wrong = play(rt, alloc, &mut store, &blocks, lines);
     drop(store);
     wrong
 }
@@ -88,16 +74,16 @@ fn answer<R: Threads + Sync>(
         ),
         StoreCall::Report(place, view) => {
             let cert = finalization(alloc, at(blocks, place)?, view)?;
-            text(alloc, report(store, cert)?)
+            text(alloc, store.report(&cert)?)
         }
         StoreCall::Notarize(place, view) => {
             let cert = notarization(alloc, at(blocks, place)?, view)?;
-            text(alloc, report(store, cert)?)
+            text(alloc, store.report(&cert)?)
         }
         StoreCall::ReportTo(last) => text(alloc, report_to(alloc, store, blocks, last)?),
         StoreCall::SetFloor(place, view) => {
             let cert = finalization(alloc, at(blocks, place)?, view)?;
-            text(alloc, set_floor(store, cert)?)
+            text(alloc, store.set_floor(&cert)?)
         }
         StoreCall::Acknowledge => text(alloc, store.acknowledge()?),
         StoreCall::Process => text(alloc, process(alloc, store)?),
@@ -160,20 +146,6 @@ fn text<D: Debug + Drop>(alloc: Global, answer: D) -> Result<String, Fail> {
     Ok(format!(in alloc; "{answer:?}")?)
 }
 
-// Notes a certificate, which is let go.
-fn report(store: &mut Store, cert: Cert) -> Result<bool, Fail> {
-    let said = store.report(&cert);
-    drop(cert);
-    said
-}
-
-// Asks for a floor by a certificate, which is let go.
-fn set_floor(store: &mut Store, cert: Cert) -> Result<bool, Fail> {
-    let said = store.set_floor(&cert);
-    drop(cert);
-    said
-}
-
 fn verify_to<R: Threads + Sync>(
     rt: &R,
     store: &mut Store,
@@ -193,8 +165,7 @@ fn report_to(alloc: Global, store: &mut Store, blocks: &[Made], last: usize) -> 
     let mut count = 0u64;
     for place in 1..=last {
         let made = at(blocks, place)?;
-        let cert = finalization(alloc, made, made.block.context().view)?;
-        if report(store, cert)? {
+        if store.report(&finalization(alloc, made, made.block.context().view)?)? {
             count = count.saturating_add(1);
         }
     }

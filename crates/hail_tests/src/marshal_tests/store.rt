@@ -34,8 +34,7 @@ impl Store {
     pub(crate) fn restart(&mut self, alloc: Global) -> Result<(), Fail> {
         let other = opened(alloc, self.backlog, MemoryDisk::new(alloc, Vec::new(alloc)))?;
         let disk = mem::replace(&mut self.marshal, other).into_disk();
-        let again = opened(alloc, self.backlog, crashed(disk)?)?;
-        drop(mem::replace(&mut self.marshal, again));
+        self.marshal = opened(alloc, self.backlog, crashed(disk)?)?;
         Ok(())
     }
 

@@ -3,7 +3,7 @@
 use super::blocks::Scene;
 use super::calls::{NodeCall, event_of, told_by};
 use super::member::Member;
-use cw_types::{Cert, ChainBlock, Event, Message, Note, StepOut};
+use cw_types::{ChainBlock, Event, Message, Note, StepOut};
 use std::alloc::Global;
 use std::test::Fail;
 use std::thread::Threads;
@@ -12,18 +12,6 @@ use std::thread::Threads;
 /// event, of what it gives, or, where its notes are counted, of one of these; none where all are
 /// equal.
 pub(crate) fn first_uncopied<R: Threads + Sync>(
-    rt: &R,
-    alloc: Global,
-    scene: Scene,
-    id: u16,
-    table: &str,
-) -> Result<Option<usize>, Fail> {
-    let place = uncopied_in(rt, alloc, &scene, id, table);
-    drop(scene);
-    place
-}
-
-fn uncopied_in<R: Threads + Sync>(
     rt: &R,
     alloc: Global,
     scene: &Scene,
@@ -85,10 +73,7 @@ fn is_step_copied<R: Threads + Sync>(
 }
 
 fn is_event_copied(alloc: Global, event: &Event) -> Result<bool, Fail> {
-    let copy = event.copy(alloc)?;
-    let same = copy == *event;
-    drop(copy);
-    Ok(same)
+    Ok(event.copy(alloc)? == *event)
 }
 
 // The answer itself, and each message that it has.
@@ -98,17 +83,11 @@ fn is_answer_copied(alloc: Global, out: &StepOut) -> Result<bool, Fail> {
             return Ok(false);
         }
     }
-    let copy = out.copy(alloc)?;
-    let same = copy == *out;
-    drop(copy);
-    Ok(same)
+    Ok(out.copy(alloc)? == *out)
 }
 
 fn is_message_copied(alloc: Global, message: &Message) -> Result<bool, Fail> {
-    let copy = message.copy(alloc)?;
-    let same = copy == *message;
-    drop(copy);
-    Ok(same)
+    Ok(message.copy(alloc)? == *message)
 }
 
 fn are_notes_copied(alloc: Global, notes: &[Note]) -> Result<bool, Fail> {
@@ -121,26 +100,16 @@ fn are_notes_copied(alloc: Global, notes: &[Note]) -> Result<bool, Fail> {
 }
 
 fn is_note_copied(alloc: Global, note: &Note) -> Result<bool, Fail> {
-    let copy = note.copy(alloc)?;
-    let same = copy == *note;
-    drop(copy);
-    Ok(same)
+    Ok(note.copy(alloc)? == *note)
 }
 
 // The block or the certificate that is noted.
 fn is_inner_copied(alloc: Global, note: &Note) -> Result<bool, Fail> {
     match note {
         Note::Block(_, block) => is_block_copied(alloc, block),
-        Note::Cert(cert) => is_cert_copied(alloc, cert),
+        Note::Cert(cert) => Ok(cert.copy(alloc)? == *cert),
         _ => Ok(true),
     }
-}
-
-fn is_cert_copied(alloc: Global, cert: &Cert) -> Result<bool, Fail> {
-    let copy = cert.copy(alloc)?;
-    let same = copy == *cert;
-    drop(copy);
-    Ok(same)
 }
 
 // A block, and its payload.
@@ -149,8 +118,5 @@ fn is_block_copied(alloc: Global, block: &ChainBlock) -> Result<bool, Fail> {
     if payload.copy(alloc)? != *payload {
         return Ok(false);
     }
-    let copy = block.copy(alloc)?;
-    let same = copy == *block;
-    drop(copy);
-    Ok(same)
+    Ok(block.copy(alloc)? == *block)
 }

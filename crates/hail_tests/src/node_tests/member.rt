@@ -108,9 +108,7 @@ impl Member {
         call: NodeCall,
     ) -> Result<Result<StepOut, NodeError>, Fail> {
         let event = event_of(alloc, scene, call)?;
-        let answer = self.take(rt, alloc, scene, &event);
-        drop(event);
-        Ok(answer)
+        Ok(self.take(rt, alloc, scene, &event))
     }
 
     // The text of what it answers to an event.
@@ -122,11 +120,7 @@ impl Member {
         call: NodeCall,
     ) -> Result<String, Fail> {
         match self.step(rt, alloc, scene, call)? {
-            Ok(out) => {
-                let text = text_of(alloc, scene, &out);
-                drop(out);
-                text
-            }
+            Ok(out) => text_of(alloc, scene, &out),
             Err(error) => Ok(format!(in alloc; "{error:?}")?),
         }
     }

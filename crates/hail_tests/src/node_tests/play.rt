@@ -61,22 +61,9 @@ pub(crate) fn after<R: Threads + Sync>(
     }
 }
 
-/// The first call of a table that a new member of a scene answers otherwise once it has played
-/// another, with that answer; none where it answers all so.
+/// The first call of a table that a new member answers otherwise once it has played another, with
+/// that answer; none where it answers all so.
 pub(crate) fn first_wrong<R: Threads + Sync>(
-    rt: &R,
-    alloc: Global,
-    scene: Scene,
-    id: u16,
-    before: Front,
-    table: &str,
-) -> Result<Option<(usize, String)>, Fail> {
-    let wrong = wrong_in(rt, alloc, &scene, id, before, table);
-    drop(scene);
-    wrong
-}
-
-fn wrong_in<R: Threads + Sync>(
     rt: &R,
     alloc: Global,
     scene: &Scene,
@@ -106,18 +93,6 @@ const STOPS: [(u64, u8); 9] = [
 /// How many notes a start of member 2 finds where it has played a table, and the finalize vote of
 /// member 1 on the first block comes then, and is stopped at that device call: of each stop.
 pub(crate) fn found_after<R: Threads + Sync>(
-    rt: &R,
-    alloc: Global,
-    scene: Scene,
-    before: Front,
-    call: u64,
-) -> Result<Vec<usize>, Fail> {
-    let found = found_in(rt, alloc, &scene, before, call);
-    drop(scene);
-    found
-}
-
-fn found_in<R: Threads + Sync>(
     rt: &R,
     alloc: Global,
     scene: &Scene,
@@ -181,18 +156,6 @@ fn is_idle_again<R: Threads + Sync>(
 /// The place of the first event of a table at which a new member does something else where each
 /// comes twice; none where it never does.
 pub(crate) fn first_changed<R: Threads + Sync>(
-    rt: &R,
-    alloc: Global,
-    scene: Scene,
-    id: u16,
-    table: &str,
-) -> Result<Option<usize>, Fail> {
-    let place = changed_in(rt, alloc, &scene, id, table);
-    drop(scene);
-    place
-}
-
-fn changed_in<R: Threads + Sync>(
     rt: &R,
     alloc: Global,
     scene: &Scene,

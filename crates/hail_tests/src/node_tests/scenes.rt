@@ -34,22 +34,7 @@ fn of_two_blocks<R: Threads + Sync>(
     second: (u64, u64, u16),
 ) -> Result<Scene, Fail> {
     let mut scene = Scene::new(alloc, committees)?;
-    match add_two(rt, alloc, &mut scene, second) {
-        Ok(()) => Ok(scene),
-        Err(error) => {
-            drop(scene);
-            Err(error)
-        }
-    }
-}
-
-// A block of view 1, and one over it.
-fn add_two<R: Threads + Sync>(
-    rt: &R,
-    alloc: Global,
-    scene: &mut Scene,
-    second: (u64, u64, u16),
-) -> Result<(), Fail> {
     scene.add(rt, alloc, 0, (0, 1, 1), &[0x68, 0x69])?;
-    scene.add(rt, alloc, 1, second, &[0x62])
+    scene.add(rt, alloc, 1, second, &[0x62])?;
+    Ok(scene)
 }

@@ -91,10 +91,7 @@ impl First {
     fn new<R: Threads + Sync>(rt: &R, alloc: Global) -> Result<First, Fail> {
         let disk = MemoryDisk::new(alloc, Vec::new(alloc));
         match start(rt, alloc, 0, Committees::single(alloc, 4)?, disk)? {
-            Ok((node, out)) => {
-                drop(out);
-                Ok(First { node })
-            }
+            Ok((node, _)) => Ok(First { node }),
             Err((_, error)) => Err(Fail::from(error)),
         }
     }
@@ -107,9 +104,7 @@ impl First {
         event: &Event,
     ) -> Result<usize, Fail> {
         let out = self.node.step(rt, alloc, event, &Nobody, &Sequential)?;
-        let count = out.sent.len();
-        drop(out);
-        Ok(count)
+        Ok(out.sent.len())
     }
 
     fn notes(&self) -> usize {
@@ -139,18 +134,8 @@ pub(crate) fn sent_for_rows<R: Threads + Sync>(
     rows: &[u16],
 ) -> Result<(Vec<usize>, usize), Fail> {
     let events = all_coming(alloc, rows)?;
-    let sent = sent_for_events(rt, alloc, &events);
-    drop(events);
-    sent
-}
-
-fn sent_for_events<R: Threads + Sync>(
-    rt: &R,
-    alloc: Global,
-    events: &[Event],
-) -> Result<(Vec<usize>, usize), Fail> {
     let mut member = First::new(rt, alloc)?;
-    let sent = all_sent(rt, alloc, &mut member, events);
+    let sent = all_sent(rt, alloc, &mut member, &events);
     drop(member);
     sent
 }
