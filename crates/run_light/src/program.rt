@@ -3,7 +3,7 @@
 ghost use Rattle.std.specs.Prelude.{◌≡◌, List, ℕ, None, Option, Some, IfOk, map, string_bytes};
 ghost use Rattle.hailstorm.specs.Programs.{AnswersBy, HasFault, HasRun, WasRun, IsSilent, UsageOf};
 ghost use Rattle.hailstorm.specs.Reports.{IsRun};
-ghost use Rattle.run_input.specs.Telling.{IsToldRun, asked_height, TellsOf, usage_line};
+ghost use Rattle.run_light.specs.Telling.{IsToldRun, asked_height, TellsOf, usage_line};
 
 use crate::search::found_in;
 use crate::table::Table;
