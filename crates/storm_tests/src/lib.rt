@@ -9,8 +9,6 @@ mod fuzzed_tests;
 #[cfg(test)]
 mod lanes_tests;
 #[cfg(test)]
-mod nodes_tests;
-#[cfg(test)]
 mod outside_tests;
 #[cfg(test)]
 mod runs;
