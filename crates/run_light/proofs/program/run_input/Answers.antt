@@ -1,7 +1,7 @@
 use Rattle.hailstorm.proofs.Framing.{early_answers, early_fault, early_silent}
 use Rattle.hailstorm.proofs.Answering.{answers_run, early_run}
 use Rattle.run_light.specs.Telling.{IsToldRun}
-use Rattle.run_light.proofs.program.run_light.Goals as goal
+use Rattle.run_light.proofs.program.run_input.Goals as goal
 
 pub returns-in-Ok-clause-answer : goal.returns-in-Ok-clause-answer
 returns-in-Ok-clause-answer g c =
