@@ -13,19 +13,23 @@ use crate::holding::Holding;
 use crate::leads::LeadMap;
 use crate::start::Setup;
 use crate::store::Store;
+use crate::way::{Chunked, Way};
 use cw_base::{Digest32, Hasher, NoMemory, Strategy};
+use cw_rules::Travel;
 use cw_types::{Application, Committees, Event, Note, StepOut, Verifier};
 use marshal::Marshal;
 use node_disk::{Disk, MemoryDisk, StoreError};
 use std::alloc::Global;
-use std::marker::Model;
+use std::marker::{Model, PhantomData};
 use std::thread::Threads;
 
 /// Why a node did not start, or did not take an event.
 pub type NodeError = StoreError;
 
-/// A member of a cluster, with all that it knows, on its disk. Contracts see it as its number, the
-/// committees, the backlog, the application, the member of the rules and the log of its notes.
+/// A member of a cluster, with all that it knows, on its disk. The last parameter says how blocks
+/// travel: a [`Node`] is a member to which they come in chunks. Contracts see it as that, its
+/// number, the committees, the backlog, the application, the member of the rules and the log of its
+/// notes.
 ///
 /// `tools/use_cluster` runs four members; a part of it:
 ///
@@ -38,15 +42,20 @@ pub type NodeError = StoreError;
 /// self.take(id, &out)?; // sends, hands out, then gives `Event::Ack`
 /// ```
 #[derive(Drop)]
-pub struct Node<H: Hasher<Digest = Digest32>, D: Disk, A: Application + Drop> {
+pub struct Member<H: Hasher<Digest = Digest32>, D: Disk, A: Application + Drop, W: Way> {
     holding: Holding<H, D, A>,
     // What its notes lead to.
     leads: LeadMap,
     // A step was refused, by the disk or for memory.
     failed: bool,
+    way: PhantomData<W>,
 }
 
-impl<H: Hasher<Digest = Digest32>, D: Disk, A: Application + Drop> Model for Node<H, D, A> {
+/// A member of a cluster in which blocks travel in chunks.
+pub type Node<H, D, A> = Member<H, D, A, Chunked>;
+
+impl<H: Hasher<Digest = Digest32>, D: Disk, A: Application + Drop, W: Way> Model
+for Member<H, D, A, W> {
     ghost use Rattle.std.specs.Prelude.{◌≡◌, false, not};
     ghost use Rattle.node.specs.State.{NodeState};
     ghost use Rattle.node.specs.Holding.{node_of};
@@ -56,8 +65,8 @@ impl<H: Hasher<Digest = Digest32>, D: Disk, A: Application + Drop> Model for Nod
 
     ghost view = { λ n. node_of (not n.failed) n.holding };
 
-    ghost invariant = { λ n. n.failed ≡ false
-        → IsAwake H.digest_of A.accepts n.holding n.leads.led.entries };
+    ghost invariant = { λ n. (n.holding.travel ≡ W.travel)
+        × (n.failed ≡ false → IsAwake H.digest_of A.accepts n.holding n.leads.led.entries) };
 }
 
 // Three copies of the committees.
@@ -75,7 +84,7 @@ fn copies(
     ))
 }
 
-impl<H: Hasher<Digest = Digest32>, D: Disk, A: Application + Drop> Node<H, D, A> {
+impl<H: Hasher<Digest = Digest32>, D: Disk, A: Application + Drop, W: Way> Member<H, D, A, W> {
     /// Starts a member on a disk: the notes of its last frame send again what they sent, each
     /// missing block is asked for, and what can be is handed out. Refused, it hands the disk back:
     /// `Foreign` where its bytes aren't frames of notes, `Disk` where the disk failed, else for
@@ -89,12 +98,13 @@ impl<H: Hasher<Digest = Digest32>, D: Disk, A: Application + Drop> Node<H, D, A>
         disk: D,
         app: A,
         strategy: &S,
-    ) -> Result<(Node<H, D, A>, StepOut), (D, NodeError)>
+    ) -> Result<(Member<H, D, A, W>, StepOut), (D, NodeError)>
         requires id { id < committees.total }
         requires backlog { 1 ≤ backlog }
 
         // The rules' start on the frames that it finds on the disk.
         ensures node { IfOk result (λ r. IsNodeOf id committees backlog app r.0) }
+        ensures way { IfOk result (λ r. r.0.travel ≡ W.travel) }
         ensures start { IfOk result (λ r.
             stepped r.0.member r.1 ≡ rule.start
             (rules_of H.digest_of A.accepts r.0) id r.0.member.frames) }
@@ -117,6 +127,7 @@ impl<H: Hasher<Digest = Digest32>, D: Disk, A: Application + Drop> Node<H, D, A>
             Err(refused) => return Err(refused),
         };
         let setup = Setup {
+            travel: W::travel(),
             id,
             committees: own,
             backlog,
@@ -131,10 +142,11 @@ impl<H: Hasher<Digest = Digest32>, D: Disk, A: Application + Drop> Node<H, D, A>
             Ok(out) => {
                 holding.rests();
                 Ok((
-                    Node {
+                    Member {
                         holding,
                         leads,
                         failed: false,
+                        way: PhantomData,
                     },
                     out,
                 ))
@@ -196,6 +208,14 @@ impl<H: Hasher<Digest = Digest32>, D: Disk, A: Application + Drop> Node<H, D, A>
         }
     }
 
+    /// How its blocks travel, which its type says.
+    pub fn travel(&self) -> Travel
+        ensures value { result ≡ self.now.travel }
+        ensures way { result ≡ W.travel }
+    {
+        self.holding.travel
+    }
+
     /// Whether no step was refused. If so it is at work.
     pub fn is_live(&self) -> bool
         ensures live { result ≡ self.now.member.live }
@@ -249,17 +269,18 @@ impl<H: Hasher<Digest = Digest32>, D: Disk, A: Application + Drop> Node<H, D, A>
     pub fn into_disk(self) -> D
         ensures { result ≡ self.log.disk }
     {
-        let Node {
+        let Member {
             holding,
             leads: _,
             failed: _,
+            way: _,
         } = self;
         holding.into_disk()
     }
 }
 
 /// What a node over a disk in memory passes on to it.
-impl<H: Hasher<Digest = Digest32>, A: Application + Drop> Node<H, MemoryDisk, A> {
+impl<H: Hasher<Digest = Digest32>, A: Application + Drop, W: Way> Member<H, MemoryDisk, A, W> {
     ghost use Rattle.std.specs.Prelude.{None};
     ghost use Rattle.node_disk.specs.Memory.{is_stopped, memory_state, stop_from_now};
 
