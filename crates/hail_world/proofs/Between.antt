@@ -1,0 +1,199 @@
+-- What is known of a cluster between two turns.
+use Rattle.std.proofs.Common.{◌≡◌, ℕ, ◌<◌, ◌+◌, ◌++◌, ◌∷◌, arith, Bool, true, false, is_some, List, [], length, map, Option, Some, None, Result, Ok, Err, refl, sym, ap, subst, ◌∙◌}
+use Rattle.std.specs.Prelude.{IfSome, flat_map}
+use Rattle.std.specs.Option.{option_map_or}
+use Rattle.cw_base.specs.declared.hash.Digest32.{Digest32}
+use Rattle.cw_rules.specs.Chains.{Clashes, Ends, outcome}
+use Rattle.cw_rules.specs.Reached.{IsClash, IsCluster, IsReported, Reaches}
+use Rattle.cw_rules.specs.Report.{Entry, handed_in, report_of}
+use Rattle.cw_rules.specs.Rules.{Rules}
+use Rattle.cw_rules.specs.World.{Line, World, opening, run}
+use Rattle.hail_script.specs.declared.error.RunError.{RunError}
+use Rattle.hail_script.specs.declared.error.RunError.TheVariants as error
+use Rattle.hail_script.specs.declared.event.EventLine.{EventLine}
+use Rattle.hail_script.specs.Events.{line_of}
+use Rattle.hail_script.specs.Lanes.{Laned, laned_of, lanes, rows}
+use Rattle.hail_world.specs.declared.blocks.KnownBlocks.{KnownBlocks}
+use Rattle.hail_world.specs.declared.place.Place.{Place}
+use Rattle.hail_world.specs.declared.report.Report.{Report}
+use Rattle.hail_world.specs.Lanes.{IsLanesCause, IsLanesReport, lane_at, left, lines_of, played, without_next}
+use Rattle.hail_world.specs.Places.{SitAs, WorkBy, rules_of}
+use Rattle.hail_world.specs.Runs.{GoesBy, opened}
+use Rattle.hail_world.specs.Seats.{Seat}
+use Rattle.hail_world.specs.Turns.{IsBetween, IsOver, IsReportOf, IsTurnBy, IsTurnOf, IsTurning, Turning, between, told_order}
+use Rattle.hail_world.proofs.Known.{count_lines}
+use Rattle.hail_world.proofs.Laned.{TellsApart, count_rows, lanes_clashed, lanes_reported}
+use Rattle.hail_world.proofs.Merging.{fewer_left, left_more}
+
+pub none_when : {X : Type 0} (o : Option X) → ((x : X) → o ≡ Some x → ⊥) → o ≡ None
+none_when None never = refl
+none_when (Some x) never = absurd (never x refl)
+
+pub none_unless : {X : Type 0} (o : Option X) → is_some o ≡ false → o ≡ None
+none_unless None e = refl
+none_unless (Some x) e = absurd (let no : true ≡ false = e in cc)
+
+pub rows_many : (x : Laned) (es : List EventLine) → map line_of es ≡ x.script.lines
+    → length (rows x) ≡ length es
+rows_many x es is = count_rows x ∙ ap (λ (l : List Line). length l) (sym is) ∙ count_lines es
+
+module _ (hash : List ℕ → Digest32) (x : Laned) (order : List ℕ) (stopped : Option RunError)
+    (opens : List Entry) (cursors : List (ℕ × ℕ)) (steps : List Entry) (places : List (Place Seat))
+    (known : KnownBlocks) (faulty : List Bool)
+    (h : IsTurning hash x order stopped opens cursors steps places known faulty) where
+  -- no clash was met yet
+  pub between_of : stopped ≡ None → IsBetween hash x order cursors steps places known faulty
+  between_of none =
+      (subst
+      (λ (o : Option RunError). IsTurning hash x order o opens cursors steps places known faulty)
+      none h).1
+
+  -- why no further line is played
+  pub over_of : (e : RunError) → stopped ≡ Some e → IsOver hash x order e
+  over_of e is =
+      (subst
+      (λ (o : Option RunError). IsTurning hash x order o opens cursors steps places known faulty)
+      is h).1
+
+  -- a lane without a cursor before its end has no line left
+  pub nothing_next : (seen : List (ℕ × ℕ)) (count k : ℕ) → stopped ≡ None → seen ≡ cursors
+      → length (rows x) ≡ count
+      → ((all : List (ℕ × Line)) → length all ≡ count → lane_at (map (between all) seen) k ≡ [])
+      → lane_at (left (lanes x) order) k ≡ []
+  nothing_next seen count k none same many nothing =
+      ap (λ (l : List (List (ℕ × Line))). lane_at l k)
+      ((between_of none).rest ∙ ap (λ (l : List (ℕ × ℕ)). map (between (rows x)) l) (sym same))
+      ∙ nothing (rows x) many
+
+  -- no lane has a line left
+  pub none_next : (seen : List (ℕ × ℕ)) (count : ℕ) → stopped ≡ None → seen ≡ cursors
+      → length (rows x) ≡ count
+      → ((all : List (ℕ × Line)) → length all ≡ count
+      → flat_map (λ lane. lane) (map (between all) seen) ≡ [])
+      → flat_map (λ lane. lane) (left (lanes x) order) ≡ []
+  none_next seen count none same many nothing =
+      ap (λ (l : List (List (ℕ × Line))). flat_map (λ lane. lane) l)
+      ((between_of none).rest ∙ ap (λ (l : List (ℕ × ℕ)). map (between (rows x)) l) (sym same))
+      ∙ nothing (rows x) many
+
+  -- the first lane that has
+  pub some_next : (seen : List (ℕ × ℕ)) (count : ℕ) (o : Option ℕ) → stopped ≡ None → seen ≡ cursors
+      → length (rows x) ≡ count
+      → IfSome o
+      (λ k. (all : List (ℕ × Line)) → length all ≡ count
+      → 0 < length (lane_at (map (between all) seen) k))
+      → IfSome o (λ k. (stopped ≡ None) × (0 < length (lane_at (left (lanes x) order) k)))
+  some_next seen count None none same many some = tt
+  some_next seen count (Some k) none same many some =
+      let rest : left (lanes x) order ≡ map (between (rows x)) seen =
+      (between_of none).rest ∙ ap (λ (l : List (ℕ × ℕ)). map (between (rows x)) l) (sym same) in (
+        none,
+        subst (λ (l : List (List (ℕ × Line))). 0 < length (lane_at l k)) (sym rest)
+            (some (rows x) many),
+      )
+
+  -- the report of its end
+  pub ends_reported : {H : Type 0} (text : List ℕ) (report : Report H) → laned_of text ≡ Ok x
+      → stopped ≡ None → flat_map (λ lane. lane) (left (lanes x) order) ≡ []
+      → ((r : Rules) (w : World) → GoesBy hash r → WorkBy r 0 places → SitAs places w.members
+      → IsReportOf r w opens steps report)
+      → IsCluster (rules_of hash x.script) x.script.lines → 0 < x.script.backlog
+      → ((r : Rules) (script : List Line) (w : World) → IsCluster r script → 0 < r.backlog
+      → outcome r (opening r script) script ≡ Ends w
+      → IsReported r w (handed_in r script) (report_of r script w).chain)
+      → IsLanesReport hash text order report
+  ends_reported text report spells none left_none told cluster some law =
+      let b = between_of none in
+      let r = rules_of hash x.script in
+      let w = run r (opened hash x.script) (lines_of (played x order)) in
+      lanes_reported hash text x order opens steps cursors places known faulty report spells b h.0
+      left_none
+      (told r w (record { hashes = refl; blocks = refl; contexts = refl }) b.sound b.played.members)
+      cluster some law
+
+-- the same, whatever its parts are called
+pub same_between : (hash : List ℕ → Digest32) (x : Laned) (order order' : List ℕ)
+    (cursors cursors' : List (ℕ × ℕ)) (steps : List Entry) (places places' : List (Place Seat))
+    (known : KnownBlocks) (faulty faulty' : List Bool)
+    → order ≡ order' → cursors ≡ cursors' → places ≡ places' → faulty ≡ faulty'
+    → IsBetween hash x order cursors steps places known faulty
+    → IsBetween hash x order' cursors' steps places' known faulty'
+same_between hash x order order' cursors cursors' steps places places' known faulty faulty' o c p f
+    h =
+    subst (λ (l : List Bool). IsBetween hash x order' cursors' steps places' known l) f
+    (subst (λ (l : List (Place Seat)). IsBetween hash x order' cursors' steps l known faulty) p
+    (subst (λ (l : List (ℕ × ℕ)). IsBetween hash x order' l steps places known faulty) c
+    (subst (λ (l : List ℕ). IsBetween hash x l cursors steps places known faulty) o h)))
+
+-- a turn that finds no line
+pub turns_none : (hash : List ℕ → Digest32) (t : Turning) (k : ℕ) → t.stopped ≡ None
+    → lane_at (left (lanes t.laned) t.order) k ≡ [] → IsTurnBy hash t k (Ok None) t t.stopped
+turns_none hash t k none nothing =
+    subst (λ (o : Option RunError). IsTurnBy hash t k (Ok None) t o) (sym none) (refl, nothing)
+
+-- why there is no report
+pub over_cause : (hash : List ℕ → Digest32) (text : List ℕ) (x : Laned) (order : List ℕ)
+    (e : RunError)
+    → laned_of text ≡ Ok x → IsOver hash x order e
+    → ((r : Rules) (script : List Line) (earlier later : List ℕ)
+    → outcome r (opening r script) script ≡ Clashes earlier later
+    → (w : World) × Reaches r script w × IsClash r w earlier later)
+    → TellsApart (rules_of hash x.script) x.script.lines
+    → IsLanesCause hash text (told_order order e) e
+over_cause hash text x order error.NoMemory spells h law apart = refl
+over_cause hash text x order (error.HashClash earlier later) spells h law apart =
+    lanes_clashed hash text x order earlier later spells h law apart
+over_cause hash text x order error.BadCommittee spells h law apart = absurd h
+over_cause hash text x order error.TooManyFaulty spells h law apart = absurd h
+over_cause hash text x order (error.Syntax line) spells h law apart = absurd h
+over_cause hash text x order (error.UnknownMember line) spells h law apart = absurd h
+over_cause hash text x order (error.OversizeBlock line) spells h law apart = absurd h
+
+-- ---- how many turns may come
+
+-- how many lines all lanes have left
+abbrev pub lines_left : Turning → ℕ
+lines_left t = length (flat_map (λ lane. lane) (left (lanes t.laned) t.order))
+
+-- how many turns may come yet, one of them the last that is told
+abbrev pub turns_left : Turning → ℕ
+turns_left t = option_map_or (λ e. 0) t.stopped (1 + lines_left t)
+
+turns_going : (t : Turning) → t.stopped ≡ None → turns_left t ≡ 1 + lines_left t
+turns_going t none = ap (λ (o : Option RunError). option_map_or (λ e. 0) o (1 + lines_left t)) none
+
+turns_over : (t : Turning) (e : RunError) → t.stopped ≡ Some e → turns_left t ≡ 0
+turns_over t e is = ap (λ (o : Option RunError). option_map_or (λ e. 0) o (1 + lines_left t)) is
+
+-- fewer behind each turn
+pub fewer_turns : (hash : List ℕ → Digest32) (old new : Turning) (k : ℕ)
+    (reply : Result (Option Entry) RunError)
+    → IsTurnOf hash old k reply new → old.stopped ≡ None
+    → 0 < length (lane_at (left (lanes old.laned) old.order) k)
+    → turns_left new < turns_left old
+fewer_turns hash old new k reply turn none some =
+    go reply (subst (λ (o : Option RunError). IsTurnBy hash old k reply new o) none turn.1)
+  where
+    before : turns_left old ≡ 1 + lines_left old
+    before = turns_going old none
+
+    go : (reply : Result (Option Entry) RunError) → IsTurnBy hash old k reply new None
+        → turns_left new < turns_left old
+    go (Ok (Some entry)) h =
+        let now : turns_left new ≡ 1 + lines_left new = turns_going new h.2 in
+        let rest : left (lanes new.laned) new.order
+        ≡ without_next (left (lanes old.laned) old.order) k =
+        ap (λ (x : Laned). left (lanes x) new.order) turn.0
+        ∙ ap (λ (o : List ℕ). left (lanes old.laned) o) h.1
+        ∙ left_more (lanes old.laned) old.order k
+        in
+        let many : lines_left new
+        ≡ length (flat_map (λ lane. lane) (without_next (left (lanes old.laned) old.order) k)) =
+        ap (λ (l : List (List (ℕ × Line))). length (flat_map (λ lane. lane) l)) rest in
+        let fewer = fewer_left (left (lanes old.laned) old.order) k some in
+        omega (arith, before, now, many, fewer)
+    go (Ok None) h =
+        let zero_left : length (lane_at (left (lanes old.laned) old.order) k) ≡ 0 =
+        ap (λ (l : List (ℕ × Line)). length l) h.1 in
+        absurd (omega (arith, zero_left, some))
+    go (Err e) h = let now : turns_left new ≡ 0 = turns_over new e h.0 in omega (arith, before, now)
