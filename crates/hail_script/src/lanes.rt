@@ -11,6 +11,7 @@ use crate::headers::{Header, header_of};
 use crate::pieces::{pieces_of, without_empty_end};
 use crate::script::Script;
 use cw_base::{Items, NoMemory};
+use cw_rules::Travel;
 use std::alloc::Global;
 use std::marker::Model;
 
@@ -52,7 +53,7 @@ impl LaneScript {
             lines,
             sizes,
         } = part(alloc, lines, head)?;
-        match Script::read(alloc, &lines) {
+        match Script::read(alloc, Travel::Chunked, &lines) {
             Ok(script) => Ok(LaneScript {
                 script,
                 numbers: copied(alloc, behind(&numbers, head as usize))?,

@@ -12,6 +12,7 @@ pub returns-in-Some-clause-err : goal.returns-in-Some-clause-err
 returns-in-Some-clause-err c =
     let s : Scenario =
     record {
+      travel = c.args.travel;
       committees = c.args.committees;
       backlog = c.args.backlog;
       lines = map line_of c.args.events;
@@ -30,6 +31,7 @@ pub returns-then-not-bears_all-clause-err : goal.returns-then-not-bears_all-clau
 returns-then-not-bears_all-clause-err c =
     let s : Scenario =
     record {
+      travel = c.args.travel;
       committees = c.args.committees;
       backlog = c.args.backlog;
       lines = map line_of c.args.events;
@@ -57,6 +59,7 @@ pub returns-in-Some-first_oversize-clause-err : goal.returns-in-Some-first_overs
 returns-in-Some-first_oversize-clause-err c =
     let s : Scenario =
     record {
+      travel = c.args.travel;
       committees = c.args.committees;
       backlog = c.args.backlog;
       lines = map line_of c.args.events;
@@ -87,6 +90,7 @@ pub invariant_of-result : goal.invariant_of-result
 invariant_of-result c =
     let s : Scenario =
     record {
+      travel = c.args.travel;
       committees = c.args.committees;
       backlog = c.args.backlog;
       lines = map line_of c.args.events;
@@ -121,6 +125,7 @@ pub returns-clause-ok : goal.returns-clause-ok
 returns-clause-ok c =
     let s : Scenario =
     record {
+      travel = c.args.travel;
       committees = c.args.committees;
       backlog = c.args.backlog;
       lines = map line_of c.args.events;

@@ -12,6 +12,7 @@ pub returns-then-not-are_sized-clause-err : goal.returns-then-not-are_sized-clau
 returns-then-not-are_sized-clause-err c =
     let s : Scenario =
     record {
+      travel = c.args.travel;
       committees = record {
         total = c.args.members;
         span = Some c.args.span;
@@ -27,6 +28,7 @@ pub returns-in-Some-clause-err : goal.returns-in-Some-clause-err
 returns-in-Some-clause-err c =
     let s : Scenario =
     record {
+      travel = c.args.travel;
       committees = record {
         total = c.args.members;
         span = Some c.args.span;
