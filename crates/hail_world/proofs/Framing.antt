@@ -2,6 +2,7 @@
 use Rattle.std.proofs.Common.{◌≡◌, ℕ, ◌≤◌, List, length, Option, refl, inl, inr}
 use Rattle.std.specs.Io.KnownBytes.{Appends, IsAtEnd}
 use Rattle.cw_base.specs.declared.hash.Digest32.{Digest32}
+use Rattle.cw_rules.specs.declared.travel.Travel.{Travel}
 use Rattle.hail_world.specs.declared.frame.Early.{Early}
 use Rattle.hail_world.specs.declared.frame.Early.TheVariants as early
 use Rattle.hail_world.specs.declared.frame.Exit.{Exit}
@@ -10,20 +11,21 @@ use Rattle.hail_world.specs.Programs.{AnswersBy, EndsEarly, Finishes, HasFault, 
 use Rattle.hail_world.specs.Programs.IsDue.{OfClash, OfExcess, OfRefusal, OfRun}
 use Rattle.hail_world.specs.Reading.{script_limit}
 
-module _ {X : Type 0} (hash : List ℕ → Digest32) (IsDone : List ℕ → X → List ℕ → Type 0)
-    (text : List ℕ) (rest held written : Option (List ℕ)) (w later : ℕ) where
+module _ {X : Type 0} (travel : Travel) (hash : List ℕ → Digest32)
+    (IsDone : List ℕ → X → List ℕ → Type 0) (text : List ℕ) (rest held written : Option (List ℕ))
+    (w later : ℕ) where
   -- what the program makes of a run was written, or a front of it
   pub done_answers : (x : X) (due : List ℕ) (result : Exit X) → IsAtEnd rest
       → length text ≤ script_limit → IsDone text x due
       → Finishes held written w later due (Done x) result
-      → AnswersBy hash IsDone text rest held written result
+      → AnswersBy travel hash IsDone text rest held written result
   done_answers x due result e l done (inl h) = rw h.0 (e, l, (due, done, h.1))
   done_answers x due result e l done (inr h) = rw h.0 (due, OfRun x l done, h.2)
 
   -- the line of a cause was written, or a front of it, or nothing
-  pub early_answers : (e : Early) (result : Exit X) → HasNoReport hash text rest e
+  pub early_answers : (e : Early) (result : Exit X) → HasNoReport travel hash text rest e
       → EndsEarly held written w later e result
-      → AnswersBy hash IsDone text rest held written result
+      → AnswersBy travel hash IsDone text rest held written result
   early_answers early.TooLong result cause (inl h) = rw h.0 (cause.0, cause.1, h.1)
   early_answers early.TooLong result cause (inr h) = rw h.0 (_, OfExcess cause.0 refl, h.2)
   early_answers (early.Refused e) result cause (inl (inl h)) =

@@ -9,8 +9,9 @@ use Rattle.cw_rules.specs.Reached.{IsClash, IsCluster, IsReported, Reaches}
 use Rattle.cw_rules.specs.Report.{Entry, Report as Reported, entries_from, handed_in, opening_entry, report_of}
 use Rattle.cw_rules.specs.Rules.{Rules}
 use Rattle.cw_rules.specs.World.{Line, World, faults, happens, opening}
-use Rattle.hail_script.specs.Grammar.{is_faulty_in, script_of}
+use Rattle.hail_script.specs.Grammar.{is_faulty_in, script_by}
 use Rattle.hail_script.specs.Scenario.{Scenario}
+use Rattle.cw_rules.specs.declared.travel.Travel.{Travel}
 use Rattle.hail_script.specs.declared.error.RunError.{RunError}
 use Rattle.hail_script.specs.declared.error.RunError.TheVariants as error
 use Rattle.hail_world.specs.declared.report.Report.{Report}
@@ -39,13 +40,13 @@ many : (r : Rules) (w : World) (number : ℕ) (lines : List Line)
 many r w number [] = refl
 many r w number (line ∷ lines) = rw (many r (happens r w line) (number + 1) lines) refl
 
-pub reported : {H : Type 0} (hash : List ℕ → Digest32) (text : List ℕ) (s : Scenario)
-    (report : Report H)
-    → script_of text ≡ Ok s → (h : IsRun hash s report)
+pub reported : {H W : Type 0} (travel : Travel) (hash : List ℕ → Digest32) (text : List ℕ) (s : Scenario)
+    (report : Report H W)
+    → script_by travel text ≡ Ok s → (h : IsRun hash s report)
     → IsReported (rules_of hash s) h.world (handed_in (rules_of hash s) s.lines)
     (report_of (rules_of hash s) s.lines h.world).chain
-    → IsReport hash text report
-reported hash text s report spells h law = record {
+    → IsReport travel hash text report
+reported travel hash text s report spells h law = record {
   script = s;
   in_grammar = spells;
   run = h;
@@ -63,17 +64,17 @@ reported hash text s report spells h law = record {
 }
 
 -- why there is no report
-pub caused : (hash : List ℕ → Digest32) (text : List ℕ) (s : Scenario) (e : RunError)
-    → script_of text ≡ Ok s
+pub caused : (travel : Travel) (hash : List ℕ → Digest32) (text : List ℕ) (s : Scenario) (e : RunError)
+    → script_by travel text ≡ Ok s
     → ((earlier later : List ℕ)
     → outcome (rules_of hash s) (opened hash s) s.lines ≡ Clashes earlier later
     → (w : World) × Reaches (rules_of hash s) s.lines w
     × IsClash (rules_of hash s) w earlier later)
     → ((earlier later : List ℕ)
     → outcome (rules_of hash s) (opened hash s) s.lines ≡ Clashes earlier later → earlier ≢ later)
-    → IsStopped (rules_of hash s) (opened hash s) s.lines e → IsCause hash text e
-caused hash text s error.NoMemory spells law differ h = tt
-caused hash text s (error.HashClash earlier later) spells law differ h =
+    → IsStopped (rules_of hash s) (opened hash s) s.lines e → IsCause travel hash text e
+caused travel hash text s error.NoMemory spells law differ h = tt
+caused travel hash text s (error.HashClash earlier later) spells law differ h =
     let shows = law earlier later h in (
       s,
       spells,
@@ -85,8 +86,8 @@ caused hash text s (error.HashClash earlier later) spells law differ h =
         texts = differ earlier later h;
       },
     )
-caused hash text s error.BadCommittee spells law differ h = absurd h
-caused hash text s error.TooManyFaulty spells law differ h = absurd h
-caused hash text s (error.Syntax line) spells law differ h = absurd h
-caused hash text s (error.UnknownMember line) spells law differ h = absurd h
-caused hash text s (error.OversizeBlock line) spells law differ h = absurd h
+caused travel hash text s error.BadCommittee spells law differ h = absurd h
+caused travel hash text s error.TooManyFaulty spells law differ h = absurd h
+caused travel hash text s (error.Syntax line) spells law differ h = absurd h
+caused travel hash text s (error.UnknownMember line) spells law differ h = absurd h
+caused travel hash text s (error.OversizeBlock line) spells law differ h = absurd h

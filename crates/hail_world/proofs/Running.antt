@@ -57,7 +57,7 @@ four a a' b b' c c' d d' p q s t =
     t
 
 -- a run, from what its parts gave
-pub ran : {H : Type 0} (hash : List ℕ → Digest32) (s : Scenario) (report : Report H)
+pub ran : {H W : Type 0} (hash : List ℕ → Digest32) (s : Scenario) (report : Report H W)
     (places : List (Place Seat))
     → report.opening ≡ opening_entries (rules_of hash s) s.lines
     → (h : ArePlayed (rules_of hash s) (opened hash s) s.lines report.steps places)

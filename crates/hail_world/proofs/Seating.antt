@@ -10,7 +10,8 @@ use Rattle.cw_types.specs.declared.note.Note.{Note}
 use Rattle.cw_types.specs.declared.vote.Vote.{Vote}
 use Rattle.cw_rules.specs.Rules.{Rules}
 use Rattle.cw_rules.specs.Step.{Stepped, start, step}
-use Rattle.cw_rules_coded.specs.Coded.{coded}
+use Rattle.cw_rules.specs.declared.travel.Travel.{Travel}
+use Rattle.cw_rules_coded.specs.Coded.{ruled}
 use Rattle.marshal.specs.Frames.{FindsNotes}
 use Rattle.node.specs.Disks.{HasFound, HasTried}
 use Rattle.node.specs.State.{IsNodeOf, IsSameNode, stepped}
@@ -19,21 +20,21 @@ use Rattle.node_disk.specs.declared.log.StoreError.{StoreError}
 use Rattle.node_disk.specs.declared.log.StoreError.TheVariants as store
 use Rattle.hail_world.specs.Seats.{HasStarted, HasStepped, Seat, WasStopped, Works, notes_of_step, out_of, rules_by}
 
-pub started : (hash : List ℕ → Digest32) (id : ℕ) (epochs : Epochs) (backlog : ℕ) (app : AcceptAll)
+pub started : (travel : Travel) (hash : List ℕ → Digest32) (id : ℕ) (epochs : Epochs) (backlog : ℕ) (app : AcceptAll)
     (frames : List (List Note)) (disk : MemoryState) (new : Seat) (out : StepOut)
-    → IsNodeOf id epochs backlog app new
+    → new.travel ≡ travel → IsNodeOf id epochs backlog app new
     → stepped new.member out ≡ start (rules_by hash new) id new.member.frames → Works new
     → HasFound memory_state Continues new.member.frames disk new.log.disk
     → FindsNotes frames (memory_state disk).now.seen
-    → HasStarted (coded hash epochs backlog (λ b a. true)) id frames disk new out
-started hash id epochs backlog app frames disk new out is starts works found held =
+    → HasStarted (ruled travel hash epochs backlog (λ b a. true)) id frames disk new out
+started travel hash id epochs backlog app frames disk new out way is starts works found held =
     let same : new.member.frames ≡ frames =
     (let e : Ok new.member.frames ≡ Ok frames = sym found.found ∙ held in cc) in
-    let by : rules_by hash new ≡ coded hash epochs backlog (λ b a. true) =
-    rw (is.committees, is.pending) refl in
-    let all : stepped new.member out ≡ start (coded hash epochs backlog (λ b a. true)) id frames =
+    let by : rules_by hash new ≡ ruled travel hash epochs backlog (λ b a. true) =
+    rw (way, is.committees, is.pending) refl in
+    let all : stepped new.member out ≡ start (ruled travel hash epochs backlog (λ b a. true)) id frames =
     starts ∙ ap (λ (r : Rules). start r id new.member.frames) by
-    ∙ ap (λ (f : List (List Note)). start (coded hash epochs backlog (λ b a. true)) id f) same in
+    ∙ ap (λ (f : List (List Note)). start (ruled travel hash epochs backlog (λ b a. true)) id f) same in
     record {
       rules = by;
       number = is.number;
@@ -46,7 +47,7 @@ started hash id epochs backlog app frames disk new out is starts works found hel
 -- the same node goes by the same rules
 by_same : (hash : List ℕ → Digest32) (old new : Seat) → IsSameNode old new
     → rules_by hash new ≡ rules_by hash old
-by_same hash old new same = rw (same.epochs, same.backlog) refl
+by_same hash old new same = rw (same.travel, same.epochs, same.backlog) refl
 
 pub steps : (hash : List ℕ → Digest32) (signed : ℕ → Vote → Bool) (e : Event) (old new : Seat)
     (result : Result StepOut StoreError)

@@ -1,116 +1,97 @@
--- What each answer of the program means.
-use Rattle.std.specs.Prelude.{[], ℕ, ◌+◌, ◌<◌, ◌∷◌, ◌≡◌, ◌≤◌, ◌⊎◌, Err, List, None, Ok, Option, Result, Some, bytes_eq, codes, drop, if◌then◌else◌, length, nat_lt, option_map}
+-- What each answer of a program means that writes the report of a run, or a part of it.
+use Rattle.std.specs.Prelude.{ℕ, ◌+◌, ◌<◌, ◌≡◌, ◌≤◌, ◌⊎◌, Err, List, Ok, Option, Result, if◌then◌else◌, length, nat_lt}
 use Rattle.std.specs.Io.KnownBytes.{Appends, IsAtEnd, Keeps}
 use Rattle.cw_base.specs.declared.hash.Digest32.{Digest32}
 use Rattle.cw_rules.specs.Chains.{Clashes, Ends, Outcome, outcome}
 use Rattle.cw_rules.specs.Report.{Report as Reported, report_of}
 use Rattle.cw_rules.specs.World.{opening}
+use Rattle.cw_rules.specs.declared.travel.Travel.{Travel}
 use Rattle.hail_script.specs.declared.error.RunError.{RunError}
 use Rattle.hail_script.specs.declared.error.RunError.TheVariants as error
-use Rattle.hail_script.specs.Grammar.{script_of}
-use Rattle.hail_script.specs.Pieces.{number}
+use Rattle.hail_script.specs.Grammar.{script_by}
 use Rattle.hail_script.specs.Scenario.{Scenario}
 use Rattle.hail_world.specs.declared.frame.Exit.{Exit}
 use Rattle.hail_world.specs.declared.frame.Exit.TheVariants.{Clash, Done, NoMemory, ReadFault, Refused, TooLong, Usage, WriteFault}
 use Rattle.hail_world.specs.declared.report.Report.{Report}
 use Rattle.hail_world.specs.Places.{rules_of}
-use Rattle.hail_world.specs.Programs.{Finishes, IsShort, UsageOf}
+use Rattle.hail_world.specs.Programs.{Finishes, IsShort}
 use Rattle.hail_world.specs.Reading.{HasRead, script_limit}
 use Rattle.hail_world.specs.Reports.{Clashing, IsReport, shown_report}
-use Rattle.hail_world.specs.Text.{error_line, report_text, summary_text, too_long_line, usage_line}
+use Rattle.hail_world.specs.Text.{error_line, report_text, too_long_line}
 use Rattle.hail_world.specs.Writing.{WritesFront}
 
--- `storm` and a number
-abbrev pub asked_storm : List ℕ → List ℕ → Option (Option ℕ)
-asked_storm word field =
-    if bytes_eq word (codes "storm") then option_map Some (number field) else None
-
--- what the words ask for: none, a script that is read; `storm` and a number, the storm of that
--- number
-abbrev pub words_ask : List (List ℕ) → Option (Option ℕ)
-words_ask [] = Some None
-words_ask (word ∷ field ∷ []) = asked_storm word field
-words_ask _ = None
-
--- the text of a report: whole, or its summary under a storm's number
-abbrev pub text_of : (List ℕ → Digest32) → Option ℕ → Reported → List ℕ
-text_of hash None r = report_text hash r
-text_of hash (Some number) r = summary_text hash number r
-
--- the text that is due for an outcome of a script
-abbrev pub due_for : (List ℕ → Digest32) → Option ℕ → Scenario → Outcome → List ℕ
-due_for hash storm s (Ends w) = text_of hash storm (report_of (rules_of hash s) s.lines w)
-due_for hash storm s (Clashes earlier later) = error_line (error.HashClash earlier later)
+-- the text that is due for an outcome of a script, of a program that tells a report so
+abbrev pub due_for : (Reported → List ℕ) → (List ℕ → Digest32) → Scenario → Outcome → List ℕ
+due_for tell hash s (Ends w) = tell (report_of (rules_of hash s) s.lines w)
+due_for tell hash s (Clashes earlier later) = error_line (error.HashClash earlier later)
 
 -- the text that is due for a script: that of its report, or the line of the clash in which it ends,
 -- or of the cause for which it isn't run
-abbrev pub due_of : (List ℕ → Digest32) → Option ℕ → Result Scenario RunError → List ℕ
-due_of hash storm (Ok s) =
-    due_for hash storm s (outcome (rules_of hash s) (opening (rules_of hash s) s.lines) s.lines)
-due_of hash storm (Err e) = error_line e
+abbrev pub due_of : (Reported → List ℕ) → (List ℕ → Digest32) → Result Scenario RunError → List ℕ
+due_of tell hash (Ok s) =
+    due_for tell hash s (outcome (rules_of hash s) (opening (rules_of hash s) s.lines) s.lines)
+due_of tell hash (Err e) = error_line e
 
-abbrev pub due_text : (List ℕ → Digest32) → Option ℕ → List ℕ → List ℕ
-due_text hash storm text = due_of hash storm (script_of text)
+abbrev pub due_text : Travel → (Reported → List ℕ) → (List ℕ → Digest32) → List ℕ → List ℕ
+due_text travel tell hash text = due_of tell hash (script_by travel text)
 
 -- the text that is due for what a source gave
-abbrev pub due_input : (List ℕ → Digest32) → List ℕ → List ℕ
-due_input hash text =
-    if nat_lt script_limit (length text) then too_long_line else due_text hash None text
+abbrev pub due_input : Travel → (List ℕ → Digest32) → List ℕ → List ℕ
+due_input travel hash text =
+    if nat_lt script_limit (length text) then too_long_line
+    else due_text travel (report_text hash) hash text
 
-module _ {H : Type 0} (hash : List ℕ → Digest32) where
+module _ {H W : Type 0} (travel : Travel) where
   -- What each answer means for a script of this text. Done: this is the report of its run, and the
-  -- sink took its whole text, or its summary, and nothing else.
-  abbrev pub Answers : Option ℕ → List ℕ → Option (List ℕ) → Option (List ℕ) → Exit (Report H)
-      → Type 0
-  Answers storm text held written (Done r) =
-      IsReport hash text r × Appends held written (text_of hash storm (shown_report r))
-  Answers storm text held written (Refused e) =
-      (script_of text ≡ Err e) × Appends held written (error_line e)
-  Answers storm text held written (Clash earlier later) =
-      Clashing hash text earlier later
+  -- sink took what is told of it, and nothing else.
+  abbrev pub Answers : (Reported → List ℕ) → (List ℕ → Digest32) → List ℕ → Option (List ℕ)
+      → Option (List ℕ) → Exit (Report H W) → Type 0
+  Answers tell hash text held written (Done r) =
+      IsReport travel hash text r × Appends held written (tell (shown_report r))
+  Answers tell hash text held written (Refused e) =
+      (script_by travel text ≡ Err e) × Appends held written (error_line e)
+  Answers tell hash text held written (Clash earlier later) =
+      Clashing travel hash text earlier later
       × Appends held written (error_line (error.HashClash earlier later))
-  Answers storm text held written WriteFault = WritesFront held written (due_text hash storm text)
-  Answers storm text held written NoMemory = Keeps held written
-  Answers storm text held written Usage = ⊥
-  Answers storm text held written TooLong = ⊥
-  Answers storm text held written ReadFault = ⊥
+  Answers tell hash text held written WriteFault =
+      WritesFront held written (due_text travel tell hash text)
+  Answers tell hash text held written NoMemory = Keeps held written
+  Answers tell hash text held written Usage = ⊥
+  Answers tell hash text held written TooLong = ⊥
+  Answers tell hash text held written ReadFault = ⊥
 
-  -- Without words. Where a report, a refusal or a clash was written, the source was read to its
-  -- end, and its bytes are no more than a script has.
-  abbrev pub Means : List ℕ → Option (List ℕ) → Option (List ℕ) → Option (List ℕ) → Exit (Report H)
-      → Type 0
-  Means text rest held written (Done r) =
-      IsAtEnd rest × (length text ≤ script_limit) × IsReport hash text r
+  -- What each answer means for a source that had this text left. Where a report, a refusal or a
+  -- clash was written, the source was read to its end, and its bytes are no more than a script has.
+  abbrev pub Means : (List ℕ → Digest32) → List ℕ → Option (List ℕ) → Option (List ℕ)
+      → Option (List ℕ) → Exit (Report H W) → Type 0
+  Means hash text rest held written (Done r) =
+      IsAtEnd rest × (length text ≤ script_limit) × IsReport travel hash text r
       × Appends held written (report_text hash (shown_report r))
-  Means text rest held written (Refused e) =
-      IsAtEnd rest × (length text ≤ script_limit) × (script_of text ≡ Err e)
+  Means hash text rest held written (Refused e) =
+      IsAtEnd rest × (length text ≤ script_limit) × (script_by travel text ≡ Err e)
       × Appends held written (error_line e)
-  Means text rest held written (Clash earlier later) =
-      IsAtEnd rest × (length text ≤ script_limit) × Clashing hash text earlier later
+  Means hash text rest held written (Clash earlier later) =
+      IsAtEnd rest × (length text ≤ script_limit) × Clashing travel hash text earlier later
       × Appends held written (error_line (error.HashClash earlier later))
-  Means text rest held written TooLong =
+  Means hash text rest held written TooLong =
       (script_limit < length text) × HasRead (script_limit + 1) text rest
       × Appends held written too_long_line
-  Means text rest held written WriteFault = WritesFront held written (due_input hash text)
-  Means text rest held written ReadFault = Keeps held written
-  Means text rest held written NoMemory = Keeps held written
-  Means text rest held written Usage = ⊥
+  Means hash text rest held written WriteFault = WritesFront held written (due_input travel hash text)
+  Means hash text rest held written ReadFault = Keeps held written
+  Means hash text rest held written NoMemory = Keeps held written
+  Means hash text rest held written Usage = ⊥
 
--- what the program hands back of a script of this text, and writes: the report of its run, and the
--- text of that, or its summary
-abbrev pub IsRunOf : {H : Type 0} → (List ℕ → Digest32) → Option ℕ → List ℕ → Report H → List ℕ
-    → Type 0
-IsRunOf hash storm text r due =
-    IsReport hash text r × (due ≡ text_of hash storm (shown_report r))
+-- what such a program hands back of a script of this text, and writes: the report of its run, and
+-- what is told of it
+abbrev pub IsRunOf : {H W : Type 0} → Travel → (Reported → List ℕ) → (List ℕ → Digest32) → List ℕ
+    → Report H W → List ℕ → Type 0
+IsRunOf travel tell hash text r due =
+    IsReport travel hash text r × (due ≡ tell (shown_report r))
 
--- with other words: the usage is written
-abbrev pub MeansUsage : {R : Type 0} → Option (List ℕ) → Option (List ℕ) → Exit R → Type 0
-MeansUsage held written exit = UsageOf usage_line held written exit
-
--- the text of the report, or its summary, was written and the end is so, or the sink failed behind
--- a front of it; for want of memory nothing is written
-abbrev pub EndsWith : {H : Type 0} → (List ℕ → Digest32) → Option ℕ → Option (List ℕ)
-    → Option (List ℕ) → ℕ → ℕ → Report H → Exit (Report H) → Type 0
-EndsWith hash storm held written writes later_writes r exit =
-    Finishes held written writes later_writes (text_of hash storm (shown_report r)) (Done r) exit
+-- what is told of the report was written and the end is so, or the sink failed behind a front of it;
+-- for want of memory nothing is written
+abbrev pub EndsWith : {H W : Type 0} → (Reported → List ℕ) → Option (List ℕ) → Option (List ℕ) → ℕ
+    → ℕ → Report H W → Exit (Report H W) → Type 0
+EndsWith tell held written writes later_writes r exit =
+    Finishes held written writes later_writes (tell (shown_report r)) (Done r) exit
     ⊎ IsShort held written exit

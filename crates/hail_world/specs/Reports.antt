@@ -82,9 +82,9 @@ pub record IsRun {H W : Type 0} (hash : List ℕ → Digest32) (script : Scenari
 abbrev pub honest_numbers : Scenario → List ℕ
 honest_numbers s = filter (λ i. not (is_faulty_in s.lines i)) (range_with_len 0 s.committees.total)
 
--- The text spells a script that is run, of blocks that travel so, and this is the report of its run: an entry for each honest
--- member and for each event line, and each block that is handed out is the link of its height in
--- one chain from genesis.
+-- The text spells a script that is run, of blocks that travel so, and this is the report of its
+-- run: an entry for each honest member and for each event line, and each block that is handed out
+-- is the link of its height in one chain from genesis.
 pub record IsReport {H W : Type 0} (travel : Travel) (hash : List ℕ → Digest32) (text : List ℕ)
     (report : Report H W) : Type 0 where
   pub script : Scenario

@@ -1,9 +1,10 @@
 //! What a faulty member sends.
 
 ghost use Rattle.std.specs.Prelude.{◌≡◌, ◌++◌, ◌<◌, ◌∷◌, [], IfOk, OnOk, IsTrue, false, map};
-ghost use Rattle.std.specs.Prelude.{option_map, filter_map};
+ghost use Rattle.std.specs.Prelude.{option_map, filter_map, ℕ, Bool};
 ghost use Rattle.cw_types.specs.Reading.{message_of};
-ghost use Rattle.cw_types.specs.Epochs.{single};
+ghost use Rattle.cw_types.specs.Block.{Block};
+ghost use Rattle.cw_types.specs.Epochs.{Epochs};
 ghost use Rattle.cw_types.specs.declared.message.Message.TheVariants as message;
 ghost use Rattle.cw_rules.specs.declared.travel.Travel.TheVariants as travel;
 ghost use Rattle.cw_rules.specs.Rules.{commit};
@@ -210,8 +211,9 @@ fn go_whole<H: Hasher<Digest = Digest32>>(
     alloc: Global,
     block: ChainBlock,
 ) -> Result<(Commitment, Items<Out>), NoMemory>
-    ensures name { IfOk result
-        (λ gone. gone.0 ≡ commit (uncut H.digest_of (single 4) 0 (λ b a. true)) block) }
+    ensures name { (epochs : Epochs) (backlog : ℕ) (accepts : Block → Block → Bool)
+        → IfOk result
+        (λ gone. gone.0 ≡ commit (uncut H.digest_of epochs backlog accepts) block) }
     ensures outs { IfOk result (λ gone. gone.1 ≡ all (message.Block block) ∷ []) }
 {
     let commitment = whole_commit::<H>(alloc, &block)?;

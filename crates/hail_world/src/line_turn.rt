@@ -7,10 +7,10 @@ ghost use Rattle.cw_rules.specs.World.{Line, World as RulesWorld, run};
 ghost use Rattle.hail_script.specs.Admission as admission;
 ghost use Rattle.hail_script.specs.Events.{line_of};
 ghost use Rattle.hail_script.specs.Grammar.{is_later, names_oversize};
-ghost use Rattle.hail_world.specs.Lanes.{lines_of};
+ghost use Rattle.hail_world.specs.Played.{lines_of};
 ghost use Rattle.hail_world.specs.Places.{WorkBy, rules_of};
 ghost use Rattle.hail_world.specs.Runs.{IsStopped};
-ghost use Rattle.hail_world.specs.Turns.{Begin, HavePlayed};
+ghost use Rattle.hail_world.specs.Played.{Begin, HavePlayed};
 
 use crate::blocks::KnownBlocks;
 use crate::clash::find_clash;

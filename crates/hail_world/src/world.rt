@@ -56,7 +56,7 @@ pub fn run_text<H: Hasher<Digest = Digest32>, W: Way, R: Threads + Sync, S: Stra
     clash_laws();
     script_laws();
     ruled_tells::<H>();
-    let script = match Script::parse_by(W::travel(), alloc, text) {
+    let script = match Script::parse_by(alloc, W::travel(), text) {
         Ok(script) => script,
         Err(error) => return Err(error),
     };

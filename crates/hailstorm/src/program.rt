@@ -106,28 +106,6 @@ fn asked_storm(word: &[u8], field: &[u8]) -> Option<Option<u64>>
     Some(Some(number))
 }
 
-// Reads a script, runs it, and writes its report or why there is none.
-fn run_input<H: Hasher<Digest = Digest32>, R: Threads + Sync, I: Source, O: Sink, S: Strategy>(
-    rt: &R,
-    alloc: Global,
-    input: &mut I,
-    output: &mut O,
-    strategy: &S,
-) -> Exit<Report<H>>
-    ensures answer { (text : List ℕ) → I.left input.old ≡ Some text
-        → Means H.digest_of text (I.left input.new) (O.held output.old) (O.held output.new) result }
-    ensures run { HasRun (IsRunOf H.digest_of None) (O.held output.old) (O.held output.new)
-        result }
-    ensures fault { HasFault (I.faults input.old) (I.faults input.new) (O.faults output.old)
-        (O.faults output.new) result }
-    ensures silent { IsSilent (O.held output.old) (O.held output.new) result }
-{
-    match run_source::<H, R, I, S>(rt, alloc, input, strategy) {
-        Ok(Ran { script: _, report }) => end_with::<H, O>(alloc, None, output, report),
-        Err(early) => end_early(alloc, output, early),
-    }
-}
-
 // Runs the script of a storm, and writes a summary.
 fn run_storm<H: Hasher<Digest = Digest32>, R: Threads + Sync, O: Sink, S: Strategy>(
     rt: &R,

@@ -4,7 +4,7 @@ use Rattle.cw_types.specs.declared.note.Note.{Note}
 use Rattle.cw_rules.specs.Reached.{IsNamed}
 use Rattle.cw_rules.specs.Rules.{genesis}
 use Rattle.hail_world.specs.Known.{Takes, blocks_in}
-use Rattle.hail_world.proofs.Between.{none_when}
+use Rattle.hail_world.proofs.Nothing.{none_when}
 use Rattle.hail_world.proofs.Colliding.{named_at, one_taken}
 use Rattle.hail_world.proofs.clash.clash_from.Goals as goal
 

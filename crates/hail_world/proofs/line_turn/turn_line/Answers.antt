@@ -2,9 +2,9 @@ use Rattle.std.proofs.Common.{◌≡◌, ◌<◌, ◌+◌, ◌++◌, ◌∷◌, 
 use Rattle.cw_rules.specs.Chains.{Clashes, clash_at}
 use Rattle.cw_rules.specs.World.{happens, run}
 use Rattle.hail_script.specs.Events.{line_of}
-use Rattle.hail_world.specs.Lanes.{lines_of}
+use Rattle.hail_world.specs.Played.{lines_of}
 use Rattle.hail_world.specs.Places.{rules_of}
-use Rattle.hail_world.proofs.Between.{none_when}
+use Rattle.hail_world.proofs.Nothing.{none_when}
 use Rattle.hail_world.proofs.Growing.{grown}
 use Rattle.hail_world.proofs.Known.{clear, found}
 use Rattle.hail_world.proofs.Turned.{played_clash, played_next, reached_begun}

@@ -8,7 +8,7 @@ use Rattle.hail_world.specs.Places.{IsTurn, rules_of}
 use Rattle.hail_world.specs.Pool.{sent_in}
 use Rattle.hail_world.specs.Runs.{opened}
 use Rattle.hail_world.proofs.Outcomes.{midway_start, midway_next, midway_clash, midway_end, reached_next}
-use Rattle.hail_world.proofs.Between.{none_when}
+use Rattle.hail_world.proofs.Nothing.{none_when}
 use Rattle.hail_world.proofs.Colliding.{knows_opened}
 use Rattle.hail_world.proofs.Growing.{grown}
 use Rattle.hail_world.proofs.Known.{clear, found, known_at, later_at, line_at, none_left, short_at}

@@ -25,14 +25,6 @@ use Rattle.hail_world.proofs.Known.{count_lines}
 use Rattle.hail_world.proofs.Laned.{TellsApart, count_rows, lanes_clashed, lanes_reported}
 use Rattle.hail_world.proofs.Merging.{fewer_left, left_more}
 
-pub none_when : {X : Type 0} (o : Option X) → ((x : X) → o ≡ Some x → ⊥) → o ≡ None
-none_when None never = refl
-none_when (Some x) never = absurd (never x refl)
-
-pub none_unless : {X : Type 0} (o : Option X) → is_some o ≡ false → o ≡ None
-none_unless None e = refl
-none_unless (Some x) e = absurd (let no : true ≡ false = e in cc)
-
 pub rows_many : (x : Laned) (es : List EventLine) → map line_of es ≡ x.script.lines
     → length (rows x) ≡ length es
 rows_many x es is = count_rows x ∙ ap (λ (l : List Line). length l) (sym is) ∙ count_lines es
