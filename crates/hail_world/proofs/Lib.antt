@@ -11,7 +11,7 @@ pub mod Meaning
 pub mod Framing
 pub mod Nothing
 pub mod Standing
-pub mod Standings
+pub mod Stands
 pub mod Closing
 pub mod Growing
 pub mod Known

@@ -21,13 +21,13 @@ use std::collections::BTreeMap;
 /// Genesis and the blocks that members have noted, each once, under its digest. While no two of one
 /// digest were met they stand for the notes of all members.
 #[derive(Drop)]
-pub(crate) struct KnownBlocks {
-    pub(crate) by_digest: BTreeMap<Digest32, ChainBlock>,
+pub struct KnownBlocks {
+    pub by_digest: BTreeMap<Digest32, ChainBlock>,
 }
 
 impl KnownBlocks {
     /// Genesis alone.
-    pub(crate) fn new<H: Hasher<Digest = Digest32>>(alloc: Global) -> Result<KnownBlocks, NoMemory>
+    pub fn new<H: Hasher<Digest = Digest32>>(alloc: Global) -> Result<KnownBlocks, NoMemory>
         ensures { (r : Rules) → GoesBy H.digest_of r
             → IfOk result (λ known. AreKnown r known (rules.genesis r ∷ [])) }
     {

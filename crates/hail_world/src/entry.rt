@@ -30,7 +30,7 @@ fn number(alloc: Global, first: usize, from: u16, outs: Vec<Out>) -> Result<Vec<
 }
 
 /// The entry of a line, whose messages are numbered behind those sent so far.
-pub(crate) fn enter(
+pub fn enter(
     alloc: Global,
     pool: &Pool,
     line: u64,
@@ -61,7 +61,7 @@ pub(crate) fn enter(
 }
 
 /// The entry of a member's line: empty where nothing was done.
-pub(crate) fn enter_done(
+pub fn enter_done(
     alloc: Global,
     pool: &Pool,
     line: u64,

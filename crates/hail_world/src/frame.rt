@@ -112,7 +112,7 @@ pub fn run_source<H: Hasher<Digest = Digest32>, W: Way, R: Threads + Sync, I: So
 }
 
 /// Why a run has no report.
-pub(crate) fn early_of(error: RunError) -> Early
+pub fn early_of(error: RunError) -> Early
     ensures { result ≡ early_by error }
 {
     match error {

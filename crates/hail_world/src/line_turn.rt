@@ -28,7 +28,7 @@ use std::alloc::Global;
 use std::thread::Threads;
 
 /// A line's turn: its entry, or the clash that it brings. The blocks that it notes are known then.
-pub(crate) fn turn_line<H: Hasher<Digest = Digest32>, W: Way, R: Threads + Sync, S: Strategy>(
+pub fn turn_line<H: Hasher<Digest = Digest32>, W: Way, R: Threads + Sync, S: Strategy>(
     rt: &R,
     alloc: Global,
     script: &Script,

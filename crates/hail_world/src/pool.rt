@@ -18,7 +18,7 @@ use std::marker::Model;
 /// number without a search; a sent vote is looked up among its signer's of that view. Contracts see
 /// the entries.
 #[derive(Drop)]
-pub(crate) struct Pool {
+pub struct Pool {
     entries: Items<Entry>,
     // of each message, the number of its entry and its place there
     places: Vec<(usize, usize)>,
@@ -41,7 +41,7 @@ impl Model for Pool {
 
 impl Pool {
     /// No entries.
-    pub(crate) fn new(alloc: Global) -> Pool
+    pub fn new(alloc: Global) -> Pool
         ensures { result ≡ [] }
     {
         Pool {
@@ -53,7 +53,7 @@ impl Pool {
 
     /// How many messages were sent.
     #[tactic(auto, using(crate::proofs::Numbered::counted))]
-    pub(crate) fn count(&self) -> usize
+    pub fn count(&self) -> usize
         ensures value { result ≡ length (sent_in self.now) }
         ensures small { result < 2 ^ 63 }
     {
@@ -61,7 +61,7 @@ impl Pool {
     }
 
     /// The message of a number.
-    pub(crate) fn get(&self, number: u64) -> Option<&Sent>
+    pub fn get(&self, number: u64) -> Option<&Sent>
         ensures { option_map (λ sent. sent.now) result ≡ slice_get (sent_in self.now) number }
     {
         let place = place_of(&self.places, number as usize);
@@ -69,14 +69,14 @@ impl Pool {
     }
 
     /// Whether a member sent a vote.
-    pub(crate) fn has_vote(&self, member: u16, vote: &Vote) -> bool
+    pub fn has_vote(&self, member: u16, vote: &Vote) -> bool
         ensures { result ≡ list_any (rule.is_sent_vote member vote.now) (sent_in self.now) }
     {
         self.votes.has(member, vote)
     }
 
     /// One entry more.
-    pub(crate) fn with(self, alloc: Global, entry: Entry) -> Result<Pool, NoMemory>
+    pub fn with(self, alloc: Global, entry: Entry) -> Result<Pool, NoMemory>
         ensures { IfOk result (λ pool. pool ≡ self ++ entry ∷ []) }
     {
         let Pool {
@@ -95,7 +95,7 @@ impl Pool {
     }
 
     /// The entries.
-    pub(crate) fn into_entries(self) -> Items<Entry>
+    pub fn into_entries(self) -> Items<Entry>
         ensures { result ≡ self }
     {
         let Pool {

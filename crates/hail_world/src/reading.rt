@@ -22,7 +22,7 @@ pub enum Reading {
 }
 
 /// Reads a source to its end, or to one byte more than a script may have.
-pub(crate) fn read_script<I: Source>(alloc: Global, input: &mut I) -> Reading
+pub fn read_script<I: Source>(alloc: Global, input: &mut I) -> Reading
     ensures { Reads (I.left input.old) (I.left input.new) (I.faults input.old)
         (I.faults input.new) result }
 {

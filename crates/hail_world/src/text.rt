@@ -346,7 +346,7 @@ fn put_link<H: Hasher<Digest = Digest32>>(
 
 /// The line of a refusal, or of a clash.
 #[tactic(auto, unfolding(crate::specs::Text::error_line))]
-pub(crate) fn error_text(alloc: Global, error: &RunError) -> Result<Vec<u8>, NoMemory>
+pub fn error_text(alloc: Global, error: &RunError) -> Result<Vec<u8>, NoMemory>
     ensures { IfOk result (λ text. text.items ≡ spec.error_line error.now) }
 {
     let mut out = String::new(alloc);
@@ -375,7 +375,7 @@ pub(crate) fn error_text(alloc: Global, error: &RunError) -> Result<Vec<u8>, NoM
 
 /// The line of a clash of two blocks, from their encodings.
 #[tactic(auto, unfolding(crate::specs::Text::error_line))]
-pub(crate) fn clash_text(alloc: Global, earlier: &[u8], later: &[u8]) -> Result<Vec<u8>, NoMemory>
+pub fn clash_text(alloc: Global, earlier: &[u8], later: &[u8]) -> Result<Vec<u8>, NoMemory>
     ensures { IfOk result
         (λ text. text.items ≡ spec.error_line (cause.HashClash earlier.now later.now)) }
 {

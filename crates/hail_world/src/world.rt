@@ -147,7 +147,7 @@ fn push_entry(entries: &mut Items<Entry>, one: Option<Entry>) -> Result<(), NoMe
 }
 
 // Each honest member's start, by number.
-pub(crate) fn open_all<H: Hasher<Digest = Digest32>, W: Way, R: Threads + Sync, S: Strategy>(
+pub fn open_all<H: Hasher<Digest = Digest32>, W: Way, R: Threads + Sync, S: Strategy>(
     rt: &R,
     alloc: Global,
     script: &Script,
@@ -230,7 +230,7 @@ pub(crate) fn notes_before<H: Hasher<Digest = Digest32>, W: Way>(
 }
 
 // Where each honest member stands.
-pub(crate) fn standings<H: Hasher<Digest = Digest32>, W: Way>(
+pub fn standings<H: Hasher<Digest = Digest32>, W: Way>(
     alloc: Global,
     places: &[Place<Seat<H, W>>],
 ) -> Result<Items<Acked>, NoMemory>
@@ -313,7 +313,7 @@ pub(crate) fn copy_bytes(alloc: Global, bytes: &[u8]) -> Result<Items<u8>, NoMem
 }
 
 // The bytes of the disks, and the nodes.
-pub(crate) fn close_all<H: Hasher<Digest = Digest32>, W: Way>(
+pub fn close_all<H: Hasher<Digest = Digest32>, W: Way>(
     alloc: Global,
     places: Vec<Place<Seat<H, W>>>,
 ) -> Result<

@@ -1,4 +1,4 @@
-use Rattle.hail_world.proofs.Standings.{stand_next, stand_all}
+use Rattle.hail_world.proofs.Stands.{stand_next, stand_all}
 use Rattle.hail_world.proofs.world.standings.Goals as goal
 
 pub loop-index-preserved : goal.loop-index-preserved

@@ -1,4 +1,4 @@
-use Rattle.hail_world.proofs.Standings.{StandSo}
+use Rattle.hail_world.proofs.Stands.{StandSo}
 use Rattle.hail_world.proofs.world.standings.Given as goal
 
 abbrev pub invariant-loop-index : goal.invariant-loop-index
