@@ -21,7 +21,7 @@ use node::Way;
 use std::alloc::Global;
 
 /// The chain up to the block that was handed out at the greatest height.
-pub fn chain_of<H: Hasher<Digest = Digest32>, W: Way>(
+pub(crate) fn chain_of<H: Hasher<Digest = Digest32>, W: Way>(
     alloc: Global,
     places: &[Place<Seat<H, W>>],
     opening: &[Entry],

@@ -23,8 +23,6 @@ mod votes;
 mod world;
 
 pub use blocks::KnownBlocks;
-pub use chain::chain_of;
-pub use entry::{enter, enter_done};
 pub use frame::{Early, Exit, early_of, end_early, finish, run_source};
 pub use line_turn::turn_line;
 pub use place::Place;
@@ -34,4 +32,4 @@ pub use reading::{Reading, read_script};
 pub use report::{Acked, Entry, Ran, Report, Sent};
 pub use seat::{Seat, SeatNode};
 pub use text::{clash_text, error_text, report_text};
-pub use world::{close_all, open_all, run_text, standings};
+pub use world::{open_all, report_of, run_text};

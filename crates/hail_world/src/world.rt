@@ -15,8 +15,9 @@ ghost use Rattle.hail_world.specs.Places.{notes_at as notes_in, rules_of};
 ghost use Rattle.hail_world.specs.declared.place.Place.{Place as PlaceValue};
 ghost use Rattle.hail_world.specs.Reports.{AreNodesOf, HoldNotes, IsCause, IsReport, IsRun, honest};
 ghost use Rattle.hail_world.specs.Reports.{honest_at};
+ghost use Rattle.hail_world.specs.Played.{IsReportOf};
 ghost use Rattle.hail_world.specs.Seats.{Seat as SeatValue};
-ghost use Rattle.hail_world.specs.Runs.{ArePlayed, HandsBack, IsStopped, acked_with, opened};
+ghost use Rattle.hail_world.specs.Runs.{ArePlayed, GoesBy, HandsBack, IsStopped, acked_with, opened};
 ghost use Rattle.hail_world.specs.Runs.{seat_of};
 
 use crate::blocks::KnownBlocks;
@@ -88,6 +89,25 @@ fn run_script<H: Hasher<Digest = Digest32>, W: Way, R: Threads + Sync, S: Strate
         Ok(steps) => steps,
         Err(error) => return Err(error),
     };
+    match report_of::<H, W>(alloc, places, opening, steps) {
+        Ok(report) => Ok(report),
+        Err(NoMemory) => Err(RunError::NoMemory),
+    }
+}
+
+/// The report that the parts of a cluster give behind their last line: the entries of the opening
+/// and of the lines, where each honest member stands, the chain, the disks and the nodes.
+pub fn report_of<H: Hasher<Digest = Digest32>, W: Way>(
+    alloc: Global,
+    places: Vec<Place<Seat<H, W>>>,
+    opening: Items<Entry>,
+    steps: Items<Entry>,
+) -> Result<Report<H, W>, NoMemory>
+    requires { length places.items < 2 ^ 16 }
+    ensures { (r : Rules) (w : RulesWorld) → GoesBy H.digest_of r → WorkBy r 0 places.items
+        → SitAs places.items w.members
+        → IfOk result (λ report. IsReportOf r w opening steps report) }
+{
     let acked = standings::<H, W>(alloc, &places)?;
     let chain = chain_of::<H, W>(alloc, &places, opening.as_slice(), steps.as_slice())?;
     let (disks, nodes) = close_all::<H, W>(alloc, places)?;
@@ -146,7 +166,7 @@ fn push_entry(entries: &mut Items<Entry>, one: Option<Entry>) -> Result<(), NoMe
     }
 }
 
-// Each honest member's start, by number.
+/// The entries of an opening and the places of the members: each honest member starts, by number.
 pub fn open_all<H: Hasher<Digest = Digest32>, W: Way, R: Threads + Sync, S: Strategy>(
     rt: &R,
     alloc: Global,
@@ -230,7 +250,7 @@ pub(crate) fn notes_before<H: Hasher<Digest = Digest32>, W: Way>(
 }
 
 // Where each honest member stands.
-pub fn standings<H: Hasher<Digest = Digest32>, W: Way>(
+fn standings<H: Hasher<Digest = Digest32>, W: Way>(
     alloc: Global,
     places: &[Place<Seat<H, W>>],
 ) -> Result<Items<Acked>, NoMemory>
@@ -313,7 +333,7 @@ pub(crate) fn copy_bytes(alloc: Global, bytes: &[u8]) -> Result<Items<u8>, NoMem
 }
 
 // The bytes of the disks, and the nodes.
-pub fn close_all<H: Hasher<Digest = Digest32>, W: Way>(
+fn close_all<H: Hasher<Digest = Digest32>, W: Way>(
     alloc: Global,
     places: Vec<Place<Seat<H, W>>>,
 ) -> Result<

@@ -15,7 +15,7 @@ use Rattle.hail_script.specs.Lines.{event_in}
 use Rattle.hail_script.specs.Pieces.{fields, lines, number, without_empty_end}
 use Rattle.hail_script.specs.Scenario.{Scenario}
 use Rattle.hail_script.specs.declared.headers.Header.TheVariants.{Cluster}
-use Rattle.hailstorm.specs.Text.{line}
+use Rattle.hail_world.specs.Text.{line}
 use Rattle.hailstorm.specs.Storm.{Drawn, acks, cut_line, cut_lines, cut_round, cut_text, deliver_all, deliver_from, deliver_line, draw, next_state, propose_line, propose_text, restart_line, round, rounds, storm_script, word_of}
 use Rattle.hailstorm.proofs.StormWords.{Lacks, lacks_both, lacks_decimal, lacks_word, number_again, split_there, split_whole, word_again, word_short}
 

@@ -3,7 +3,7 @@ use Rattle.std.proofs.Common.{◌≡◌, ℕ, suc, ◌-◌, List, [], ◌∷◌,
 use Rattle.std.specs.Prelude.{slice_get}
 use Rattle.cw_base.specs.declared.hash.Digest32.{Digest32}
 use Rattle.cw_types.specs.Block.{Block}
-use Rattle.hailstorm.specs.Text.{top_lines, top_text}
+use Rattle.hail_world.specs.Text.{top_lines, top_text}
 
 pub top_last : (hash : List ℕ → Digest32) (links : List Block) (b : Block)
     → Some b ≡ slice_get links (length links - 1) → top_text hash links ≡ top_lines hash b

@@ -14,7 +14,8 @@ use Rattle.hail_world.specs.declared.blocks.KnownBlocks.{KnownBlocks}
 use Rattle.hail_world.specs.declared.place.Place.{Place}
 use Rattle.hail_world.specs.declared.report.Report.{Report}
 use Rattle.hail_world.specs.Known.{Knows}
-use Rattle.hail_world.specs.Lanes.{but_last, lane_at, left, lines_of, played, turns_of}
+use Rattle.hail_world.specs.Played.{lines_of}
+use Rattle.hailstorm.specs.Lanes.{but_last, lane_at, left, played, turns_of}
 use Rattle.hail_world.specs.Places.{SitAs, WorkBy, rules_of}
 use Rattle.hail_world.specs.Pool.{sent_in}
 use Rattle.hail_world.specs.Reports.{AreNodesOf, HoldNotes, honest, honest_at}

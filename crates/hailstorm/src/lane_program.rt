@@ -11,13 +11,13 @@ ghost use Rattle.hailstorm.specs.LanesProgram.{IsRunInLanes, LanesMeans};
 ghost use Rattle.hailstorm.specs.Programs.{EndsEarly, Finishes, HasFault, HasRun, IsSilent};
 ghost use Rattle.hailstorm.specs.Programs.{UsageOf};
 
-use crate::frame::{Early, Exit, early_of, end_early, finish};
-use crate::reading::{Reading, read_script};
-use crate::report::Report;
-use crate::text::{clash_text, report_text};
-use crate::world::World;
+use crate::text::report_text;
+use crate::world::{Report, World};
 use cw_base::{Digest32, Gate, Hasher, Items, NoMemory, Sink, Source, Strategy};
 use hail_script::RunError;
+use hail_world::{
+    Early, Exit, Reading, clash_text, early_of, end_early, finish, read_script,
+};
 use std::alloc::Global;
 use std::sync::Wait;
 use std::thread::Threads;

@@ -6,9 +6,8 @@ ghost use Rattle.hailstorm.specs.Lanes.{IsLanesCause, IsLanesReport};
 ghost use Rattle.hailstorm.specs.Turns.{IsTurnOf};
 
 use crate::reply::Reply;
-use crate::report::Report;
 use crate::turning::Turning;
-use crate::world::World;
+use crate::world::{Report, World};
 use cw_base::{Digest32, Gate, Hasher, Items, NoMemory, Strategy};
 use cw_rules::clash_laws;
 use cw_rules_coded::coded_tells;

@@ -3,20 +3,19 @@
 ghost use Rattle.std.specs.Prelude.{◌≡◌, ◌≢◌, List, ℕ, None, Some, IfOk, map, string_bytes};
 ghost use Rattle.std.specs.Prelude.{Option, option_map};
 ghost use Rattle.hailstorm.specs.Headline as headline;
-ghost use Rattle.hailstorm.specs.Headline.{Means, MeansUsage, Answers, IsRunOf};
+ghost use Rattle.hailstorm.specs.Headline.{Means, MeansUsage, Answers, IsRunOf, text_of};
+ghost use Rattle.hail_world.specs.Headline.{EndsWith};
 ghost use Rattle.hailstorm.specs.Programs.{HasFault, HasRun, IsSilent, RunsOn};
 ghost use Rattle.hailstorm.specs.Reports.{shown_report};
 ghost use Rattle.hailstorm.specs.Storm as spec;
 
-use crate::frame::{Exit, early_of, end_early, finish, run_source};
 use crate::laws::storm_laws;
-use crate::report::{Ran, Report};
-use crate::seat::Seat;
 use crate::storm::{storm_script, summary_text};
-use crate::text::report_text;
-use crate::world::World;
+use crate::world::{Report, World};
 use cw_base::{Digest32, Hasher, NoMemory, Sink, Source, Strategy};
 use hail_script::number_of;
+use hail_world::{Exit, early_of, end_early, finish, run_input};
+use node::Chunked;
 use std::alloc::Global;
 use std::thread::Threads;
 
@@ -80,7 +79,7 @@ pub fn run_program<
 {
     match asked_of(words) {
         None => finish(output, USAGE, Exit::Usage),
-        Some(None) => run_input(rt, alloc, input, output, strategy),
+        Some(None) => run_input::<H, Chunked, R, I, O, S>(rt, alloc, input, output, strategy),
         Some(Some(number)) => run_storm(rt, alloc, number, output, strategy),
     }
 }
@@ -127,38 +126,23 @@ fn run_storm<H: Hasher<Digest = Digest32>, R: Threads + Sync, O: Sink, S: Strate
         return Exit::NoMemory;
     };
     match World::run::<H, R, S>(rt, alloc, &script, strategy) {
-        Ok(report) => end_with::<H, O>(alloc, Some(number), output, report),
+        Ok(report) => end_with::<H, O>(alloc, number, output, report),
         Err(error) => end_early(alloc, output, early_of(error)),
     }
 }
 
-// Writes the text of a report, or its summary, and ends so.
+// Writes the summary of a report, and ends so.
 fn end_with<H: Hasher<Digest = Digest32>, O: Sink>(
     alloc: Global,
-    storm: Option<u64>,
+    number: u64,
     output: &mut O,
     report: Report<H>,
 ) -> Exit<Report<H>>
-    ensures { headline.EndsWith H.digest_of storm (O.held output.old) (O.held output.new)
-        (O.faults output.old) (O.faults output.new) report result }
+    ensures { EndsWith (text_of H.digest_of (Some number)) (O.held output.old)
+        (O.held output.new) (O.faults output.old) (O.faults output.new) report result }
 {
-    match text_of::<H>(alloc, storm, &report) {
+    match summary_text::<H>(alloc, number, &report) {
         Ok(text) => finish(output, &text, Exit::Done(report)),
         Err(_) => Exit::NoMemory,
-    }
-}
-
-// The text of a report, or its summary.
-fn text_of<H: Hasher<Digest = Digest32>>(
-    alloc: Global,
-    storm: Option<u64>,
-    report: &Report<H>,
-) -> Result<Vec<u8>, NoMemory>
-    ensures { IfOk result
-        (λ text. text.items ≡ headline.text_of H.digest_of storm (shown_report report.now)) }
-{
-    match storm {
-        None => report_text::<H>(alloc, report),
-        Some(number) => summary_text::<H>(alloc, number, report),
     }
 }

@@ -6,11 +6,12 @@ ghost use Rattle.cw_base.specs.Bytes.{be32};
 ghost use Rattle.hex.specs.Hex.{encode_lower};
 ghost use Rattle.hailstorm.specs.Reports.{shown_report};
 ghost use Rattle.hailstorm.specs.Storm as spec;
-ghost use Rattle.hailstorm.specs.Text as text;
+ghost use Rattle.hail_world.specs.Text as text;
 
-use crate::report::{Entry, Report};
+use crate::world::Report;
 use cw_base::{Digest32, Hasher, NoMemory};
 use cw_types::ChainBlock;
+use hail_world::Entry;
 use std::alloc::Global;
 
 // A text so far, and the state behind it.

@@ -1,8 +1,8 @@
-use Rattle.hailstorm.specs.declared.frame.Early.TheVariants as early
-use Rattle.hailstorm.proofs.Framing.{early_fault, early_silent}
+use Rattle.hail_world.specs.declared.frame.Early.TheVariants as early
+use Rattle.hail_world.proofs.Framing.{early_fault, early_silent}
 use Rattle.hailstorm.proofs.LanesMeaning.{fault_means, long_means, short_means, whole_fault, whole_read, whole_silent}
 use Rattle.hailstorm.specs.LanesProgram.{IsRunInLanes}
-use Rattle.hailstorm.proofs.Meaning.{too_long_early}
+use Rattle.hail_world.proofs.Meaning.{too_long_early}
 use Rattle.hailstorm.proofs.Answering.{early_run, lanes_run, no_usage}
 use Rattle.hailstorm.proofs.lane_program.lanes_program.Goals as goal
 

@@ -1,7 +1,7 @@
 use Rattle.std.proofs.Common.{◌≡◌, ◌≤◌, arith, refl, subst, true}
 use Rattle.hail_script.specs.Grammar.{IsRunnable}
-use Rattle.hailstorm.specs.Places.{rules_of}
-use Rattle.hailstorm.proofs.Known.{few_members}
+use Rattle.hail_world.specs.Places.{rules_of}
+use Rattle.hail_world.proofs.Known.{few_members}
 use Rattle.hailstorm.proofs.Laned.{lanes_refused, opening_clashed, tells_apart}
 use Rattle.hailstorm.proofs.lanes.open_text.Goals as goal
 

@@ -1,5 +1,5 @@
 use Rattle.std.proofs.Common.{◌≡◌, ◌≤◌, ◌*◌, ◌^◌, take}
-use Rattle.hailstorm.specs.Text.{handed_count}
+use Rattle.hail_world.specs.Text.{handed_count}
 use Rattle.hailstorm.proofs.storm.handed_count.Given as goal
 
 -- the sum so far

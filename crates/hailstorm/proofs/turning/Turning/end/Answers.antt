@@ -4,10 +4,10 @@ use Rattle.std.specs.Prelude.{flat_map}
 use Rattle.hail_script.specs.Lanes.{laned_of, lanes}
 use Rattle.hail_script.specs.Scenario.{Scenario}
 use Rattle.hailstorm.specs.Lanes.{left}
-use Rattle.hailstorm.specs.Places.{rules_of}
+use Rattle.hail_world.specs.Places.{rules_of}
 use Rattle.hailstorm.specs.Turns.{Turning}
 use Rattle.hailstorm.proofs.Between.{ends_reported, over_cause, over_of}
-use Rattle.hailstorm.proofs.Known.{few_members}
+use Rattle.hail_world.proofs.Known.{few_members}
 use Rattle.hailstorm.proofs.Laned.{tells_apart}
 use Rattle.hailstorm.proofs.turning.Turning.end.Goals as goal
 
