@@ -6,16 +6,17 @@ use Rattle.hail_script.specs.declared.error.RunError.{RunError}
 use Rattle.hail_script.specs.declared.error.RunError.TheVariants as error
 use Rattle.hail_script.specs.Grammar.{script_of}
 use Rattle.hail_script.specs.Scenario.{Scenario}
-use Rattle.hailstorm.specs.declared.frame.Early.{Early}
-use Rattle.hailstorm.specs.declared.frame.Early.TheVariants as early
-use Rattle.hailstorm.specs.declared.frame.Exit.{Exit}
-use Rattle.hailstorm.specs.declared.frame.Exit.TheVariants.{Clash, Done, NoMemory, ReadFault, Refused, TooLong, Usage, WriteFault}
+use Rattle.hail_report.specs.declared.exit.Early.{Early}
+use Rattle.hail_report.specs.declared.exit.Early.TheVariants as early
+use Rattle.hail_report.specs.declared.exit.Exit.{Exit}
+use Rattle.hail_report.specs.declared.exit.Exit.TheVariants.{Clash, Done, NoMemory, ReadFault, Refused, TooLong, Usage, WriteFault}
 use Rattle.hailstorm.specs.declared.report.Report.{Report}
 use Rattle.hailstorm.specs.Headline.{Answers, IsRunOf, Means}
 use Rattle.hailstorm.specs.LanesProgram.{EndsLanes, IsRunInLanes, LanesAnswers, lanes_text}
 use Rattle.hailstorm.specs.LanesProgram.LanesAnswers.{Ran, Stopped}
-use Rattle.hailstorm.specs.Programs.{AnswersBy, EndsEarly, Finishes, HasRun, RunsOn}
-use Rattle.hailstorm.specs.Storm.{storm_script}
+use Rattle.hail_report.specs.Exits.{EndsEarly, Finishes, HasRun, RunsOn}
+use Rattle.hailstorm.specs.Programs.{AnswersBy}
+use Rattle.hail_report.specs.Storm.{storm_script}
 
 module _ {X : Type 0} (IsDone : List ℕ → X → List ℕ → Type 0) (held written : Option (List ℕ)) where
   -- the usage is none of the answers

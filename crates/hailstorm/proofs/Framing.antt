@@ -2,13 +2,14 @@
 use Rattle.std.proofs.Common.{◌≡◌, ℕ, ◌≤◌, List, length, Option, refl, inl, inr}
 use Rattle.std.specs.Io.KnownBytes.{Appends, IsAtEnd}
 use Rattle.cw_base.specs.declared.hash.Digest32.{Digest32}
-use Rattle.hailstorm.specs.declared.frame.Early.{Early}
-use Rattle.hailstorm.specs.declared.frame.Early.TheVariants as early
-use Rattle.hailstorm.specs.declared.frame.Exit.{Exit}
-use Rattle.hailstorm.specs.declared.frame.Exit.TheVariants.{Done, Usage}
-use Rattle.hailstorm.specs.Programs.{AnswersBy, EndsEarly, Finishes, HasFault, HasReadFault, IsDue, HasNoReport, IsSilent, UsageOf}
+use Rattle.hail_report.specs.declared.exit.Early.{Early}
+use Rattle.hail_report.specs.declared.exit.Early.TheVariants as early
+use Rattle.hail_report.specs.declared.exit.Exit.{Exit}
+use Rattle.hail_report.specs.declared.exit.Exit.TheVariants.{Done, Usage}
+use Rattle.hail_report.specs.Exits.{EndsEarly, Finishes, HasFault, HasReadFault, IsSilent, UsageOf}
+use Rattle.hailstorm.specs.Programs.{AnswersBy, IsDue, HasNoReport}
 use Rattle.hailstorm.specs.Programs.IsDue.{OfClash, OfExcess, OfRefusal, OfRun}
-use Rattle.hailstorm.specs.Reading.{script_limit}
+use Rattle.hail_report.specs.Reading.{script_limit}
 
 module _ {X : Type 0} (hash : List ℕ → Digest32) (IsDone : List ℕ → X → List ℕ → Type 0)
     (text : List ℕ) (rest held written : Option (List ℕ)) (w later : ℕ) where

@@ -3,7 +3,6 @@ pub mod Stops
 pub mod Taking
 pub mod Playing
 pub mod Chunking
-pub mod Pieces
 pub mod Reporting
 pub mod Refusals
 pub mod Outcomes
@@ -20,11 +19,7 @@ pub mod Colliding
 pub mod Clashes
 pub mod Searching
 pub mod Links
-pub mod Rounds
-pub mod Tops
 pub mod Seating
-pub mod Numbered
-pub mod Voted
 pub mod Merging
 pub mod Turned
 pub mod Laned
@@ -33,6 +28,4 @@ pub mod Prefixed
 pub mod LanesMeaning
 pub mod Shared
 pub mod Between
-pub mod StormWords
-pub mod StormLines
 pub mod Answering

@@ -12,19 +12,20 @@ use Rattle.hail_script.specs.declared.error.RunError.{RunError}
 use Rattle.hail_script.specs.declared.error.RunError.TheVariants as error
 use Rattle.hail_script.specs.Grammar.{script_of}
 use Rattle.hail_script.specs.Scenario.{Scenario}
-use Rattle.hailstorm.specs.declared.frame.Early.{Early}
-use Rattle.hailstorm.specs.declared.frame.Early.TheVariants as early
-use Rattle.hailstorm.specs.declared.frame.Exit.{Exit}
-use Rattle.hailstorm.specs.declared.frame.Exit.TheVariants.{Clash, Done, NoMemory, ReadFault, Refused, TooLong, Usage, WriteFault}
+use Rattle.hail_report.specs.declared.exit.Early.{Early}
+use Rattle.hail_report.specs.declared.exit.Early.TheVariants as early
+use Rattle.hail_report.specs.declared.exit.Exit.{Exit}
+use Rattle.hail_report.specs.declared.exit.Exit.TheVariants.{Clash, Done, NoMemory, ReadFault, Refused, TooLong, Usage, WriteFault}
 use Rattle.hailstorm.specs.declared.report.Ran.{Ran}
 use Rattle.hailstorm.specs.declared.report.Report.{Report}
 use Rattle.hailstorm.specs.Headline.{Answers, EndsWith, Means, due_for, due_input, due_of, due_text, text_of}
 use Rattle.hailstorm.specs.Places.{rules_of}
-use Rattle.hailstorm.specs.Programs.{EndsEarly, HasFault, HasNoReport, WasRun, early_of}
-use Rattle.hailstorm.specs.Reading.{script_limit}
+use Rattle.hail_report.specs.Exits.{EndsEarly, HasFault, early_of}
+use Rattle.hailstorm.specs.Programs.{HasNoReport, WasRun}
+use Rattle.hail_report.specs.Reading.{script_limit}
 use Rattle.hailstorm.specs.Reports.{Clashing, IsCause, IsReport, IsRun, shown_report}
-use Rattle.hailstorm.specs.Text.{error_line, too_long_line}
-use Rattle.hailstorm.specs.Writing.{WritesFront}
+use Rattle.hail_report.specs.Text.{error_line, too_long_line}
+use Rattle.hail_report.specs.Writing.{WritesFront}
 
 -- the line of a clash is the text that is due
 due_clash : (hash : List ℕ → Digest32) (storm : Option ℕ) (script earlier later : List ℕ)

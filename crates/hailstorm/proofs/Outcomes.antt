@@ -11,10 +11,10 @@ use Rattle.cw_rules.specs.World as rule
 use Rattle.cw_rules.specs.World.{Line, World, happens, line_member, member_at, run, turned, with_done}
 use Rattle.hailstorm.specs.declared.place.Place.{Place}
 use Rattle.hailstorm.specs.Places.{SitAs, IsTurn}
-use Rattle.hailstorm.specs.Pool.{sent_in}
+use Rattle.hail_report.specs.Pool.{sent_in}
 use Rattle.hailstorm.specs.Runs.{AreMidway, ArePlayed}
 use Rattle.hailstorm.specs.Seats.{Seat}
-use Rattle.hailstorm.proofs.Numbered.{sent_more}
+use Rattle.hail_report.proofs.Numbered.{sent_more}
 use Rattle.cw_rules.proofs.Changes.{flags_kept, set_flags}
 use Rattle.cw_rules.proofs.Worlds.{member_there}
 

@@ -15,11 +15,11 @@ use Rattle.hailstorm.specs.declared.place.Place.{Place}
 use Rattle.hailstorm.specs.Known.{Knows}
 use Rattle.hailstorm.specs.Lanes.{lines_of}
 use Rattle.hailstorm.specs.Places.{SitAs, IsTurn}
-use Rattle.hailstorm.specs.Pool.{sent_in}
+use Rattle.hail_report.specs.Pool.{sent_in}
 use Rattle.hailstorm.specs.Runs.{IsStopped}
 use Rattle.hailstorm.specs.Seats.{Seat}
 use Rattle.hailstorm.specs.Turns.{Begin, HavePlayed, entries_of}
-use Rattle.hailstorm.proofs.Numbered.{sent_more}
+use Rattle.hail_report.proofs.Numbered.{sent_more}
 use Rattle.hailstorm.proofs.Outcomes.{run_more}
 use Rattle.cw_rules.proofs.Changes.{flags_kept}
 

@@ -10,15 +10,15 @@ use Rattle.hail_script.specs.declared.error.RunError.TheVariants as error
 use Rattle.hail_script.specs.Grammar.{script_of}
 use Rattle.hail_script.specs.Pieces.{number}
 use Rattle.hail_script.specs.Scenario.{Scenario}
-use Rattle.hailstorm.specs.declared.frame.Exit.{Exit}
-use Rattle.hailstorm.specs.declared.frame.Exit.TheVariants.{Clash, Done, NoMemory, ReadFault, Refused, TooLong, Usage, WriteFault}
+use Rattle.hail_report.specs.declared.exit.Exit.{Exit}
+use Rattle.hail_report.specs.declared.exit.Exit.TheVariants.{Clash, Done, NoMemory, ReadFault, Refused, TooLong, Usage, WriteFault}
 use Rattle.hailstorm.specs.declared.report.Report.{Report}
 use Rattle.hailstorm.specs.Places.{rules_of}
-use Rattle.hailstorm.specs.Programs.{Finishes, IsShort, UsageOf}
-use Rattle.hailstorm.specs.Reading.{HasRead, script_limit}
+use Rattle.hail_report.specs.Exits.{Finishes, IsShort, UsageOf}
+use Rattle.hail_report.specs.Reading.{HasRead, script_limit}
 use Rattle.hailstorm.specs.Reports.{Clashing, IsReport, shown_report}
-use Rattle.hailstorm.specs.Text.{error_line, report_text, summary_text, too_long_line, usage_line}
-use Rattle.hailstorm.specs.Writing.{WritesFront}
+use Rattle.hail_report.specs.Text.{error_line, report_text, summary_text, too_long_line, usage_line}
+use Rattle.hail_report.specs.Writing.{WritesFront}
 
 -- `storm` and a number
 abbrev pub asked_storm : List ℕ → List ℕ → Option (Option ℕ)

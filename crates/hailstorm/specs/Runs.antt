@@ -24,7 +24,7 @@ use Rattle.hailstorm.specs.declared.place.Place.{Place}
 use Rattle.hailstorm.specs.declared.place.Place.TheVariants as place
 use Rattle.node_disk.specs.Memory.{memory_state}
 use Rattle.hailstorm.specs.Places.{SitAs, rules_of}
-use Rattle.hailstorm.specs.Pool.{sent_in}
+use Rattle.hail_report.specs.Pool.{sent_in}
 use Rattle.hailstorm.specs.Seats.{Seat}
 
 -- the world in which a script begins

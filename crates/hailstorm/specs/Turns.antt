@@ -16,7 +16,7 @@ use Rattle.hailstorm.specs.declared.report.Report.{Report}
 use Rattle.hailstorm.specs.Known.{Knows}
 use Rattle.hailstorm.specs.Lanes.{but_last, lane_at, left, lines_of, played, turns_of}
 use Rattle.hailstorm.specs.Places.{SitAs, WorkBy, rules_of}
-use Rattle.hailstorm.specs.Pool.{sent_in}
+use Rattle.hail_report.specs.Pool.{sent_in}
 use Rattle.hailstorm.specs.Reports.{AreNodesOf, HoldNotes, honest, honest_at}
 use Rattle.hailstorm.specs.Runs.{chain_from, opened}
 use Rattle.hailstorm.specs.Seats.{Seat}

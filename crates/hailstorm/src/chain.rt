@@ -12,7 +12,7 @@ ghost use Rattle.hailstorm.specs.Places.{SitAs, notes_at as notes_in};
 ghost use Rattle.hailstorm.specs.Runs.{GoesBy, chain_from, first_named, higher, under};
 
 use crate::place::Place;
-use crate::report::Entry;
+use hail_report::Entry;
 use crate::seat::Seat;
 use crate::turn::notes_at;
 use cw_base::{Digest32, Hasher, Items, NoMemory};

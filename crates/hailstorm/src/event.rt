@@ -7,9 +7,9 @@ ghost use Rattle.hail_script.specs.Admission.{asks_oversize};
 ghost use Rattle.hail_script.specs.Grammar.{is_oversize};
 ghost use Rattle.hail_script.specs.Events.{ask_of};
 ghost use Rattle.hailstorm.specs.Places.{marked, over, table};
-ghost use Rattle.hailstorm.specs.Pool.{sent_in};
+ghost use Rattle.hail_report.specs.Pool.{sent_in};
 
-use crate::pool::Pool;
+use hail_report::Pool;
 use cw_base::NoMemory;
 use cw_types::{Event, Message, Payload, To, Verifier, Vote};
 use hail_script::Ask;

@@ -10,10 +10,10 @@ ghost use Rattle.hail_script.specs.Events.{fault_of};
 ghost use Rattle.hail_script.specs.Grammar.{is_oversize};
 ghost use Rattle.hailstorm.specs.Offers as offers;
 ghost use Rattle.hailstorm.specs.Places.{over, rules_of};
-ghost use Rattle.hailstorm.specs.Pool.{sent_in};
+ghost use Rattle.hail_report.specs.Pool.{sent_in};
 
 use crate::event::proposing;
-use crate::pool::Pool;
+use hail_report::Pool;
 use cw_base::{Digest32, Hasher, Items, NoMemory, Reader, Strategy};
 use cw_coding::Chunk;
 use cw_types::committees::leader;

@@ -10,14 +10,14 @@ ghost use Rattle.hail_script.specs.Events.{fault_of, line_of};
 ghost use Rattle.hail_script.specs.Grammar.{is_later, names_oversize};
 ghost use Rattle.hailstorm.specs.Honest.{IsHonest, IsPlaced};
 ghost use Rattle.hailstorm.specs.Places.{SitAs, WorkBy, IsTurn, over, rules_of};
-ghost use Rattle.hailstorm.specs.Pool.{sent_in};
+ghost use Rattle.hail_report.specs.Pool.{sent_in};
 
-use crate::entry::{enter, enter_done};
+use hail_report::{enter, enter_done};
 use crate::event::Table;
 use crate::fault;
 use crate::place::Place;
-use crate::pool::Pool;
-use crate::report::Entry;
+use hail_report::Pool;
+use hail_report::Entry;
 use crate::seat::Seat;
 use crate::turn::{found_at, take_turn};
 use cw_base::{Digest32, Hasher, Items, NoMemory, Strategy};

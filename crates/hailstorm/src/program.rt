@@ -4,18 +4,17 @@ ghost use Rattle.std.specs.Prelude.{◌≡◌, ◌≢◌, List, ℕ, None, Some,
 ghost use Rattle.std.specs.Prelude.{Option, option_map};
 ghost use Rattle.hailstorm.specs.Headline as headline;
 ghost use Rattle.hailstorm.specs.Headline.{Means, MeansUsage, Answers, IsRunOf};
-ghost use Rattle.hailstorm.specs.Programs.{HasFault, HasRun, IsSilent, RunsOn};
+ghost use Rattle.hail_report.specs.Exits.{HasFault, HasRun, IsSilent, RunsOn};
 ghost use Rattle.hailstorm.specs.Reports.{shown_report};
-ghost use Rattle.hailstorm.specs.Storm as spec;
+ghost use Rattle.hail_report.specs.Storm as spec;
 
-use crate::frame::{Exit, early_of, end_early, finish, run_source};
-use crate::laws::storm_laws;
+use crate::frame::run_source;
 use crate::report::{Ran, Report};
 use crate::seat::Seat;
-use crate::storm::{storm_script, summary_text};
-use crate::text::report_text;
+use crate::text::{report_text, summary_text};
 use crate::world::World;
 use cw_base::{Digest32, Hasher, NoMemory, Sink, Source, Strategy};
+use hail_report::{Exit, early_of, end_early, finish, storm_laws, storm_script};
 use hail_script::number_of;
 use std::alloc::Global;
 use std::thread::Threads;

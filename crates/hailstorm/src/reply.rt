@@ -3,7 +3,7 @@
 ghost use Rattle.std.specs.Prelude.{◌≡◌, ◌⊎◌, true, IfOk};
 ghost use Rattle.hail_script.specs.declared.error.RunError.TheVariants as cause;
 
-use crate::report::{Entry, Sent};
+use hail_report::{Entry, Sent};
 use crate::world::copy_bytes;
 use cw_base::{Items, NoMemory};
 use hail_script::RunError;

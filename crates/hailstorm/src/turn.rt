@@ -15,7 +15,7 @@ ghost use Rattle.hailstorm.specs.Places.{DiskHolds, SitsAs, WorksBy, IsPutOut, M
 ghost use Rattle.hailstorm.specs.Places.{over, rules_of, starts_again, table, turned_by};
 ghost use Rattle.hailstorm.specs.Places as places;
 ghost use Rattle.hailstorm.specs.declared.place.Place.TheVariants.{Live};
-ghost use Rattle.hailstorm.specs.Pool.{sent_in};
+ghost use Rattle.hail_report.specs.Pool.{sent_in};
 ghost use Rattle.hailstorm.specs.Seats.{HasStepped, Works, out_of, rules_by};
 
 use crate::event::{Table, event_for};

@@ -12,7 +12,7 @@ use Rattle.hail_script.specs.Grammar.{is_faulty_in, marks}
 use Rattle.hail_script.specs.Scenario.{Scenario}
 use Rattle.hailstorm.specs.declared.report.Report.{Report}
 use Rattle.hailstorm.specs.Places.{marked, rules_of, table}
-use Rattle.hailstorm.specs.Pool.{sent_in}
+use Rattle.hail_report.specs.Pool.{sent_in}
 use Rattle.hailstorm.specs.Reports.{IsRun}
 use Rattle.cw_rules.proofs.Changes.{flags_kept}
 use Rattle.cw_light.proofs.Moments.{ends_run}

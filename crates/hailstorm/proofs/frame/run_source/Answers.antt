@@ -1,5 +1,5 @@
 use Rattle.std.proofs.Common.{sym, subst}
-use Rattle.hailstorm.specs.declared.frame.Early.{Early}
+use Rattle.hail_report.specs.declared.exit.Early.{Early}
 use Rattle.hailstorm.specs.Programs.{HasNoReport}
 use Rattle.hailstorm.proofs.Meaning.{cause_early, run_read, too_long_early}
 use Rattle.hailstorm.proofs.frame.run_source.Goals as goal

@@ -1,7 +1,7 @@
 use Rattle.std.proofs.Common.{◌≡◌, ◌++◌, sym, ap, ◌∙◌}
 use Rattle.cw_rules.specs.Report.{Entry}
 use Rattle.hailstorm.specs.Places.{rules_of}
-use Rattle.hailstorm.specs.Pool.{sent_in}
+use Rattle.hail_report.specs.Pool.{sent_in}
 use Rattle.hailstorm.proofs.Playing.{member_turn}
 use Rattle.hailstorm.proofs.play.play_member.Goals as goal
 

@@ -1,5 +1,5 @@
 use Rattle.hailstorm.specs.Places.{rules_of}
-use Rattle.hailstorm.specs.Pool.{sent_in}
+use Rattle.hail_report.specs.Pool.{sent_in}
 use Rattle.hailstorm.proofs.Playing.{taken_sound, put_back, placed}
 use Rattle.hailstorm.proofs.play.turn_place.Goals as goal
 

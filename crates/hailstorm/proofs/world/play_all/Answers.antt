@@ -5,7 +5,7 @@ use Rattle.cw_rules.specs.World.{World, happens}
 use Rattle.hail_script.specs.Events.{line_of}
 use Rattle.hailstorm.specs.Known.{Knows}
 use Rattle.hailstorm.specs.Places.{IsTurn, rules_of}
-use Rattle.hailstorm.specs.Pool.{sent_in}
+use Rattle.hail_report.specs.Pool.{sent_in}
 use Rattle.hailstorm.specs.Runs.{opened}
 use Rattle.hailstorm.proofs.Outcomes.{midway_start, midway_next, midway_clash, midway_end, reached_next}
 use Rattle.hailstorm.proofs.Between.{none_when}
