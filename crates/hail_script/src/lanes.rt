@@ -76,7 +76,7 @@ impl LaneScript {
     }
 
     /// A law: its blocks travel in chunks.
-    pub fn is_chunked(&self)
+    pub fn travels_in_chunks(&self)
         ensures { self.now.script.travel ≡ Chunked }
     {}
 
