@@ -84,8 +84,8 @@ module _ (s : Scenario) (some : 4 ≤ s.committees.total) (few : s.committees.to
       record { sized = sized; known = unknown_is None e; few = b; short = o; later = l }
 
 -- what stands behind a header of epochs
-pub several_is : (travel : Travel) (members backlog span count : ℕ) (more : List (List ℕ)) (lists : List (List ℕ))
-    (result : Result (List Line) RunError)
+pub several_is : (travel : Travel) (members backlog span count : ℕ) (more : List (List ℕ))
+    (lists : List (List ℕ)) (result : Result (List Line) RunError)
     → lists_in count more ≡ Ok lists → grammar.events_from (count + 2) (drop count more) ≡ result
     → grammar.behind_header travel (Some (Several members backlog span count)) more
     ≡ grammar.scenario_of travel (record {

@@ -58,7 +58,8 @@ whole_by (Some (Cluster members backlog)) more =
     one_by Uncut members backlog (grammar.events_from 2 more)
 whole_by (Some (Several members backlog span count)) more = tt
 
-spelled_by : (travel : Travel) (ls : List (List ℕ)) → SpelledBy travel (grammar.spelled_in travel ls)
+spelled_by : (travel : Travel) (ls : List (List ℕ))
+    → SpelledBy travel (grammar.spelled_in travel ls)
 spelled_by travel [] = tt
 spelled_by Chunked (first ∷ more) = chunks_by (header_in (fields first)) more
 spelled_by Uncut (first ∷ more) = whole_by (header_in (fields first)) more
@@ -69,7 +70,8 @@ run_by travel (Ok s) t h by =
     subst (λ (x : Scenario). TravelsBy travel x) (admitted_parts s t h).0 by
 run_by travel (Err e) t h by = absurd (let no : Err e ≡ Ok t = h in cc)
 
-pub travels : (travel : Travel) (text : List ℕ) (s : Scenario) → grammar.script_by travel text ≡ Ok s
+pub travels : (travel : Travel) (text : List ℕ) (s : Scenario)
+    → grammar.script_by travel text ≡ Ok s
     → s.travel ≡ travel
 travels travel text s h =
     (run_by travel (grammar.spelled travel text) s h (spelled_by travel (pieces.lines text))).0

@@ -3,6 +3,7 @@
 
 ghost use Rattle.std.specs.Prelude.{◌≡◌, ◌≤◌, ◌<◌, ◌+◌, ◌-◌, ◌⊎◌, ◌^◌, IfOk, IfErr, drop, length};
 ghost use Rattle.std.specs.Prelude.{map};
+ghost use Rattle.cw_rules.specs.declared.travel.Travel.TheVariants.{Chunked};
 ghost use Rattle.hail_script.specs.Lanes as lanes;
 ghost use Rattle.hail_script.specs.declared.error.RunError.TheVariants as error;
 
@@ -30,11 +31,15 @@ pub struct LaneScript {
 }
 
 impl Model for LaneScript {
+    ghost use Rattle.std.specs.Prelude.{◌≡◌};
+    ghost use Rattle.cw_rules.specs.declared.travel.Travel.TheVariants.{Chunked};
     ghost use Rattle.hail_script.specs.Lanes.{Laned};
 
     ghost Value = { Laned };
 
     ghost view = { λ s. record { script = s.script; numbers = s.numbers; sizes = s.sizes } };
+
+    ghost invariant = { λ s. s.script.travel ≡ Chunked };
 }
 
 impl LaneScript {
@@ -69,6 +74,11 @@ impl LaneScript {
     {
         &self.script
     }
+
+    /// A law: its blocks travel in chunks.
+    pub fn travels_in_chunks(&self)
+        ensures { self.now.script.travel ≡ Chunked }
+    {}
 
     /// The number of each event line in the text.
     pub fn numbers(&self) -> &[u64]

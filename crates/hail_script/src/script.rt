@@ -117,6 +117,7 @@ impl Script {
         ensures ok { IfOk result (λ read. grammar.script_by travel script.now ≡ Ok read) }
         ensures err { IfErr result (λ e. (e ≡ error.NoMemory)
             ⊎ (grammar.script_by travel script.now ≡ Err e)) }
+        ensures way { IfOk result (λ read. read.travel ≡ travel) }
     {
         let pieces = pieces_of(alloc, script, b'\n')?;
         match Script::read(alloc, travel, without_empty_end(&pieces)) {
@@ -134,6 +135,7 @@ impl Script {
         ensures err { IfErr result (λ e. (e ≡ error.NoMemory)
             ⊎ (grammar.if_admitted
             (grammar.spelled_in travel (map (λ line. line.now) lines.now)) ≡ Err e)) }
+        ensures way { IfOk result (λ read. read.travel ≡ travel) }
     {
         let Some((first, more)) = lines.split_first() else {
             return Err(RunError::Syntax(1));
@@ -168,6 +170,7 @@ impl Script {
             ⊎ (grammar.if_admitted
             (grammar.behind_header travel (Some (header.Cluster members backlog))
             (map (λ line. line.now) lines.now)) ≡ Err e)) }
+        ensures way { IfOk result (λ read. read.travel ≡ travel) }
     {
         let events = match events_of(alloc, 2, lines) {
             Ok(events) => events,
@@ -202,6 +205,7 @@ impl Script {
             ⊎ (grammar.if_admitted
             (grammar.behind_header travel (Some (header.Several members backlog span count))
             (map (λ line. line.now) lines.now)) ≡ Err e)) }
+        ensures way { IfOk result (λ read. read.travel ≡ travel) }
     {
         let lists = match lists_of(alloc, count as usize, lines) {
             Ok(lists) => lists,
@@ -246,6 +250,7 @@ impl Script {
               backlog = backlog;
               lines = map line_of events;
             }) ≡ Err e)) }
+        ensures way { IfOk result (λ read. read.travel ≡ travel) }
     {
         if !are_sized(members, lists.as_slice()) {
             return Err(RunError::BadCommittee);
@@ -288,6 +293,7 @@ impl Script {
               backlog = backlog;
               lines = map line_of events;
             }) ≡ Err e)) }
+        ensures way { IfOk result (λ read. read.travel ≡ travel) }
     {
         let lines = events.as_slice();
         if let Some(line) = first_unknown(committees.total(), first, lines) {

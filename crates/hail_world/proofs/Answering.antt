@@ -6,14 +6,15 @@ use Rattle.cw_rules.specs.Report.{Report as Reported}
 use Rattle.cw_rules.specs.declared.travel.Travel.{Travel}
 use Rattle.hail_script.specs.Grammar.{script_by}
 use Rattle.hail_script.specs.Scenario.{Scenario}
-use Rattle.hail_world.specs.declared.frame.Early.{Early}
-use Rattle.hail_world.specs.declared.frame.Early.TheVariants as early
-use Rattle.hail_world.specs.declared.frame.Exit.{Exit}
-use Rattle.hail_world.specs.declared.frame.Exit.TheVariants.{Clash, Done, NoMemory, ReadFault, Refused, TooLong, Usage, WriteFault}
+use Rattle.hail_report.specs.declared.exit.Early.{Early}
+use Rattle.hail_report.specs.declared.exit.Early.TheVariants as early
+use Rattle.hail_report.specs.declared.exit.Exit.{Exit}
+use Rattle.hail_report.specs.declared.exit.Exit.TheVariants.{Clash, Done, NoMemory, ReadFault, Refused, TooLong, Usage, WriteFault}
 use Rattle.hail_world.specs.declared.report.Report.{Report}
 use Rattle.hail_world.specs.Headline.{Answers, IsRunOf, Means}
-use Rattle.hail_world.specs.Programs.{AnswersBy, EndsEarly, HasRun, RunsOn}
-use Rattle.hail_world.specs.Text.{report_text}
+use Rattle.hail_report.specs.Exits.{EndsEarly, HasRun, RunsOn}
+use Rattle.hail_world.specs.Programs.{AnswersBy}
+use Rattle.hail_report.specs.Text.{report_text}
 
 module _ {X : Type 0} (IsDone : List ℕ → X → List ℕ → Type 0) (held written : Option (List ℕ)) where
   -- the usage is none of the answers

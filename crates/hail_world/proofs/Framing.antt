@@ -3,13 +3,14 @@ use Rattle.std.proofs.Common.{◌≡◌, ℕ, ◌≤◌, List, length, Option, r
 use Rattle.std.specs.Io.KnownBytes.{Appends, IsAtEnd}
 use Rattle.cw_base.specs.declared.hash.Digest32.{Digest32}
 use Rattle.cw_rules.specs.declared.travel.Travel.{Travel}
-use Rattle.hail_world.specs.declared.frame.Early.{Early}
-use Rattle.hail_world.specs.declared.frame.Early.TheVariants as early
-use Rattle.hail_world.specs.declared.frame.Exit.{Exit}
-use Rattle.hail_world.specs.declared.frame.Exit.TheVariants.{Done, Usage}
-use Rattle.hail_world.specs.Programs.{AnswersBy, EndsEarly, Finishes, HasFault, HasReadFault, IsDue, HasNoReport, IsSilent, UsageOf}
+use Rattle.hail_report.specs.declared.exit.Early.{Early}
+use Rattle.hail_report.specs.declared.exit.Early.TheVariants as early
+use Rattle.hail_report.specs.declared.exit.Exit.{Exit}
+use Rattle.hail_report.specs.declared.exit.Exit.TheVariants.{Done, Usage}
+use Rattle.hail_report.specs.Exits.{EndsEarly, Finishes, HasFault, HasReadFault, IsSilent, UsageOf}
+use Rattle.hail_world.specs.Programs.{AnswersBy, IsDue, HasNoReport}
 use Rattle.hail_world.specs.Programs.IsDue.{OfClash, OfExcess, OfRefusal, OfRun}
-use Rattle.hail_world.specs.Reading.{script_limit}
+use Rattle.hail_report.specs.Reading.{script_limit}
 
 module _ {X : Type 0} (travel : Travel) (hash : List ℕ → Digest32)
     (IsDone : List ℕ → X → List ℕ → Type 0) (text : List ℕ) (rest held written : Option (List ℕ))

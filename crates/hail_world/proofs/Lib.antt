@@ -3,7 +3,6 @@ pub mod Stops
 pub mod Taking
 pub mod Playing
 pub mod Chunking
-pub mod Pieces
 pub mod Reporting
 pub mod Refusals
 pub mod Outcomes
@@ -22,7 +21,5 @@ pub mod Clashes
 pub mod Searching
 pub mod Links
 pub mod Seating
-pub mod Numbered
-pub mod Voted
 pub mod Turned
 pub mod Answering

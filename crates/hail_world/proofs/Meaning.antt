@@ -13,19 +13,20 @@ use Rattle.hail_script.specs.declared.error.RunError.{RunError}
 use Rattle.hail_script.specs.declared.error.RunError.TheVariants as error
 use Rattle.hail_script.specs.Grammar.{script_by}
 use Rattle.hail_script.specs.Scenario.{Scenario}
-use Rattle.hail_world.specs.declared.frame.Early.{Early}
-use Rattle.hail_world.specs.declared.frame.Early.TheVariants as early
-use Rattle.hail_world.specs.declared.frame.Exit.{Exit}
-use Rattle.hail_world.specs.declared.frame.Exit.TheVariants.{Clash, Done, NoMemory, ReadFault, Refused, TooLong, Usage, WriteFault}
+use Rattle.hail_report.specs.declared.exit.Early.{Early}
+use Rattle.hail_report.specs.declared.exit.Early.TheVariants as early
+use Rattle.hail_report.specs.declared.exit.Exit.{Exit}
+use Rattle.hail_report.specs.declared.exit.Exit.TheVariants.{Clash, Done, NoMemory, ReadFault, Refused, TooLong, Usage, WriteFault}
 use Rattle.hail_world.specs.declared.report.Ran.{Ran}
 use Rattle.hail_world.specs.declared.report.Report.{Report}
 use Rattle.hail_world.specs.Headline.{Answers, EndsWith, Means, due_for, due_input, due_of, due_text}
 use Rattle.hail_world.specs.Places.{rules_of}
-use Rattle.hail_world.specs.Programs.{EndsEarly, HasFault, HasNoReport, WasRun, early_of}
-use Rattle.hail_world.specs.Reading.{script_limit}
+use Rattle.hail_report.specs.Exits.{EndsEarly, HasFault, early_of}
+use Rattle.hail_world.specs.Programs.{HasNoReport, WasRun}
+use Rattle.hail_report.specs.Reading.{script_limit}
 use Rattle.hail_world.specs.Reports.{Clashing, IsCause, IsReport, IsRun, shown_report}
-use Rattle.hail_world.specs.Text.{error_line, report_text, too_long_line}
-use Rattle.hail_world.specs.Writing.{WritesFront}
+use Rattle.hail_report.specs.Text.{error_line, report_text, too_long_line}
+use Rattle.hail_report.specs.Writing.{WritesFront}
 
 -- the line of a clash is the text that is due
 due_clash : (travel : Travel) (tell : Reported → List ℕ) (hash : List ℕ → Digest32) (script earlier later : List ℕ)

@@ -9,7 +9,7 @@ use Rattle.cw_rules.specs.Rules.{Rules}
 use Rattle.cw_rules.specs.Step.{Member, start}
 use Rattle.cw_rules.specs.World.{Line, faults}
 use Rattle.hail_script.specs.Grammar.{is_faulty_in, marks}
-use Rattle.hail_world.proofs.Numbered.{map_joined, range_more}
+use Rattle.hail_report.proofs.Numbered.{map_joined, range_more}
 use Rattle.hail_world.specs.declared.place.Place.{Place}
 use Rattle.hail_world.specs.Offers.{some_of}
 use Rattle.hail_world.specs.Places.{SitAs, WorkBy, SitsAs, WorksBy, marked}

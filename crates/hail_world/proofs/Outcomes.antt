@@ -11,10 +11,10 @@ use Rattle.cw_rules.specs.World as rule
 use Rattle.cw_rules.specs.World.{Line, World, happens, line_member, member_at, run, turned, with_done}
 use Rattle.hail_world.specs.declared.place.Place.{Place}
 use Rattle.hail_world.specs.Places.{SitAs, IsTurn}
-use Rattle.hail_world.specs.Pool.{sent_in}
+use Rattle.hail_report.specs.Pool.{sent_in}
 use Rattle.hail_world.specs.Runs.{AreMidway, ArePlayed}
 use Rattle.hail_world.specs.Seats.{Seat}
-use Rattle.hail_world.proofs.Numbered.{sent_more}
+use Rattle.hail_report.proofs.Numbered.{sent_more}
 use Rattle.cw_rules.proofs.Changes.{flags_kept, set_flags}
 use Rattle.cw_rules.proofs.Worlds.{member_there}
 

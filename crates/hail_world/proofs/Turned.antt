@@ -15,11 +15,11 @@ use Rattle.hail_world.specs.declared.place.Place.{Place}
 use Rattle.hail_world.specs.Known.{Knows}
 use Rattle.hail_world.specs.Played.{lines_of}
 use Rattle.hail_world.specs.Places.{SitAs, IsTurn}
-use Rattle.hail_world.specs.Pool.{sent_in}
+use Rattle.hail_report.specs.Pool.{sent_in}
 use Rattle.hail_world.specs.Runs.{IsStopped}
 use Rattle.hail_world.specs.Seats.{Seat}
 use Rattle.hail_world.specs.Played.{Begin, HavePlayed, entries_of}
-use Rattle.hail_world.proofs.Numbered.{sent_more}
+use Rattle.hail_report.proofs.Numbered.{sent_more}
 use Rattle.hail_world.proofs.Outcomes.{run_more}
 use Rattle.cw_rules.proofs.Changes.{flags_kept}
 

@@ -10,15 +10,15 @@ use Rattle.hail_script.specs.declared.error.RunError.{RunError}
 use Rattle.hail_script.specs.declared.error.RunError.TheVariants as error
 use Rattle.hail_script.specs.Grammar.{script_by}
 use Rattle.hail_script.specs.Scenario.{Scenario}
-use Rattle.hail_world.specs.declared.frame.Exit.{Exit}
-use Rattle.hail_world.specs.declared.frame.Exit.TheVariants.{Clash, Done, NoMemory, ReadFault, Refused, TooLong, Usage, WriteFault}
+use Rattle.hail_report.specs.declared.exit.Exit.{Exit}
+use Rattle.hail_report.specs.declared.exit.Exit.TheVariants.{Clash, Done, NoMemory, ReadFault, Refused, TooLong, Usage, WriteFault}
 use Rattle.hail_world.specs.declared.report.Report.{Report}
 use Rattle.hail_world.specs.Places.{rules_of}
-use Rattle.hail_world.specs.Programs.{Finishes, IsShort}
-use Rattle.hail_world.specs.Reading.{HasRead, script_limit}
+use Rattle.hail_report.specs.Exits.{Finishes, IsShort}
+use Rattle.hail_report.specs.Reading.{HasRead, script_limit}
 use Rattle.hail_world.specs.Reports.{Clashing, IsReport, shown_report}
-use Rattle.hail_world.specs.Text.{error_line, report_text, too_long_line}
-use Rattle.hail_world.specs.Writing.{WritesFront}
+use Rattle.hail_report.specs.Text.{error_line, report_text, too_long_line}
+use Rattle.hail_report.specs.Writing.{WritesFront}
 
 -- the text that is due for an outcome of a script, of a program that tells a report so
 abbrev pub due_for : (Reported → List ℕ) → (List ℕ → Digest32) → Scenario → Outcome → List ℕ

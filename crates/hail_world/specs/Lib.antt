@@ -1,6 +1,4 @@
 pub mod Seats
-pub mod Pool
-pub mod Votes
 pub mod Places
 pub mod Offers
 pub mod Honest
@@ -8,8 +6,5 @@ pub mod Reports
 pub mod Runs
 pub mod Known
 pub mod Played
-pub mod Reading
-pub mod Writing
-pub mod Text
 pub mod Programs
 pub mod Headline

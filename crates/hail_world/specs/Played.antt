@@ -11,7 +11,7 @@ use Rattle.hail_world.specs.declared.place.Place.{Place}
 use Rattle.hail_world.specs.declared.report.Report.{Report}
 use Rattle.hail_world.specs.Known.{Knows}
 use Rattle.hail_world.specs.Places.{SitAs}
-use Rattle.hail_world.specs.Pool.{sent_in}
+use Rattle.hail_report.specs.Pool.{sent_in}
 use Rattle.hail_world.specs.Reports.{AreNodesOf, HoldNotes, honest, honest_at}
 use Rattle.hail_world.specs.Runs.{chain_from}
 use Rattle.hail_world.specs.Seats.{Seat}

@@ -12,11 +12,11 @@ ghost use Rattle.hail_world.specs.Places.{SitAs, notes_at as notes_in};
 ghost use Rattle.hail_world.specs.Runs.{GoesBy, chain_from, first_named, higher, under};
 
 use crate::place::Place;
-use crate::report::Entry;
 use crate::seat::Seat;
 use crate::turn::notes_at;
 use cw_base::{Digest32, Hasher, Items, NoMemory};
 use cw_types::{ChainBlock, Commitment, Handed, Note, genesis, genesis_commitment};
+use hail_report::Entry;
 use node::Way;
 use std::alloc::Global;
 

@@ -7,11 +7,11 @@ ghost use Rattle.hail_script.specs.Admission.{asks_oversize};
 ghost use Rattle.hail_script.specs.Grammar.{is_oversize};
 ghost use Rattle.hail_script.specs.Events.{ask_of};
 ghost use Rattle.hail_world.specs.Places.{marked, over, table};
-ghost use Rattle.hail_world.specs.Pool.{sent_in};
+ghost use Rattle.hail_report.specs.Pool.{sent_in};
 
-use crate::pool::Pool;
 use cw_base::NoMemory;
 use cw_types::{Event, Message, Payload, To, Verifier, Vote};
+use hail_report::Pool;
 use hail_script::Ask;
 use std::alloc::Global;
 

@@ -17,10 +17,9 @@ ghost use Rattle.hail_script.specs.Events.{fault_of};
 ghost use Rattle.hail_script.specs.Grammar.{is_oversize};
 ghost use Rattle.hail_world.specs.Offers as offers;
 ghost use Rattle.hail_world.specs.Places.{over, rules_of};
-ghost use Rattle.hail_world.specs.Pool.{sent_in};
+ghost use Rattle.hail_report.specs.Pool.{sent_in};
 
 use crate::event::proposing;
-use crate::pool::Pool;
 use cw_base::{Digest32, Hasher, Items, NoMemory, Reader, Strategy};
 use cw_coding::Chunk;
 use cw_rules::Travel;
@@ -29,6 +28,7 @@ use cw_types::{
     ChainBlock, Commitment, Committees, Context, Message, Out, Payload, Proposal, To, Vote,
     genesis, genesis_commitment,
 };
+use hail_report::Pool;
 use hail_script::{Fault, Script};
 use node::whole_commit;
 use shards::cut_block;

@@ -3,13 +3,13 @@
 ghost use Rattle.std.specs.Prelude.{◌≡◌, List, ℕ, Some};
 ghost use Rattle.hail_world.specs.Headline as headline;
 ghost use Rattle.hail_world.specs.Headline.{IsRunOf, Means};
-ghost use Rattle.hail_world.specs.Programs.{HasFault, HasRun, IsSilent};
-ghost use Rattle.hail_world.specs.Text as spec;
+ghost use Rattle.hail_report.specs.Exits.{HasFault, HasRun, IsSilent};
+ghost use Rattle.hail_report.specs.Text as spec;
 
-use crate::frame::{Exit, end_early, finish, run_source};
-use crate::report::{Ran, Report};
-use crate::text::report_text;
+use crate::frame::run_source;
+use crate::report::{Ran, Report, report_text};
 use cw_base::{Digest32, Hasher, Sink, Source, Strategy};
+use hail_report::{Exit, end_early, finish};
 use node::Way;
 use std::alloc::Global;
 use std::thread::Threads;

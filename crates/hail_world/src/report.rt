@@ -1,123 +1,16 @@
-//! What is reported of a run.
+//! What is reported of a run, with the nodes that it leaves.
 
 ghost use Rattle.std.specs.Prelude.{◌≡◌, IfOk};
+ghost use Rattle.hail_report.specs.Text as spec;
+ghost use Rattle.hail_world.specs.Reports.{shown_report};
 
 use crate::seat::SeatNode;
 use cw_base::{Digest32, Hasher, Items, NoMemory};
-use cw_types::{ChainBlock, Handed, Message, To};
+use cw_types::ChainBlock;
+use hail_report::{Acked, Entry, text_of_parts};
 use hail_script::Script;
 use node::Way;
 use std::alloc::Global;
-use std::marker::Model;
-
-/// A message that was sent. Messages are numbered from 0 as they are sent.
-#[derive(Debug, Drop, PartialEq, Eq)]
-pub struct Sent {
-    pub number: u64,
-    pub from: u16,
-    pub to: To,
-    pub message: Message,
-}
-
-impl Model for Sent {
-    ghost use Rattle.cw_rules.specs.World.{Sent};
-
-    ghost Value = { Sent };
-
-    ghost view = { λ s. record {
-      number = s.number;
-      from = s.from;
-      to = s.to;
-      message = s.message;
-    } };
-
-    ghost inverse = { λ s. record {
-      number = s.number;
-      from = s.from;
-      to = s.to;
-      message = s.message;
-    } };
-}
-
-impl Sent {
-    /// An equal value.
-    pub fn copy(&self, alloc: Global) -> Result<Sent, NoMemory>
-        ensures { IfOk result (λ copy. copy ≡ self.now) }
-    {
-        Ok(Sent {
-            number: self.number,
-            from: self.from,
-            to: self.to,
-            message: self.message.copy(alloc)?,
-        })
-    }
-}
-
-/// What a start or a line of the script gave. The line is 0 in the opening, and the header is line
-/// 1.
-#[derive(Debug, Drop, PartialEq, Eq)]
-pub struct Entry {
-    pub line: u64,
-    /// The member that the opening or the line names; none for a faulty line.
-    pub member: Option<u16>,
-    /// How many notes a restart found.
-    pub found: Option<u64>,
-    pub sent: Items<Sent>,
-    pub handed: Items<Handed>,
-}
-
-impl Model for Entry {
-    ghost use Rattle.cw_rules.specs.Report.{Entry};
-
-    ghost Value = { Entry };
-
-    ghost view = { λ e. record {
-      line = e.line;
-      member = e.member;
-      found = e.found;
-      sent = e.sent;
-      handed = e.handed;
-    } };
-
-    ghost inverse = { λ e. record {
-      line = e.line;
-      member = e.member;
-      found = e.found;
-      sent = e.sent;
-      handed = e.handed;
-    } };
-}
-
-/// Where an honest member stands at the end of a run.
-#[derive(Clone, Copy, Debug, PartialEq, Eq)]
-pub struct Acked {
-    pub member: u16,
-    pub live: bool,
-    /// The last acknowledged height.
-    pub height: Option<u64>,
-    /// How many notes it has.
-    pub notes: u64,
-}
-
-impl Model for Acked {
-    ghost use Rattle.cw_rules.specs.Report.{Acked};
-
-    ghost Value = { Acked };
-
-    ghost view = { λ a. record {
-      member = a.member;
-      live = a.live;
-      height = a.height;
-      notes = a.notes;
-    } };
-
-    ghost inverse = { λ a. record {
-      member = a.member;
-      live = a.live;
-      height = a.height;
-      notes = a.notes;
-    } };
-}
 
 /// A run: what each start and each line gave, where each honest member stands at the end, the bytes
 /// of their disks, their nodes as the run left them, none for a stopped one, and the chain.
@@ -136,4 +29,22 @@ pub struct Report<H: Hasher<Digest = Digest32>, W: Way> {
 pub struct Ran<H: Hasher<Digest = Digest32>, W: Way> {
     pub script: Script,
     pub report: Report<H, W>,
+}
+
+/// The whole text of a report, line by line: what each start gave, what each line gave, where each
+/// member stands, the chain, and the number of lines. docs/FORMATS.md has each line's form.
+pub fn report_text<H: Hasher<Digest = Digest32>, W: Way>(
+    alloc: Global,
+    report: &Report<H, W>,
+) -> Result<Vec<u8>, NoMemory>
+    ensures { IfOk result
+        (λ text. text.items ≡ spec.report_text H.digest_of (shown_report report.now)) }
+{
+    text_of_parts::<H>(
+        alloc,
+        report.opening.as_slice(),
+        report.steps.as_slice(),
+        report.acked.as_slice(),
+        report.chain.as_slice(),
+    )
 }

@@ -15,7 +15,7 @@ ghost use Rattle.hail_world.specs.Places.{DiskHolds, SitsAs, WorksBy, IsPutOut, 
 ghost use Rattle.hail_world.specs.Places.{over, rules_of, starts_again, table, turned_by};
 ghost use Rattle.hail_world.specs.Places as places;
 ghost use Rattle.hail_world.specs.declared.place.Place.TheVariants.{Live};
-ghost use Rattle.hail_world.specs.Pool.{sent_in};
+ghost use Rattle.hail_report.specs.Pool.{sent_in};
 ghost use Rattle.hail_world.specs.Seats.{HasStepped, Works, out_of, rules_by};
 
 use crate::event::{Table, event_for};

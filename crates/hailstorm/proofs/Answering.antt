@@ -3,8 +3,8 @@ use Rattle.std.proofs.Common.{◌≡◌, ℕ, List, Option, refl, inl, inr, ◌�
 use Rattle.cw_base.specs.declared.hash.Digest32.{Digest32}
 use Rattle.hail_script.specs.declared.error.RunError.{RunError}
 use Rattle.hail_script.specs.declared.error.RunError.TheVariants as error
-use Rattle.hail_world.specs.declared.frame.Exit.{Exit}
-use Rattle.hail_world.specs.Programs.{Finishes, HasRun}
+use Rattle.hail_report.specs.declared.exit.Exit.{Exit}
+use Rattle.hail_report.specs.Exits.{Finishes, HasRun}
 use Rattle.hailstorm.specs.LanesProgram.{EndsLanes, IsRunInLanes, LanesAnswers, lanes_text}
 use Rattle.hailstorm.specs.LanesProgram.LanesAnswers.{Ran, Stopped}
 use Rattle.hailstorm.specs.Reports.{Report}

@@ -1,5 +1,3 @@
-pub mod Rounds
-pub mod Tops
 pub mod Merging
 pub mod Laned
 pub mod Cursoring
@@ -7,6 +5,4 @@ pub mod Prefixed
 pub mod LanesMeaning
 pub mod Shared
 pub mod Between
-pub mod StormWords
-pub mod StormLines
 pub mod Answering

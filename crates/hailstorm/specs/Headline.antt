@@ -4,10 +4,10 @@ use Rattle.cw_base.specs.declared.hash.Digest32.{Digest32}
 use Rattle.cw_rules.specs.Report.{Report as Reported}
 use Rattle.cw_rules.specs.declared.travel.Travel.TheVariants as travel
 use Rattle.hail_script.specs.Pieces.{number}
-use Rattle.hail_world.specs.declared.frame.Exit.{Exit}
+use Rattle.hail_report.specs.declared.exit.Exit.{Exit}
 use Rattle.hail_world.specs.Headline as world
-use Rattle.hail_world.specs.Programs.{UsageOf}
-use Rattle.hail_world.specs.Text.{report_text, summary_text, usage_line}
+use Rattle.hail_report.specs.Exits.{UsageOf}
+use Rattle.hail_report.specs.Text.{report_text, summary_text, usage_line}
 use Rattle.hailstorm.specs.Reports.{Report}
 
 -- `storm` and a number

@@ -3,11 +3,11 @@ use Rattle.std.specs.Prelude.{ℕ, List, Option}
 use Rattle.cw_base.specs.declared.hash.Digest32.{Digest32}
 use Rattle.cw_rules.specs.declared.travel.Travel.TheVariants as travel
 use Rattle.node.specs.declared.way.Chunked.{Chunked}
-use Rattle.hail_world.specs.declared.frame.Early.{Early}
-use Rattle.hail_world.specs.declared.frame.Exit.{Exit}
+use Rattle.hail_report.specs.declared.exit.Early.{Early}
+use Rattle.hail_report.specs.declared.exit.Exit.{Exit}
 use Rattle.hail_world.specs.declared.report.Ran.{Ran as RanBy}
 use Rattle.hail_world.specs.Programs as world
-pub use Rattle.hail_world.specs.Programs.{EndsEarly, Finishes, HasFault, HasReadFault, HasRun, IsShort, IsSilent, RunsOn, UsageOf, early_of, status_of}
+pub use Rattle.hail_report.specs.Exits.{EndsEarly, Finishes, HasFault, HasReadFault, HasRun, IsShort, IsSilent, RunsOn, UsageOf, early_of, status_of}
 
 -- a script that was run and its report, by the hasher
 abbrev pub Ran : Type 0 → Type 0

@@ -17,7 +17,7 @@ use Rattle.hail_world.specs.Known.{Knows}
 use Rattle.hail_world.specs.Played.{lines_of}
 use Rattle.hailstorm.specs.Lanes.{but_last, lane_at, left, played, turns_of}
 use Rattle.hail_world.specs.Places.{SitAs, WorkBy, rules_of}
-use Rattle.hail_world.specs.Pool.{sent_in}
+use Rattle.hail_report.specs.Pool.{sent_in}
 use Rattle.hail_world.specs.Reports.{AreNodesOf, HoldNotes, honest, honest_at}
 use Rattle.hail_world.specs.Runs.{chain_from, opened}
 use Rattle.hail_world.specs.Seats.{Seat}

@@ -1,12 +1,13 @@
 //! A source's script, read and run.
 
 ghost use Rattle.std.specs.Prelude.{◌≡◌, List, ℕ, Some, IfOk, IfErr};
-ghost use Rattle.hailstorm.specs.Programs.{HasReadFault, HasNoReport, WasRun};
+ghost use Rattle.hail_report.specs.Exits.{HasReadFault};
+ghost use Rattle.hailstorm.specs.Programs.{HasNoReport, WasRun};
 ghost use Rattle.hailstorm.specs.Reports.{IsRun};
 
 use crate::world::Ran;
 use cw_base::{Digest32, Hasher, Source, Strategy};
-use hail_world::Early;
+use hail_report::Early;
 use node::Chunked;
 use std::alloc::Global;
 use std::thread::Threads;

@@ -8,16 +8,14 @@ ghost use Rattle.hail_script.specs.Lanes.{laned_of};
 ghost use Rattle.hailstorm.specs.Lanes.{IsLanesCause, IsLanesReport};
 ghost use Rattle.hailstorm.specs.LanesProgram as spec;
 ghost use Rattle.hailstorm.specs.LanesProgram.{IsRunInLanes, LanesMeans};
-ghost use Rattle.hailstorm.specs.Programs.{EndsEarly, Finishes, HasFault, HasRun, IsSilent};
-ghost use Rattle.hailstorm.specs.Programs.{UsageOf};
+ghost use Rattle.hail_report.specs.Exits.{EndsEarly, Finishes, HasFault, HasRun, IsSilent};
+ghost use Rattle.hail_report.specs.Exits.{UsageOf};
 
 use crate::text::report_text;
 use crate::world::{Report, World};
 use cw_base::{Digest32, Gate, Hasher, Items, NoMemory, Sink, Source, Strategy};
+use hail_report::{Early, Exit, Reading, clash_text, early_of, end_early, finish, read_script};
 use hail_script::RunError;
-use hail_world::{
-    Early, Exit, Reading, clash_text, early_of, end_early, finish, read_script,
-};
 use std::alloc::Global;
 use std::sync::Wait;
 use std::thread::Threads;

@@ -5,16 +5,15 @@ ghost use Rattle.std.specs.Prelude.{Option, option_map};
 ghost use Rattle.hailstorm.specs.Headline as headline;
 ghost use Rattle.hailstorm.specs.Headline.{Means, MeansUsage, Answers, IsRunOf, text_of};
 ghost use Rattle.hail_world.specs.Headline.{EndsWith};
-ghost use Rattle.hailstorm.specs.Programs.{HasFault, HasRun, IsSilent, RunsOn};
+ghost use Rattle.hail_report.specs.Exits.{HasFault, HasRun, IsSilent, RunsOn};
 ghost use Rattle.hailstorm.specs.Reports.{shown_report};
-ghost use Rattle.hailstorm.specs.Storm as spec;
+ghost use Rattle.hail_report.specs.Storm as spec;
 
-use crate::laws::storm_laws;
-use crate::storm::{storm_script, summary_text};
 use crate::world::{Report, World};
 use cw_base::{Digest32, Hasher, NoMemory, Sink, Source, Strategy};
+use hail_report::{Exit, early_of, end_early, finish, storm_laws, storm_script, summary_of_parts};
 use hail_script::number_of;
-use hail_world::{Exit, early_of, end_early, finish, run_input};
+use hail_world::run_input;
 use node::Chunked;
 use std::alloc::Global;
 use std::thread::Threads;
@@ -145,4 +144,22 @@ fn end_with<H: Hasher<Digest = Digest32>, O: Sink>(
         Ok(text) => finish(output, &text, Exit::Done(report)),
         Err(_) => Exit::NoMemory,
     }
+}
+
+// The summary of a report.
+fn summary_text<H: Hasher<Digest = Digest32>>(
+    alloc: Global,
+    number: u64,
+    report: &Report<H>,
+) -> Result<Vec<u8>, NoMemory>
+    ensures { IfOk result
+        (λ text. text.items ≡ text_of H.digest_of (Some number) (shown_report report.now)) }
+{
+    summary_of_parts::<H>(
+        alloc,
+        number,
+        report.opening.as_slice(),
+        report.steps.as_slice(),
+        report.chain.as_slice(),
+    )
 }

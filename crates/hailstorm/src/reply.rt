@@ -4,8 +4,8 @@ ghost use Rattle.std.specs.Prelude.{◌≡◌, ◌⊎◌, true, IfOk};
 ghost use Rattle.hail_script.specs.declared.error.RunError.TheVariants as cause;
 
 use cw_base::{Items, NoMemory};
+use hail_report::{Entry, Sent};
 use hail_script::RunError;
-use hail_world::{Entry, Sent};
 use std::alloc::Global;
 
 /// What a lane's turn gave: the entry of its line, or none where no line was left; or why no

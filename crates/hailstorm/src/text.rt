@@ -1,7 +1,7 @@
 //! The text of a report.
 
 ghost use Rattle.std.specs.Prelude.{◌≡◌, IfOk};
-ghost use Rattle.hail_world.specs.Text as spec;
+ghost use Rattle.hail_report.specs.Text as spec;
 ghost use Rattle.hailstorm.specs.Reports.{shown_report};
 
 use crate::world::Report;

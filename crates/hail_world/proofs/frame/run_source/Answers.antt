@@ -1,5 +1,5 @@
 use Rattle.std.proofs.Common.{sym, subst}
-use Rattle.hail_world.specs.declared.frame.Early.{Early}
+use Rattle.hail_report.specs.declared.exit.Early.{Early}
 use Rattle.hail_world.specs.Programs.{HasNoReport}
 use Rattle.hail_world.proofs.Meaning.{cause_early, run_read, too_long_early}
 use Rattle.hail_world.proofs.frame.run_source.Goals as goal

@@ -1,7 +1,7 @@
 use Rattle.std.proofs.Common.{◌≡◌, ◌++◌, sym, ap, ◌∙◌}
 use Rattle.cw_rules.specs.Report.{Entry}
 use Rattle.hail_world.specs.Places.{rules_of}
-use Rattle.hail_world.specs.Pool.{sent_in}
+use Rattle.hail_report.specs.Pool.{sent_in}
 use Rattle.hail_world.proofs.Playing.{member_turn}
 use Rattle.hail_world.proofs.play.play_member.Goals as goal
 

@@ -1,5 +1,5 @@
 use Rattle.hail_world.specs.Places.{rules_of}
-use Rattle.hail_world.specs.Pool.{sent_in}
+use Rattle.hail_report.specs.Pool.{sent_in}
 use Rattle.hail_world.proofs.Playing.{taken_sound, put_back, placed}
 use Rattle.hail_world.proofs.play.turn_place.Goals as goal
 

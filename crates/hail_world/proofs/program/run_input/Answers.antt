@@ -1,5 +1,5 @@
 use Rattle.hail_world.specs.Headline.{IsRunOf}
-use Rattle.hail_world.specs.Text.{report_text}
+use Rattle.hail_report.specs.Text.{report_text}
 use Rattle.hail_world.proofs.Framing.{early_fault, early_silent}
 use Rattle.hail_world.proofs.Meaning.{done_means, early_means}
 use Rattle.hail_world.proofs.Answering.{early_run, input_run}

@@ -1,7 +1,7 @@
 use Rattle.std.proofs.Common.{sym, ◌∙◌}
 use Rattle.hail_script.specs.Events.{ask_of}
 use Rattle.hail_world.specs.Places.{over, rules_of, table}
-use Rattle.hail_world.specs.Pool.{sent_in}
+use Rattle.hail_report.specs.Pool.{sent_in}
 use Rattle.hail_world.proofs.Taking.{took}
 use Rattle.hail_world.proofs.turn.asked_live.Goals as goal
 

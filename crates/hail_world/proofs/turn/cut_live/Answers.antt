@@ -2,7 +2,7 @@ use Rattle.std.proofs.Common.{◌≡◌, Some, sym, subst, ◌∙◌}
 use Rattle.cw_rules.specs.Step.{Member, cut_step}
 use Rattle.hail_script.specs.Events.{ask_of}
 use Rattle.hail_world.specs.Places.{SitsAs, over, rules_of, table}
-use Rattle.hail_world.specs.Pool.{sent_in}
+use Rattle.hail_report.specs.Pool.{sent_in}
 use Rattle.hail_world.specs.Seats.{Seat, out_of, rules_by}
 use Rattle.hail_world.proofs.Taking.{cut_took}
 use Rattle.hail_world.proofs.turn.cut_live.Goals as goal

@@ -5,7 +5,7 @@ use Rattle.cw_rules.specs.World.{World, happens}
 use Rattle.hail_script.specs.Events.{line_of}
 use Rattle.hail_world.specs.Known.{Knows}
 use Rattle.hail_world.specs.Places.{IsTurn, rules_of}
-use Rattle.hail_world.specs.Pool.{sent_in}
+use Rattle.hail_report.specs.Pool.{sent_in}
 use Rattle.hail_world.specs.Runs.{opened}
 use Rattle.hail_world.proofs.Outcomes.{midway_start, midway_next, midway_clash, midway_end, reached_next}
 use Rattle.hail_world.proofs.Nothing.{none_when}

@@ -1,4 +1,4 @@
-use Rattle.hail_world.specs.declared.frame.Early.TheVariants as early
+use Rattle.hail_report.specs.declared.exit.Early.TheVariants as early
 use Rattle.hail_world.proofs.Framing.{early_fault, early_silent}
 use Rattle.hailstorm.proofs.LanesMeaning.{fault_means, long_means, short_means, whole_fault, whole_read, whole_silent}
 use Rattle.hailstorm.specs.LanesProgram.{IsRunInLanes}

@@ -1,5 +1,5 @@
 use Rattle.std.proofs.Common.{Some}
-use Rattle.hailstorm.specs.Storm as spec
+use Rattle.hail_report.specs.Storm as spec
 use Rattle.hail_world.proofs.Meaning.{done_answer, error_answer}
 use Rattle.hailstorm.proofs.Answering.{storm_on, storm_run}
 use Rattle.hailstorm.proofs.program.run_storm.Goals as goal
