@@ -13,12 +13,14 @@ mod holding;
 mod laws;
 mod leads;
 mod missing;
+mod naming;
 mod node;
 mod owed;
 mod seat;
 mod sends;
 mod start;
 mod store;
+mod voting;
 mod write;
 
 pub use arrival::{Arrival, Shown};

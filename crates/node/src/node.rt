@@ -14,6 +14,7 @@ use crate::leads::LeadMap;
 use crate::start::Setup;
 use crate::store::Store;
 use cw_base::{Digest32, Hasher, NoMemory, Strategy};
+use cw_rules::Travel;
 use cw_types::{Application, Committees, Event, Note, StepOut, Verifier};
 use marshal::Marshal;
 use node_disk::{Disk, MemoryDisk, StoreError};
@@ -117,6 +118,7 @@ impl<H: Hasher<Digest = Digest32>, D: Disk, A: Application + Drop> Node<H, D, A>
             Err(refused) => return Err(refused),
         };
         let setup = Setup {
+            travel: Travel::Chunked,
             id,
             committees: own,
             backlog,

@@ -21,5 +21,5 @@ returns g c =
     ∙ (same
     ∙ ((λ i. at_height (coded hash (s.epochs i) (s.backlog i) (λ b a. true))
     (stored_notes h.store) c.args.height)
-    ∙ any_height Chunked hash h.epochs h.backlog (g.A.Application.accepts h.app)
+    ∙ any_height h.travel hash h.epochs h.backlog (g.A.Application.accepts h.app)
     (stored_notes h.store) c.args.height))

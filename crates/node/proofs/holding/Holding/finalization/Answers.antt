@@ -26,5 +26,5 @@ returns g c =
     (finalization_at (coded hash (s.epochs i) (s.backlog i) (λ b a. true)) all
     c.args.height)
     all)
-    ∙ any_finalization Chunked hash h.epochs h.backlog (g.A.Application.accepts h.app) all
+    ∙ any_finalization h.travel hash h.epochs h.backlog (g.A.Application.accepts h.app) all
     c.args.height))

@@ -27,7 +27,7 @@ returns-clause-ok g c =
     { tickets = unserved (coded hash (s.epochs i) (s.backlog i) (λ b a. true)) all after })
     ∙ (λ i. record now.store {
       tickets =
-          any_unserved Chunked hash now.epochs now.backlog (g.A.Application.accepts now.app) all after
+          any_unserved now.travel hash now.epochs now.backlog (g.A.Application.accepts now.app) all after
           i;
     }))) in
     let l =
@@ -54,6 +54,6 @@ returns-clause-out g c =
     ∙ ((λ i. filter_map (served (coded hash (s.epochs i) (s.backlog i) (λ b a. true)) all)
     after.waiting)
     ∙ (λ i. filter_map
-    (λ x. any_served Chunked hash now.epochs now.backlog (g.A.Application.accepts now.app) all x i)
+    (λ x. any_served now.travel hash now.epochs now.backlog (g.A.Application.accepts now.app) all x i)
     after.waiting)))) in
     c.in_ok-put_served.ensures ∙ (λ i. a i ++ b i)
