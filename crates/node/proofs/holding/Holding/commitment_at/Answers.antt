@@ -1,6 +1,5 @@
 use Rattle.std.proofs.Common.{◌∙◌, ap, true}
 use Rattle.cw_rules.specs.Held.{at_height}
-use Rattle.cw_rules.specs.declared.travel.Travel.TheVariants.{Chunked}
 use Rattle.cw_rules_coded.specs.Coded.{coded}
 use Rattle.marshal.proofs.Applications.{any_height}
 use Rattle.node.specs.Holding.{Holding}

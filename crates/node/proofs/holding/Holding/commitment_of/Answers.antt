@@ -28,4 +28,4 @@ returns-in-Uncut g c =
     subst
     (λ (t : Travel). IfOk c.whole_commit.result
     (λ m. m ≡ commit (ruled t hash h.epochs h.backlog (accepts h.app)) c.args.block.now))
-    (sym travel) c.whole_commit.ensures
+    (sym travel) (c.whole_commit.ensures h.epochs h.backlog (accepts h.app))

@@ -1,7 +1,6 @@
 use Rattle.std.proofs.Common.{◌∙◌, ap, true}
 use Rattle.cw_rules.specs.Accepted.{first_some}
 use Rattle.cw_rules.specs.Sends.{finalization_at}
-use Rattle.cw_rules.specs.declared.travel.Travel.TheVariants.{Chunked}
 use Rattle.cw_rules_coded.specs.Coded.{coded}
 use Rattle.marshal.proofs.Applications.{any_finalization}
 use Rattle.node.specs.Holding.{Holding}

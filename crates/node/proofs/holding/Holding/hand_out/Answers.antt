@@ -1,6 +1,5 @@
 use Rattle.std.proofs.Common.{◌∙◌, ap, true, ◌++◌, map}
 use Rattle.cw_rules.specs.Step.{deliveries, nothing_came}
-use Rattle.cw_rules.specs.declared.travel.Travel.TheVariants.{Chunked}
 use Rattle.cw_rules_coded.specs.Coded.{coded}
 use Rattle.cw_types.specs.declared.event.Handed.{Handed}
 use Rattle.node.proofs.Stepping.{stands_handed}

@@ -24,8 +24,7 @@ returns-in-None g c =
     let same =
     ap (λ (k : Holding g.row.D.Denot g.row.A.Denot). first_some (shown_under m) k.shown)
     c.self.view_is in
-    c.shown_in.ensures
-    ∙ (ap (first_some (shown_under m)) c.as_slice.ensures
+    c.under.ensures
     ∙ (same
     ∙ (sym (c.requires.stands.shown m (c.commitment_fits.ensures.config.minimum.0))
-    ∙ (sym law ∙ ap (λ (r : Rules). shown_by Chunked r (came_of h) m) rules))))
+    ∙ (sym law ∙ ap (λ (r : Rules). shown_by Chunked r (came_of h) m) rules)))

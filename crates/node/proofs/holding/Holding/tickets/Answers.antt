@@ -1,7 +1,6 @@
 use Rattle.std.proofs.Common.{◌∙◌, ap, ◌++◌, List, filter_map, true}
 use Rattle.cw_types.specs.declared.event.TicketOut.{TicketOut}
 use Rattle.cw_rules.specs.Step.{served, ticket_given, ticketed, unserved}
-use Rattle.cw_rules.specs.declared.travel.Travel.TheVariants.{Chunked}
 use Rattle.cw_rules_coded.specs.Coded.{coded}
 use Rattle.marshal.proofs.Applications.{any_served, any_unserved}
 use Rattle.node.specs.Holding.{Holding}
