@@ -9,9 +9,9 @@ use Rattle.hail_script.specs.Scenario.{Scenario}
 use Rattle.run_picture.specs.Picture.{picture}
 use Rattle.run_picture.specs.Steps.{Step}
 use Rattle.run_picture.specs.Told.{said_of}
-use Rattle.hailstorm.specs.declared.report.Report.{Report}
+use Rattle.hailstorm.specs.Reports.{Report}
 use Rattle.hailstorm.specs.Reports.{IsReport, shown_report}
-use Rattle.hailstorm.specs.Text.{line}
+use Rattle.hail_report.specs.Text.{line}
 
 -- what a line did, by its entry
 abbrev pub step_of : Line → Entry → Step

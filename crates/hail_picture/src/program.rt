@@ -1,7 +1,8 @@
 //! The program: from the bytes of a script to the picture of its run.
 
 ghost use Rattle.std.specs.Prelude.{◌≡◌, ◌≢◌, List, Option, Some, length, ℕ};
-ghost use Rattle.hailstorm.specs.Programs.{AnswersBy, HasFault, WasRun, IsSilent, UsageOf};
+ghost use Rattle.hail_report.specs.Exits.{HasFault, IsSilent, UsageOf};
+ghost use Rattle.hailstorm.specs.Programs.{AnswersBy, WasRun};
 ghost use Rattle.hail_picture.specs.Drawing.{IsDrawn, usage_line};
 
 use crate::drawing::picture_of;

@@ -6,7 +6,7 @@ use Rattle.hail_script.specs.declared.error.RunError.{RunError}
 use Rattle.node.specs.declared.way.Chunked.{Chunked}
 use Rattle.hail_world.specs.declared.report.Report.{Report as ReportBy}
 use Rattle.hail_world.specs.Reports as world
-pub use Rattle.hail_world.specs.Reports.{IsClashOf, IsRun, honest, honest_at, honest_numbers, shown_report}
+pub use Rattle.hail_world.specs.Reports.{AreNodesOf, HoldNotes, IsClashOf, IsRun, honest, honest_at, honest_numbers, shown_report}
 
 -- the report of a run, by its hasher
 abbrev pub Report : Type 0 → Type 0

@@ -22,7 +22,7 @@ use crate::reply::{Reply, copy_entry, errors_again, law_of_equality};
 use crate::world::Report;
 use cw_base::{Digest32, Hasher, Items, NoMemory, Strategy};
 use cw_rules::{clash_laws, report_laws};
-use cw_rules_coded::coded_tells;
+use cw_rules_coded::ruled_tells;
 use hail_script::{LaneScript, RunError, script_laws};
 use hail_report::{Entry, Pool};
 use hail_world::{KnownBlocks, Place, Seat, open_all, report_of, turn_line};
@@ -74,6 +74,7 @@ impl<H: Hasher<Digest = Digest32>> Turning<H> {
             (λ e. IsStopped (rules_of H.digest_of script.script) (opened H.digest_of script.script)
             (lines_of (prefix script)) e) }
     {
+        script.travels_in_chunks();
         let plain = script.script();
         let count = plain.lines().len();
         let faulty = plain.faulty(alloc)?;
@@ -209,7 +210,7 @@ impl<H: Hasher<Digest = Digest32>> Turning<H> {
         report_laws();
         clash_laws();
         script_laws();
-        coded_tells::<H>();
+        ruled_tells::<H>();
         self.script.script().is_cluster();
         let _backlog = self.script.script().backlog();
         let _lines = self.script.script().lines();
@@ -282,6 +283,7 @@ fn play_before<H: Hasher<Digest = Digest32>, R: Threads + Sync, S: Strategy>(
         (λ e. IsStopped (rules_of H.digest_of script.now.script)
         (opened H.digest_of script.now.script) (lines_of (take before (rows script.now))) e) }
 {
+    script.travels_in_chunks();
     let plain = script.script();
     plain.is_cluster();
     let lines = plain.lines();
@@ -337,6 +339,7 @@ fn advance<H: Hasher<Digest = Digest32>, R: Threads + Sync, S: Strategy>(
     ensures twice { IfOk result (λ r. r.0 ≡ r.1) }
     ensures err { IfErr result (λ e. IsOver H.digest_of script.now order.new e) }
 {
+    script.travels_in_chunks();
     let plain = script.script();
     plain.is_cluster();
     let line = &plain.lines()[from];

@@ -17,8 +17,8 @@ use Rattle.hail_script.specs.Grammar.{script_of}
 use Rattle.hail_script.specs.Pieces.{number}
 use Rattle.hail_script.specs.Scenario.{Scenario}
 use Rattle.hailstorm.specs.Reports.{IsReport, IsRun, shown_report}
-use Rattle.hailstorm.specs.Text.{line}
-use Rattle.hailstorm.specs.declared.report.Report.{Report}
+use Rattle.hail_report.specs.Text.{line}
+use Rattle.hailstorm.specs.Reports.{Report}
 use Rattle.shards.specs.Kept.{rules_of}
 
 -- the limit, where the one word is a number

@@ -6,8 +6,8 @@ use Rattle.cw_base.specs.declared.hash.Digest32.{Digest32}
 use Rattle.node_disk.specs.Memory.{MemoryState}
 use Rattle.cw_ledger.specs.Ledger.{Ledger}
 use Rattle.cw_rules.specs.Report.{Acked}
-use Rattle.hailstorm.specs.declared.report.Report.{Report}
-use Rattle.hailstorm.specs.Places.{rules_of}
+use Rattle.hailstorm.specs.Reports.{Report}
+use Rattle.hail_world.specs.Places.{rules_of}
 use Rattle.hailstorm.specs.Reports.{IsReport, shown_report}
 use Rattle.run_ledger.specs.Giving.{payloads_of, payloads_of_all}
 use Rattle.run_ledger.specs.Ledgers.{AreDone, NeverFails, members_of}

@@ -8,7 +8,7 @@ use Rattle.cw_rules.specs.Reached.{In}
 use Rattle.cw_rules.specs.Report.{Entry, Report as Reported}
 use Rattle.node_disk.specs.Memory.{MemoryState, is_calm}
 use Rattle.cw_ledger.specs.Ledger.{Ledger}
-use Rattle.hailstorm.specs.declared.report.Report.{Report}
+use Rattle.hailstorm.specs.Reports.{Report}
 use Rattle.hailstorm.specs.Reports.{IsReport, shown_report}
 use Rattle.run_ledger.specs.Text.{ledger_text}
 

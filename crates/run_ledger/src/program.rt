@@ -2,7 +2,8 @@
 
 ghost use Rattle.std.specs.Prelude.{◌≡◌, ◌≢◌, List, Option, Some, length, map, ℕ};
 ghost use Rattle.std.specs.List.{AllByRecursion};
-ghost use Rattle.hailstorm.specs.Programs.{AnswersBy, HasFault, HasRun, WasRun, IsSilent, UsageOf};
+ghost use Rattle.hail_report.specs.Exits.{HasFault, HasRun, IsSilent, UsageOf};
+ghost use Rattle.hailstorm.specs.Programs.{AnswersBy, WasRun};
 ghost use Rattle.hailstorm.specs.Reports.{shown_report};
 ghost use Rattle.run_ledger.specs.Giving.{payloads_of_all};
 ghost use Rattle.run_ledger.specs.Ledgers.{AreDone, NeverFails};

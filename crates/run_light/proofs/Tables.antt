@@ -10,13 +10,13 @@ use Rattle.cw_rules.specs.Step.{Member, Stepped, start}
 use Rattle.cw_rules.specs.World.{Cut, Do, Faulty, Line, Restart, Sent, World, done_by, faults, happens, opening, run, sent_now, signed, with_done}
 use Rattle.hail_script.specs.Grammar.{is_faulty_in, marks}
 use Rattle.hail_script.specs.Scenario.{Scenario}
-use Rattle.hailstorm.specs.declared.report.Report.{Report}
-use Rattle.hailstorm.specs.Places.{marked, rules_of, table}
-use Rattle.hailstorm.specs.Pool.{sent_in}
+use Rattle.hailstorm.specs.Reports.{Report}
+use Rattle.hail_world.specs.Places.{marked, rules_of, table}
+use Rattle.hail_report.specs.Pool.{sent_in}
 use Rattle.hailstorm.specs.Reports.{IsRun}
 use Rattle.cw_rules.proofs.Changes.{flags_kept}
 use Rattle.cw_light.proofs.Moments.{ends_run}
-use Rattle.hailstorm.proofs.Playing.{flags_signed}
+use Rattle.hail_world.proofs.Playing.{flags_signed}
 
 -- some message of the entries passes, where one of some entry does
 pub any_sent : (f : Sent → Bool) (entries : List Entry)

@@ -12,10 +12,10 @@ use Rattle.cw_light.specs.declared.check.Answer.TheVariants.{Yes}
 use Rattle.cw_rules_coded.specs.Coded.{coded}
 use Rattle.hail_script.specs.Grammar.{marks}
 use Rattle.hail_script.specs.Scenario.{Scenario}
-use Rattle.hailstorm.specs.declared.report.Ran.{Ran}
-use Rattle.hailstorm.specs.declared.report.Report.{Report}
-use Rattle.hailstorm.specs.Places.{rules_of, table}
-use Rattle.hailstorm.specs.Pool.{sent_in}
+use Rattle.hailstorm.specs.Programs.{Ran}
+use Rattle.hailstorm.specs.Reports.{Report}
+use Rattle.hail_world.specs.Places.{rules_of, table}
+use Rattle.hail_report.specs.Pool.{sent_in}
 use Rattle.hailstorm.specs.Programs.{WasRun}
 use Rattle.hailstorm.specs.Reports.{IsRun, honest}
 use Rattle.run_light.specs.Finding.{found_in}

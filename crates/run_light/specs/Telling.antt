@@ -8,10 +8,10 @@ use Rattle.cw_rules.specs.World.{signed}
 use Rattle.cw_light.specs.Believing.{IsLinkAt}
 use Rattle.hail_script.specs.Pieces.{number}
 use Rattle.hail_script.specs.Scenario.{Scenario}
-use Rattle.hailstorm.specs.declared.report.Report.{Report}
-use Rattle.hailstorm.specs.Places.{rules_of}
+use Rattle.hailstorm.specs.Reports.{Report}
+use Rattle.hail_world.specs.Places.{rules_of}
 use Rattle.hailstorm.specs.Reports.{IsReport, IsRun, honest}
-use Rattle.hailstorm.specs.Text.{digest_text, line}
+use Rattle.hail_report.specs.Text.{digest_text, line}
 use Rattle.run_light.specs.Finding.{found_in}
 use Rattle.run_light.specs.declared.search.Shown.{Shown}
 

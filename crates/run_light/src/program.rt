@@ -1,7 +1,8 @@
 //! The program: from the bytes of a script to the line of what is shown.
 
 ghost use Rattle.std.specs.Prelude.{◌≡◌, List, ℕ, None, Option, Some, IfOk, map, string_bytes};
-ghost use Rattle.hailstorm.specs.Programs.{AnswersBy, HasFault, HasRun, WasRun, IsSilent, UsageOf};
+ghost use Rattle.hail_report.specs.Exits.{HasFault, HasRun, IsSilent, UsageOf};
+ghost use Rattle.hailstorm.specs.Programs.{AnswersBy, WasRun};
 ghost use Rattle.hailstorm.specs.Reports.{IsRun};
 ghost use Rattle.run_light.specs.Telling.{IsToldRun, asked_height, TellsOf, usage_line};
 

@@ -18,6 +18,6 @@ returns-in-Err-open-clause-err g c =
     omega (arith, few_members s (subst IsRunnable c.script-2.ensures c.lines-lines.ensures.runnable)) in
     opening_clashed hash c.args.text.now x c.in-Err-open.error
     c.in-Ok.ensures.ok c.in-Err-open.ensures.err c.clash_laws.ensures.blocks
-    (tells_apart hash x (c.coded_tells.ensures s.committees s.backlog (λ b a. true) few)
+    (tells_apart hash x (c.ruled_tells.ensures s.travel s.committees s.backlog (λ b a. true) few)
     ((rw c.script.ensures at c.is_cluster.ensures) (rules_of hash s) refl)
     (c.script_laws.ensures.laned c.args.text.now x c.in-Ok.ensures.ok) c.clash_laws.ensures.texts)

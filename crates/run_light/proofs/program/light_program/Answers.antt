@@ -1,8 +1,9 @@
 use Rattle.std.proofs.Common.{◌≡◌, ◌∙◌, ℕ, refl, subst}
 use Rattle.std.proofs.lemmas.Option.{same_Some}
-use Rattle.hailstorm.specs.Programs.{AnswersBy, HasRun}
-use Rattle.hailstorm.proofs.Framing.{usage_answers, usage_fault, usage_silent}
-use Rattle.hailstorm.proofs.Answering.{no_usage}
+use Rattle.hail_report.specs.Exits.{HasRun}
+use Rattle.hailstorm.specs.Programs.{AnswersBy}
+use Rattle.hail_world.proofs.Framing.{usage_answers, usage_fault, usage_silent}
+use Rattle.hail_world.proofs.Answering.{no_usage}
 use Rattle.run_light.specs.Telling.{IsToldRun, usage_line}
 use Rattle.run_light.proofs.program.light_program.Goals as goal
 

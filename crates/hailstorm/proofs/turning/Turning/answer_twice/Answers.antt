@@ -5,7 +5,8 @@ use Rattle.hail_world.specs.declared.place.Place.{Place}
 use Rattle.hailstorm.specs.Lanes.{lane_at, left}
 use Rattle.hail_world.specs.Seats.{Seat}
 use Rattle.hailstorm.specs.Turns.{Turning}
-use Rattle.hailstorm.proofs.Between.{none_when, nothing_next, rows_many, same_between, turns_none}
+use Rattle.hailstorm.proofs.Between.{nothing_next, rows_many, same_between, turns_none}
+use Rattle.hail_world.proofs.Nothing.{none_when}
 use Rattle.hail_world.proofs.Running.{whole_front}
 use Rattle.hailstorm.proofs.turning.Turning.answer_twice.Goals as goal
 

@@ -42,6 +42,6 @@ returns-clause-err g c = λ text spells.
     (over_of hash i.script i.order i.stopped i.opening i.cursors.items i.pool i.places.items
     i.known i.faulty.items c.self.invariant c.in-Some.error c.in-Some.is)
     c.clash_laws.ensures.blocks
-    (tells_apart hash i.script (c.coded_tells.ensures s.committees s.backlog (λ b a. true) few)
+    (tells_apart hash i.script (c.ruled_tells.ensures s.travel s.committees s.backlog (λ b a. true) few)
     ((rw c.script.ensures at c.is_cluster.ensures) (rules_of hash s) refl)
     (c.script_laws.ensures.laned text i.script laned) c.clash_laws.ensures.texts))
