@@ -1,12 +1,12 @@
 -- Whether a script is run, from what its parts say.
-use Rattle.std.proofs.Common.{◌≡◌, ℕ, ◌+◌, ◌<◌, ◌≤◌, ◌^◌, ◌&&◌, Bool, true, false, not, List, [], ◌∷◌, length, drop, map, Option, Some, None, Result, Ok, Err, refl, sym, ap, ◌∙◌, arith, nat_lt, nat_le, IsTrue}
+use Rattle.std.proofs.Common.{◌≡◌, ℕ, ◌+◌, ◌<◌, ◌≤◌, ◌^◌, ◌&&◌, Bool, true, false, List, [], ◌∷◌, drop, Option, Some, None, Result, Ok, Err, refl, ap, ◌∙◌, arith, nat_lt, IsTrue}
 use Rattle.std.specs.List.{list_all}
 use Rattle.std.proofs.lemmas.Bool.{and_parts}
-use Rattle.cw_types.specs.Epochs.{Epochs, is_sound}
+use Rattle.cw_types.specs.Epochs.{is_sound}
 use Rattle.cw_rules.specs.World.{Line}
 use Rattle.cw_rules.specs.declared.travel.Travel.{Travel}
 use Rattle.hail_script.specs.declared.error.RunError.{RunError}
-use Rattle.hail_script.specs.declared.error.RunError.TheVariants.{BadCommittee, OversizeBlock, Syntax, TooManyFaulty, UnknownMember}
+use Rattle.hail_script.specs.declared.error.RunError.TheVariants.{BadCommittee, OversizeBlock, TooManyFaulty, UnknownMember}
 use Rattle.hail_script.specs.declared.headers.Header.TheVariants.{Several}
 use Rattle.hail_script.specs.Admission as admission
 use Rattle.hail_script.specs.Grammar as grammar

@@ -1,6 +1,6 @@
 -- How the blocks of a script that is run travel, and that those that travel whole know one epoch.
 use Rattle.std.proofs.Common.{◌≡◌, ℕ, ◌+◌, List, [], ◌∷◌, drop, map, Option, Some, None, Result, Ok, Err, refl, subst}
-use Rattle.cw_types.specs.Epochs.{Epochs, single}
+use Rattle.cw_types.specs.Epochs.{single}
 use Rattle.cw_rules.specs.World.{Line}
 use Rattle.cw_rules.specs.declared.travel.Travel.{Travel}
 use Rattle.cw_rules.specs.declared.travel.Travel.TheVariants.{Chunked, Uncut}

@@ -1,6 +1,6 @@
 -- Scripts with lanes: lanes of events that run beside each other, behind events that come before
 -- all of them. Their blocks travel in chunks.
-use Rattle.std.specs.Prelude.{[], ℕ, ◌&&◌, ◌+◌, ◌++◌, ◌-◌, ◌∷◌, Bool, Err, List, None, Ok, Option, Result, Some, bytes_eq, codes, drop, if◌then◌else◌, length, map, nat_lt, slice_get, slice_index, take}
+use Rattle.std.specs.Prelude.{[], ℕ, ◌&&◌, ◌+◌, ◌++◌, ◌-◌, ◌∷◌, Bool, Err, List, Ok, Option, Result, Some, bytes_eq, codes, drop, if◌then◌else◌, length, map, nat_lt, slice_get, slice_index, take}
 use Rattle.std.specs.List.{enumerate_from}
 use Rattle.std.specs.Option.{option_map_or}
 use Rattle.cw_rules.specs.World.{Line}

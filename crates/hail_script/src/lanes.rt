@@ -78,7 +78,9 @@ impl LaneScript {
     /// A law: its blocks travel in chunks.
     pub fn travels_in_chunks(&self)
         ensures { self.now.script.travel ≡ Chunked }
-    {}
+    {
+        let _script = &self.script;
+    }
 
     /// The number of each event line in the text.
     pub fn numbers(&self) -> &[u64]

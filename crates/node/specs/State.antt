@@ -18,8 +18,8 @@ use Rattle.node_disk.specs.Frames.{Finds}
 use Rattle.node_disk.specs.Images.{IsImage}
 use Rattle.node_disk.specs.Log.{HasSettled, LogState}
 
--- how blocks travel, a member's number, the committees, the backlog, the application, the member of
--- the rules, live unless a step was refused, and the log of its notes
+-- how blocks travel, a member's number, the committees, the backlog, the application, the member
+-- of the rules, live unless a step was refused, and the log of its notes
 pub record NodeState (D A : Type 0) : Type 0 where
   pub travel : Travel
   pub id : ℕ

@@ -146,8 +146,8 @@ impl<H: Hasher<Digest = Digest32>, D: Disk, A: Application + Drop> Holding<H, D,
         requires quiet { (store_of store.marshal).staged ≡ [] }
         requires running { (store_of store.marshal).failed ≡ false }
         ensures value { IfOk result
-            (λ h. h ≡ begun setup.travel setup.id setup.committees setup.backlog
-            setup.app (store_of store.marshal) (log_of store.marshal)) }
+            (λ h. h ≡ begun setup.travel setup.id setup.committees setup.backlog setup.app
+            (store_of store.marshal) (log_of store.marshal)) }
         ensures ready { IfOk result (λ h. IsReady H.digest_of A.accepts h) }
         ensures err { IfErr result
             (λ e. (e.0 ≡ (log_of store.marshal).disk) × (e.1 ≡ StoreError.NoMemory)) }

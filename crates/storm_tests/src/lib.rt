@@ -19,4 +19,6 @@ mod stopped_tests;
 #[cfg(test)]
 mod tables;
 #[cfg(test)]
+mod whole_tests;
+#[cfg(test)]
 mod worked_tests;

@@ -3,5 +3,5 @@ use Rattle.std.specs.Prelude.{ℕ, List, codes}
 use Rattle.hail_report.specs.Text.{line}
 
 -- the answer where there are words
-abbrev pub usage_line : List ℕ
-usage_line = line (codes "usage: hail_whole")
+abbrev pub whole_usage_line : List ℕ
+whole_usage_line = line (codes "usage: hail_whole")

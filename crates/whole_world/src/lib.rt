@@ -9,3 +9,4 @@ pub use hail_report::{Acked, Early, Entry, Exit, Sent};
 pub use hail_script::RunError;
 pub use program::whole_program;
 pub use run::{Report, whole_run};
+pub use whole_node::WholeNode;

@@ -5,7 +5,7 @@ ghost use Rattle.cw_rules.specs.declared.travel.Travel.TheVariants as travel;
 ghost use Rattle.hail_report.specs.Exits.{HasFault, HasRun, IsSilent, UsageOf};
 ghost use Rattle.hail_report.specs.Text.{report_text};
 ghost use Rattle.hail_world.specs.Headline.{IsRunOf, Means};
-ghost use Rattle.whole_world.specs.Usage.{usage_line};
+ghost use Rattle.whole_world.specs.Usage.{whole_usage_line};
 
 use crate::run::Report;
 use cw_base::{Digest32, Hasher, Sink, Source, Strategy};
@@ -37,7 +37,7 @@ pub fn whole_program<
     // With words nothing is read, and the usage is written.
     ensures usage { words.now ≢ []
         → (input.new ≡ input.old)
-        × UsageOf usage_line (O.held output.old) (O.held output.new) result }
+        × UsageOf whole_usage_line (O.held output.old) (O.held output.new) result }
 
     // Without words each answer has its meaning for the bytes that the source had left.
     ensures answer { (text : List ℕ) → words.now ≡ [] → I.left input.old ≡ Some text

@@ -12,8 +12,8 @@ use std::alloc::Global;
 use std::thread::Threads;
 
 /// The report of a run: what each start and each line gave, where each honest member stands at the
-/// end, the bytes of their disks, their nodes as the run left them, each a `WholeNode`, none for a
-/// stopped one, and the chain.
+/// end, the bytes of their disks, their nodes as the run left them, each a
+/// [`WholeNode`](whole_node::WholeNode), none for a stopped one, and the chain.
 pub type Report<H> = hail_world::Report<H, Uncut>;
 
 /// Runs a script whose header is `cluster N B`: each honest member starts, by number, and each line

@@ -1,9 +1,6 @@
-use Rattle.std.proofs.Common.{◌≡◌, ℕ, true, map, List, subst, sym, ◌∙◌, ap, inr, IsTrue, Some, None}
-use Rattle.std.specs.List.{list_all}
+use Rattle.std.proofs.Common.{◌≡◌, true, map, subst, sym, ◌∙◌, inr}
 use Rattle.cw_types.specs.Epochs.{Epochs, is_sound}
-use Rattle.hail_script.specs.Admission as admission
 use Rattle.hail_script.specs.Events.{line_of}
-use Rattle.hail_script.specs.Grammar as grammar
 use Rattle.hail_script.specs.Scenario.{Scenario}
 use Rattle.hail_script.proofs.Admitting.{unknown, too_many, oversize, runs, runnable, sound_marked}
 use Rattle.hail_script.proofs.script.Script.admit.Goals as goal

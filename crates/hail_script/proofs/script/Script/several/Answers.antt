@@ -1,6 +1,5 @@
-use Rattle.std.proofs.Common.{◌≡◌, map, sym, ◌∙◌, ap, Ok}
+use Rattle.std.proofs.Common.{map, Ok}
 use Rattle.hail_script.specs.Events.{line_of}
-use Rattle.hail_script.specs.Grammar as grammar
 use Rattle.hail_script.proofs.Admitting.{several_is}
 use Rattle.hail_script.proofs.script.Script.several.Goals as goal
 

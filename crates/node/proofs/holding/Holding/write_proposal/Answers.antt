@@ -4,7 +4,6 @@ use Rattle.cw_types.specs.declared.note.Note.{Note}
 use Rattle.cw_types.specs.declared.vote.Vote.TheVariants.{Notarize}
 use Rattle.cw_rules.specs.Notes.{has_block}
 use Rattle.cw_rules.specs.Rules.{commit}
-use Rattle.shards.specs.Kept as kept
 use Rattle.node.proofs.Noting.{noted_on}
 use Rattle.node.specs.Holding.{Holding, rules_of}
 use Rattle.node.specs.Noting.{HasNoted}
@@ -37,10 +36,9 @@ returns-clause-ok g c =
     l in
     let m = c.in_ok-commitment.commitment in
     let same =
-    c.in_ok-commitment.ensures.commitment
+    c.in_ok-commitment.ensures
     ∙ ap
-    (λ (k : Holding g.row.D.Denot g.row.A.Denot). commit (kept.rules_of hash k.epochs)
-    c.args.block)
+    (λ (k : Holding g.row.D.Denot g.row.A.Denot). commit (rules_of hash accepts k) c.args.block)
     c.self.view_is in
     let all =
     noted_on hash accepts h c.write.new.self c.write-2.new.self (block m ++ verified m) (vote m)

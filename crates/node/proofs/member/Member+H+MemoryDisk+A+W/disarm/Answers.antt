@@ -1,7 +1,7 @@
 use Rattle.std.proofs.Common.{None}
 use Rattle.node_disk.specs.Memory.{is_stopped}
 use Rattle.node.proofs.Working.{awake_logged}
-use Rattle.node.proofs.node.Node+H+MemoryDisk+A.disarm.Goals as goal
+use Rattle.node.proofs.member.Member+H+MemoryDisk+A+W.disarm.Goals as goal
 
 pub invariant_of-self : goal.invariant_of-self
 invariant_of-self g c = λ works.

@@ -1,6 +1,6 @@
 use Rattle.node_disk.specs.Memory.{is_stopped, stop_from_now}
 use Rattle.node.proofs.Working.{awake_logged}
-use Rattle.node.proofs.node.Node+H+MemoryDisk+A.stop_at.Goals as goal
+use Rattle.node.proofs.member.Member+H+MemoryDisk+A+W.stop_at.Goals as goal
 
 pub invariant_of-self : goal.invariant_of-self
 invariant_of-self g c = λ works.

@@ -3,7 +3,7 @@ use Rattle.std.specs.Prelude.{not}
 use Rattle.std.proofs.lemmas.Bool.{not-true}
 use Rattle.node.specs.State.{NodeState}
 use Rattle.node.specs.Store.{Store}
-use Rattle.node.proofs.node.Node.marshal.Goals as goal
+use Rattle.node.proofs.member.Member.marshal.Goals as goal
 
 pub returns : goal.returns
 returns g c =
@@ -17,7 +17,7 @@ returns g c =
       value = λ alive.
           let live : not c.self.inside.failed ≡ true =
           ap (λ (n : NodeState g.row.D.Denot g.row.A.Denot). n.member.live) e ∙ alive in
-          let ready = (c.self.invariant (not-true c.self.inside.failed live)).ready in
+          let ready = (c.self.invariant.1 (not-true c.self.inside.failed live)).ready in
           record {
             epochs =
                 ap (λ (s : Store). s.epochs) store

@@ -2,7 +2,7 @@ use Rattle.std.proofs.Common.{sym, ◌∙◌, ap, []}
 use Rattle.cw_rules.specs.Step.{start}
 use Rattle.node.proofs.Working.{at_work}
 use Rattle.node.specs.Holding.{Holding, rules_of}
-use Rattle.node.proofs.node.Node.start.Goals as goal
+use Rattle.node.proofs.member.Member.start.Goals as goal
 
 pub returns-in-Ok-open-clause-start : goal.returns-in-Ok-open-clause-start
 returns-in-Ok-open-clause-start g c =

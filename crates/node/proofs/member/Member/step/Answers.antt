@@ -10,7 +10,7 @@ use Rattle.node.specs.Disks.{HasTried}
 use Rattle.node.specs.Holding as holding
 use Rattle.node.specs.Holding.{member_of}
 use Rattle.node.specs.State.{NodeState, notes_of_step, rules_of}
-use Rattle.node.proofs.node.Node.step.Goals as goal
+use Rattle.node.proofs.member.Member.step.Goals as goal
 
 pub returns-in-Ok-clause-step : goal.returns-in-Ok-clause-step
 returns-in-Ok-clause-step g c =
@@ -41,7 +41,7 @@ returns-in-Err-clause-disk g c alive =
     let signed = g.V.Verifier.signs c.args.verifier.now in
     let h = c.self.inside.holding in
     let r = holding.rules_of hash accepts h in
-    let ready = (c.self.invariant c.if-self.false).ready in
+    let ready = (c.self.invariant.1 c.if-self.false).ready in
     let error : Result StepOut StoreError = Err c.in-Err.error in
     let first =
     subst

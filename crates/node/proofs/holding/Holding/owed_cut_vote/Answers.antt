@@ -5,7 +5,7 @@ use Rattle.cw_rules.specs.Accepted.{first_some}
 use Rattle.cw_rules.specs.Owed.{finalize_owed, named_proposals, notarize_owed}
 use Rattle.voter.specs.Owing as owing
 use Rattle.node.specs.Holding.{Holding, rules_of, state_of}
-use Rattle.node.proofs.holding.Holding.owed_vote.Goals as goal
+use Rattle.node.proofs.holding.Holding.owed_cut_vote.Goals as goal
 
 pub returns-in-Some-clause-value : goal.returns-in-Some-clause-value
 returns-in-Some-clause-value g c =
@@ -13,13 +13,14 @@ returns-in-Some-clause-value g c =
     let hash = g.H.Hasher.digest_of in
     let r = rules_of hash g.A.Application.accepts h in
     let n =
-    sym (c.tally_stands.ensures.notarized hash h.tally r (state_of h) refl c.requires.tally)
+    sym (c.tally_stands.ensures.notarized hash h.tally r (state_of h) c.requires.cut
+    c.requires.stands.tally)
     ∙ ap (λ (k : ℕ). first_some (notarize_owed r k (state_of h)) (named_proposals (state_of h)))
-    c.requires.id in
+    c.requires.stands.id in
     let f =
-    sym (c.tally_stands.ensures.finalized hash h.tally r (state_of h) c.requires.tally)
+    sym (c.tally_stands.ensures.finalized hash h.tally r (state_of h) c.requires.stands.tally)
     ∙ ap (λ (k : ℕ). first_some (finalize_owed r k (state_of h)) (named_proposals (state_of h)))
-    c.requires.id in
+    c.requires.stands.id in
     let same =
     ap (λ (k : Holding g.row.D.Denot g.row.A.Denot). owing.vote_owed hash k.tally)
     c.self.view_is in
@@ -32,13 +33,14 @@ returns-in-None-clause-value g c =
     let hash = g.H.Hasher.digest_of in
     let r = rules_of hash g.A.Application.accepts h in
     let n =
-    sym (c.tally_stands.ensures.notarized hash h.tally r (state_of h) refl c.requires.tally)
+    sym (c.tally_stands.ensures.notarized hash h.tally r (state_of h) c.requires.cut
+    c.requires.stands.tally)
     ∙ ap (λ (k : ℕ). first_some (notarize_owed r k (state_of h)) (named_proposals (state_of h)))
-    c.requires.id in
+    c.requires.stands.id in
     let f =
-    sym (c.tally_stands.ensures.finalized hash h.tally r (state_of h) c.requires.tally)
+    sym (c.tally_stands.ensures.finalized hash h.tally r (state_of h) c.requires.stands.tally)
     ∙ ap (λ (k : ℕ). first_some (finalize_owed r k (state_of h)) (named_proposals (state_of h)))
-    c.requires.id in
+    c.requires.stands.id in
     let same =
     ap (λ (k : Holding g.row.D.Denot g.row.A.Denot). owing.vote_owed hash k.tally)
     c.self.view_is in
