@@ -1,5 +1,5 @@
 -- A storm, draw by draw.
-use Rattle.std.proofs.Common.{◌≡◌, ℕ, suc, ◌+◌, ◌-◌, ◌<◌, ◌≤◌, List, refl, sym, ap, ◌∙◌, arith}
+use Rattle.std.proofs.Common.{◌≡◌, ℕ, suc, ◌+◌, ◌-◌, ◌<◌, ◌≤◌, List, sym, ap, ◌∙◌, arith}
 use Rattle.hail_report.specs.Storm.{Drawn, deliver_all, deliver_from, drawn, round, rounds, shown_draw}
 
 -- a text and a state are what is drawn

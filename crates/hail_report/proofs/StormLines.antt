@@ -1,13 +1,14 @@
 -- Each storm is a script that is run.
-use Rattle.std.proofs.Common.{◌≡◌, ℕ, zero, suc, ◌+◌, ◌-◌, ◌*◌, ◌/◌, ◌%◌, ◌^◌, ◌<◌, ◌≤◌, ◌==◌, ◌&&◌, ◌||◌, not, Bool, true, false, cond, List, [], ◌∷◌, ◌++◌, length, length-append, Option, Some, None, Ok, Result, refl, sym, ◌∙◌, ap, subst, arith, append_assoc, append-nil, nat_lt, IsTrue, inl, inr, ◌⊎◌}
-use Rattle.std.specs.Prelude.{codes, count_by}
+use Rattle.std.proofs.Common.{◌≡◌, ℕ, zero, suc, ◌+◌, ◌-◌, ◌*◌, ◌%◌, ◌^◌, ◌<◌, ◌≤◌, ◌==◌, not, Bool, true, false, cond, List, [], ◌∷◌, ◌++◌, length, length-append, Some, None, Ok, refl, sym, ◌∙◌, ap, subst, arith, append_assoc, append-nil, nat_lt}
+use Rattle.std.specs.Prelude.{codes}
 use Rattle.std.specs.Fmt.{decimal}
-use Rattle.std.specs.List.{AllByRecursion, list_all, list_any, slice_split}
-use Rattle.std.proofs.lemmas.Bool.{cases_Bool, cond-true, cond-false, lt-ltb}
+use Rattle.std.specs.List.{AllByRecursion, slice_split}
+use Rattle.std.proofs.lemmas.Bool.{lt-ltb}
 use Rattle.std.proofs.lemmas.Fmt.{decimal_digit}
 use Rattle.hex.specs.Hex.{encode_lower}
 use Rattle.cw_base.specs.Bytes.{be32}
-use Rattle.cw_rules.specs.World.{Ack, Ask, Cut, Deliver, Do, Line, Propose, Restart, faults, line_member}
+use Rattle.cw_rules.specs.World.{Ack, Cut, Deliver, Do, Line, Propose, Restart, faults}
+use Rattle.cw_rules.specs.declared.travel.Travel.TheVariants.{Chunked}
 use Rattle.cw_types.specs.Epochs.{single}
 use Rattle.hail_script.specs.Grammar.{admitted, events_from, first_at, is_faulty_in, names_oversize, names_stranger, script_of}
 use Rattle.hail_script.specs.Headers.{header_in}
@@ -16,7 +17,7 @@ use Rattle.hail_script.specs.Pieces.{fields, lines, number, without_empty_end}
 use Rattle.hail_script.specs.Scenario.{Scenario}
 use Rattle.hail_script.specs.declared.headers.Header.TheVariants.{Cluster}
 use Rattle.hail_report.specs.Text.{line}
-use Rattle.hail_report.specs.Storm.{Drawn, acks, cut_line, cut_lines, cut_round, cut_text, deliver_all, deliver_from, deliver_line, draw, next_state, propose_line, propose_text, restart_line, round, rounds, storm_script, word_of}
+use Rattle.hail_report.specs.Storm.{Drawn, acks, cut_line, cut_lines, cut_round, deliver_all, deliver_from, deliver_line, draw, propose_line, propose_text, restart_line, round, rounds, storm_script}
 use Rattle.hail_report.proofs.StormWords.{Lacks, lacks_both, lacks_decimal, lacks_word, number_again, split_there, split_whole, word_again, word_short}
 
 -- ---- lines
@@ -462,7 +463,8 @@ header = refl
 
 module _ (parts : List (List ℕ)) (h : AllByRecursion IsEvent parts) where
   abbrev script : Scenario
-  script = record { committees = single 4; backlog = 8; lines = events parts h }
+  script =
+      record { travel = Chunked; committees = single 4; backlog = 8; lines = events parts h }
 
   is_admitted : admitted script ≡ Ok script
   is_admitted =

@@ -1,5 +1,5 @@
 -- The script of a storm.
-use Rattle.std.specs.Prelude.{[], zero, suc, ℕ, ◌%◌, ◌*◌, ◌+◌, ◌-◌, ◌/◌, ◌==◌, ◌≡◌, ◌^◌, ◌∷◌, ◌++◌, List, codes, if◌then◌else◌}
+use Rattle.std.specs.Prelude.{[], zero, suc, ℕ, ◌%◌, ◌*◌, ◌+◌, ◌-◌, ◌/◌, ◌==◌, ◌≡◌, ◌^◌, ◌++◌, List, codes, if◌then◌else◌}
 use Rattle.std.specs.Fmt.{decimal}
 use Rattle.cw_base.specs.Bytes.{be32}
 use Rattle.hex.specs.Hex.{encode_lower}

@@ -1,4 +1,4 @@
-use Rattle.std.proofs.Common.{◌≡◌, rules, map-id, sym, ap, ◌∙◌, List}
+use Rattle.std.proofs.Common.{rules, map-id, sym, ap, ◌∙◌, List}
 use Rattle.std.proofs.lemmas.Iterator.Adapters.{YieldsList-from_vec}
 use Rattle.std.proofs.lemmas.Iterator.Consumers.{YieldsList-end}
 use Rattle.cw_types.specs.declared.event.Out.{Out}

@@ -1,4 +1,4 @@
-use Rattle.std.proofs.Common.{◌≡◌, ap, ◌∙◌, List}
+use Rattle.std.proofs.Common.{ap, ◌∙◌, List}
 use Rattle.std.specs.List.{list_any}
 use Rattle.cw_rules.specs.Report.{Entry}
 use Rattle.cw_rules.specs.World.{is_sent_vote}

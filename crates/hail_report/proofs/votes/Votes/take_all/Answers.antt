@@ -1,4 +1,4 @@
-use Rattle.std.proofs.Common.{◌≡◌, ◌++◌, ◌∷◌, [], List, sym, subst, take, append_assoc}
+use Rattle.std.proofs.Common.{◌++◌, ◌∷◌, [], List, sym, subst, take, append_assoc}
 use Rattle.std.proofs.lemmas.List.{take_more}
 use Rattle.cw_rules.specs.World.{Sent}
 use Rattle.hail_report.specs.Votes.{TellVotes}
