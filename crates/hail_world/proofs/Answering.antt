@@ -36,9 +36,11 @@ module _ {X : Type 0} (IsDone : List ℕ → X → List ℕ → Type 0) (held wr
   early_run w later early.NoMemory result ends = rw ends.0 tt
 
   -- an answer for a text tells that of the text
-  pub answers_run : (travel : Travel) (hash : List ℕ → Digest32) (text : List ℕ) (rest : Option (List ℕ))
+  pub answers_run : (travel : Travel) (hash : List ℕ → Digest32) (text : List ℕ)
+      (rest : Option (List ℕ))
       (result : Exit X)
-      → AnswersBy travel hash IsDone text rest held written result → HasRun IsDone held written result
+      → AnswersBy travel hash IsDone text rest held written result
+      → HasRun IsDone held written result
   answers_run travel hash text rest (Done x) h = (text, h.2)
   answers_run travel hash text rest Usage h = h
   answers_run travel hash text rest TooLong h = tt

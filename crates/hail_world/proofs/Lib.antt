@@ -3,6 +3,7 @@ pub mod Stops
 pub mod Taking
 pub mod Playing
 pub mod Chunking
+pub mod Offering
 pub mod Reporting
 pub mod Refusals
 pub mod Outcomes

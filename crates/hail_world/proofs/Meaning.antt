@@ -29,18 +29,21 @@ use Rattle.hail_report.specs.Text.{error_line, report_text, too_long_line}
 use Rattle.hail_report.specs.Writing.{WritesFront}
 
 -- the line of a clash is the text that is due
-due_clash : (travel : Travel) (tell : Reported → List ℕ) (hash : List ℕ → Digest32) (script earlier later : List ℕ)
+due_clash : (travel : Travel) (tell : Reported → List ℕ) (hash : List ℕ → Digest32)
+    (script earlier later : List ℕ)
     → Clashing travel hash script earlier later
     → error_line (error.HashClash earlier later) ≡ due_text travel tell hash script
 due_clash travel tell hash script earlier later h =
     sym (ap (due_for tell hash h.0) h.2.ends) ∙ sym (ap (due_of tell hash) h.1)
 
 -- the line of a refusal is the text that is due
-due_refused : (travel : Travel) (tell : Reported → List ℕ) (hash : List ℕ → Digest32) (script : List ℕ) (e : RunError)
+due_refused : (travel : Travel) (tell : Reported → List ℕ) (hash : List ℕ → Digest32)
+    (script : List ℕ) (e : RunError)
     → script_by travel script ≡ Err e → error_line e ≡ due_text travel tell hash script
 due_refused travel tell hash script e spells = sym (ap (due_of tell hash) spells)
 
-module _ {H W : Type 0} (travel : Travel) (tell : Reported → List ℕ) (hash : List ℕ → Digest32) (script : List ℕ) where
+module _ {H W : Type 0} (travel : Travel) (tell : Reported → List ℕ) (hash : List ℕ → Digest32)
+    (script : List ℕ) where
   -- the text of a report is the one that is due
   due_done : (r : Report H W) → IsReport travel hash script r
       → tell (shown_report r) ≡ due_text travel tell hash script
@@ -55,9 +58,11 @@ same_front held written text due is h = subst (λ (t : List ℕ). WritesFront he
 
 -- ---- of a script
 
-module _ {H W : Type 0} (travel : Travel) (tell : Reported → List ℕ) (hash : List ℕ → Digest32) (script : List ℕ)
+module _ {H W : Type 0} (travel : Travel) (tell : Reported → List ℕ) (hash : List ℕ → Digest32)
+    (script : List ℕ)
     (held written : Option (List ℕ)) (w later : ℕ) where
-  pub done_answer : (report : Report H W) (result : Exit (Report H W)) → IsReport travel hash script report
+  pub done_answer : (report : Report H W) (result : Exit (Report H W))
+      → IsReport travel hash script report
       → EndsWith tell held written w later report result
       → Answers travel tell hash script held written result
   done_answer report result run (inl (inl h)) = rw h.0 (run, h.1)
@@ -79,7 +84,8 @@ module _ {H W : Type 0} (travel : Travel) (tell : Reported → List ℕ) (hash :
       → Answers travel tell hash script held written result
   clash_answer earlier later' result cause (inl (inl h)) = rw h.0 (cause, h.1)
   clash_answer earlier later' result cause (inl (inr h)) =
-      rw h.0 (same_front held written _ _ (due_clash travel tell hash script earlier later' cause) h.2)
+      rw h.0 (same_front held written _ _ (due_clash travel tell hash script earlier later' cause)
+      h.2)
   clash_answer earlier later' result cause (inr h) = rw h.0 h.1
 
   pub error_answer : (e : RunError) (result : Exit (Report H W)) → IsCause travel hash script e
@@ -101,7 +107,8 @@ module _ {H W : Type 0} (travel : Travel) (tell : Reported → List ℕ) (hash :
 -- ---- of what a source gave
 
 -- within the bound it is the text that is due for the input
-due_short : (travel : Travel) (hash : List ℕ → Digest32) (text : List ℕ) → length text ≤ script_limit
+due_short : (travel : Travel) (hash : List ℕ → Digest32) (text : List ℕ)
+    → length text ≤ script_limit
     → due_text travel (report_text hash) hash text ≡ due_input travel hash text
 due_short travel hash text h = rw (le-ltb script_limit (length text) h) refl
 
@@ -115,7 +122,8 @@ due_long travel hash text h = rw (is_above script_limit (length text) h) refl
 module _ {H W : Type 0} (travel : Travel) (hash : List ℕ → Digest32) (text : List ℕ)
     (rest held written : Option (List ℕ)) (w later : ℕ) where
   meaning : (result : Exit (Report H W)) → IsAtEnd rest → length text ≤ script_limit
-      → Answers travel (report_text hash) hash text held written result → Means travel hash text rest held written result
+      → Answers travel (report_text hash) hash text held written result
+      → Means travel hash text rest held written result
   meaning (Done r) e l a = (e, l, a.0, a.1)
   meaning (Refused x) e l a = (e, l, a.0, a.1)
   meaning (Clash x y) e l a = (e, l, a.0, a.1)
@@ -130,7 +138,8 @@ module _ {H W : Type 0} (travel : Travel) (hash : List ℕ → Digest32) (text :
       → Means travel hash text rest held written result
   done_means ran result read ends =
       meaning result read.at_end read.short
-      (done_answer travel (report_text hash) hash text held written w later ran.report result read.report ends)
+      (done_answer travel (report_text hash) hash text held written w later ran.report result
+      read.report ends)
 
   pub early_means : (e : Early) (result : Exit (Report H W)) → HasNoReport travel hash text rest e
       → EndsEarly held written w later e result → Means travel hash text rest held written result
@@ -139,10 +148,12 @@ module _ {H W : Type 0} (travel : Travel) (hash : List ℕ → Digest32) (text :
       rw h.0 (same_front held written _ _ (sym (due_long travel hash text cause.0)) h.2)
   early_means (early.Refused e) result cause ends =
       meaning result cause.0 cause.1
-      (refused_answer travel (report_text hash) hash text held written w later e result cause.2 ends)
+      (refused_answer travel (report_text hash) hash text held written w later e result cause.2
+      ends)
   early_means (early.Clash earlier later') result cause ends =
       meaning result cause.0 cause.1
-      (clash_answer travel (report_text hash) hash text held written w later earlier later' result cause.2 ends)
+      (clash_answer travel (report_text hash) hash text held written w later earlier later' result
+      cause.2 ends)
   early_means early.ReadFault result cause ends = rw ends.0 ends.1
   early_means early.NoMemory result cause ends = rw ends.0 ends.1
 
@@ -154,7 +165,8 @@ pub all_read : (text given : List ℕ) (rest : Option (List ℕ)) → Consumes (
 all_read text given None c e = absurd c
 all_read text given (Some ys) c e = sym (c ∙ rw e (append-nil given))
 
-module _ (travel : Travel) (hash : List ℕ → Digest32) (text given : List ℕ) (left rest : Option (List ℕ))
+module _ (travel : Travel) (hash : List ℕ → Digest32) (text given : List ℕ)
+    (left rest : Option (List ℕ))
     (is : left ≡ Some text) (c : Consumes left rest given) (e : IsAtEnd rest)
     (l : length given ≤ script_limit) where
   same_text : given ≡ text
@@ -177,10 +189,12 @@ module _ (travel : Travel) (hash : List ℕ → Digest32) (text given : List ℕ
       }
 
   -- why the run has no report
-  pub cause_early : (x : RunError) → IsCause travel hash given x → HasNoReport travel hash text rest (early_of x)
+  pub cause_early : (x : RunError) → IsCause travel hash given x
+      → HasNoReport travel hash text rest (early_of x)
   cause_early x cause = go x (subst (λ (t : List ℕ). IsCause travel hash t x) same_text cause)
     where
-      go : (x : RunError) → IsCause travel hash text x → HasNoReport travel hash text rest (early_of x)
+      go : (x : RunError) → IsCause travel hash text x
+          → HasNoReport travel hash text rest (early_of x)
       go error.NoMemory cause = tt
       go (error.HashClash earlier later) cause = (e, within, cause)
       go error.BadCommittee cause = (e, within, cause)
@@ -208,7 +222,8 @@ long_read limit text gave (Some ys) c n =
     ∙ sym (ap (λ (l : List ℕ). drop (limit + 1) l) c) in
     (omega (arith, many, n), ap (λ (l : List ℕ). let o : Option (List ℕ) = Some l in o) behind)
 
-pub too_long_early : (travel : Travel) (hash : List ℕ → Digest32) (text : List ℕ) (left rest : Option (List ℕ))
+pub too_long_early : (travel : Travel) (hash : List ℕ → Digest32) (text : List ℕ)
+    (left rest : Option (List ℕ))
     → left ≡ Some text
     → (gave : List ℕ) × Consumes left rest gave × (length gave ≡ script_limit + 1)
     → HasNoReport travel hash text rest early.TooLong

@@ -40,7 +40,8 @@ many : (r : Rules) (w : World) (number : ℕ) (lines : List Line)
 many r w number [] = refl
 many r w number (line ∷ lines) = rw (many r (happens r w line) (number + 1) lines) refl
 
-pub reported : {H W : Type 0} (travel : Travel) (hash : List ℕ → Digest32) (text : List ℕ) (s : Scenario)
+pub reported : {H W : Type 0} (travel : Travel) (hash : List ℕ → Digest32) (text : List ℕ)
+    (s : Scenario)
     (report : Report H W)
     → script_by travel text ≡ Ok s → (h : IsRun hash s report)
     → IsReported (rules_of hash s) h.world (handed_in (rules_of hash s) s.lines)
@@ -64,7 +65,8 @@ reported travel hash text s report spells h law = record {
 }
 
 -- why there is no report
-pub caused : (travel : Travel) (hash : List ℕ → Digest32) (text : List ℕ) (s : Scenario) (e : RunError)
+pub caused : (travel : Travel) (hash : List ℕ → Digest32) (text : List ℕ) (s : Scenario)
+    (e : RunError)
     → script_by travel text ≡ Ok s
     → ((earlier later : List ℕ)
     → outcome (rules_of hash s) (opened hash s) s.lines ≡ Clashes earlier later

@@ -7,14 +7,14 @@ use Rattle.cw_types.specs.Block.{Block}
 use Rattle.cw_rules.specs.Chains.{Ends, outcome}
 use Rattle.cw_rules.specs.Report.{Acked, Entry, Report as Reported, acked_at, entries_from, first_line, highest, opening_entries, report_of}
 use Rattle.cw_rules.specs.Rules.{Rules}
-use Rattle.cw_rules.specs.Step.{Member}
 use Rattle.cw_rules.specs.World.{Line, World}
 use Rattle.cw_rules.specs.World as rule
 use Rattle.hail_script.specs.Scenario.{Scenario}
 use Rattle.hail_world.specs.declared.place.Place.{Place}
 use Rattle.hail_world.specs.declared.report.Report.{Report}
 use Rattle.hail_world.specs.Places.{SitAs, WorkBy, rules_of}
-use Rattle.hail_world.specs.Reports.{AreNodesOf, HoldNotes, IsRun, honest, honest_at, shown_report}
+use Rattle.hail_world.specs.Played.{IsReportOf}
+use Rattle.hail_world.specs.Reports.{IsRun}
 use Rattle.hail_world.specs.Runs.{ArePlayed, chain_from, opened}
 use Rattle.hail_world.specs.Seats.{Seat}
 
@@ -56,26 +56,20 @@ four a a' b b' c c' d d' p q s t =
     } in r)
     t
 
--- a run, from what its parts gave
+-- a run, from the lines that were played and the report behind them
 pub ran : {H W : Type 0} (hash : List ℕ → Digest32) (s : Scenario) (report : Report H W)
-    (places : List (Place Seat))
-    → report.opening ≡ opening_entries (rules_of hash s) s.lines
-    → (h : ArePlayed (rules_of hash s) (opened hash s) s.lines report.steps places)
-    → report.acked ≡ filter_map acked_at (enumerate_from 0 h.last.members)
-    → report.chain
-    ≡ chain_from (rules_of hash s) h.last
-    (highest (flat_map (λ e. e.handed) (report.opening ++ report.steps)))
-    → HoldNotes (honest h.last) report.disks
-    × AreNodesOf (rules_of hash s) (honest_at h.last) report.disks report.nodes
-    → IsRun hash s report
-ran hash s report places opens h stands chains closes =
+    (opening steps : List Entry) (places : List (Place Seat))
+    → opening ≡ opening_entries (rules_of hash s) s.lines
+    → (h : ArePlayed (rules_of hash s) (opened hash s) s.lines steps places)
+    → IsReportOf (rules_of hash s) h.last opening steps report → IsRun hash s report
+ran hash s report opening steps places opens h is =
     let r = rules_of hash s in
     let w = opened hash s in
     let chain =
-    chains
+    is.chain
     ∙ ap
     (λ (l : List Entry). chain_from r h.last
-    (highest (flat_map (λ (e : Entry). e.handed) (l ++ report.steps))))
+    (highest (flat_map (λ (e : Entry). e.handed) (l ++ steps))))
     opens
     ∙ ap
     (λ (l : List Entry). chain_from r h.last
@@ -89,9 +83,9 @@ ran hash s report places opens h stands chains closes =
           (entries_from r w (first_line r) s.lines) report.acked
           (filter_map acked_at (enumerate_from 0 h.last.members)) report.chain
           (report_of r s.lines h.last).chain
-          opens h.entries stands chain;
-      disks = closes.0;
-      nodes = closes.1;
+          (is.opening_is ∙ opens) (is.steps_are ∙ h.entries) is.stands chain;
+      disks = is.disks;
+      nodes = is.nodes;
     }
 
 -- what a slice wrote back into its Vec

@@ -20,7 +20,8 @@ use Rattle.node_disk.specs.declared.log.StoreError.{StoreError}
 use Rattle.node_disk.specs.declared.log.StoreError.TheVariants as store
 use Rattle.hail_world.specs.Seats.{HasStarted, HasStepped, Seat, WasStopped, Works, notes_of_step, out_of, rules_by}
 
-pub started : (travel : Travel) (hash : List ℕ → Digest32) (id : ℕ) (epochs : Epochs) (backlog : ℕ) (app : AcceptAll)
+pub started : (travel : Travel) (hash : List ℕ → Digest32) (id : ℕ) (epochs : Epochs) (backlog : ℕ)
+    (app : AcceptAll)
     (frames : List (List Note)) (disk : MemoryState) (new : Seat) (out : StepOut)
     → new.travel ≡ travel → IsNodeOf id epochs backlog app new
     → stepped new.member out ≡ start (rules_by hash new) id new.member.frames → Works new
@@ -32,9 +33,11 @@ started travel hash id epochs backlog app frames disk new out way is starts work
     (let e : Ok new.member.frames ≡ Ok frames = sym found.found ∙ held in cc) in
     let by : rules_by hash new ≡ ruled travel hash epochs backlog (λ b a. true) =
     rw (way, is.committees, is.pending) refl in
-    let all : stepped new.member out ≡ start (ruled travel hash epochs backlog (λ b a. true)) id frames =
+    let all : stepped new.member out ≡ start (ruled travel hash epochs backlog (λ b a. true)) id
+        frames =
     starts ∙ ap (λ (r : Rules). start r id new.member.frames) by
-    ∙ ap (λ (f : List (List Note)). start (ruled travel hash epochs backlog (λ b a. true)) id f) same in
+    ∙ ap (λ (f : List (List Note)). start (ruled travel hash epochs backlog (λ b a. true)) id f)
+    same in
     record {
       rules = by;
       number = is.number;

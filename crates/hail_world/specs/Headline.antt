@@ -76,7 +76,8 @@ module _ {H W : Type 0} (travel : Travel) where
   Means hash text rest held written TooLong =
       (script_limit < length text) × HasRead (script_limit + 1) text rest
       × Appends held written too_long_line
-  Means hash text rest held written WriteFault = WritesFront held written (due_input travel hash text)
+  Means hash text rest held written WriteFault =
+      WritesFront held written (due_input travel hash text)
   Means hash text rest held written ReadFault = Keeps held written
   Means hash text rest held written NoMemory = Keeps held written
   Means hash text rest held written Usage = ⊥

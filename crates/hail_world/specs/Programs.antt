@@ -45,10 +45,12 @@ HasNoReport travel hash text rest early.NoMemory = Unit {0}
 -- well.
 pub data IsDue {X : Type 0} (travel : Travel) (hash : List ℕ → Digest32)
     (IsDone : List ℕ → X → List ℕ → Type 0) (text due : List ℕ) : Type 0 where
-  OfRun : (x : X) → length text ≤ script_limit → IsDone text x due → IsDue travel hash IsDone text due
+  OfRun : (x : X) → length text ≤ script_limit → IsDone text x due
+      → IsDue travel hash IsDone text due
   OfRefusal : (e : RunError) → length text ≤ script_limit → script_by travel text ≡ Err e
       → due ≡ error_line e → IsDue travel hash IsDone text due
-  OfClash : (earlier later : List ℕ) → length text ≤ script_limit → Clashing travel hash text earlier later
+  OfClash : (earlier later : List ℕ) → length text ≤ script_limit
+      → Clashing travel hash text earlier later
       → due ≡ error_line (error.HashClash earlier later) → IsDue travel hash IsDone text due
   OfExcess : script_limit < length text → due ≡ too_long_line → IsDue travel hash IsDone text due
 

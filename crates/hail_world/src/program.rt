@@ -23,13 +23,7 @@ pub fn run_input<
     I: Source,
     O: Sink,
     S: Strategy,
->(
-    rt: &R,
-    alloc: Global,
-    input: &mut I,
-    output: &mut O,
-    strategy: &S,
-) -> Exit<Report<H, W>>
+>(rt: &R, alloc: Global, input: &mut I, output: &mut O, strategy: &S) -> Exit<Report<H, W>>
     // Each answer has its meaning for the bytes that the source had left.
     ensures answer { (text : List ℕ) → I.left input.old ≡ Some text
         → Means W.travel H.digest_of text (I.left input.new) (O.held output.old)

@@ -69,7 +69,13 @@ pub(crate) fn start<H: Hasher<Digest = Digest32>, W: Way, R: Threads + Sync, S: 
 }
 
 /// A node takes an event.
-pub(crate) fn step<H: Hasher<Digest = Digest32>, W: Way, V: Verifier, R: Threads + Sync, S: Strategy>(
+pub(crate) fn step<
+    H: Hasher<Digest = Digest32>,
+    W: Way,
+    V: Verifier,
+    R: Threads + Sync,
+    S: Strategy,
+>(
     rt: &R,
     alloc: Global,
     node: &mut SeatNode<H, W>,

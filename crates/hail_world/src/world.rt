@@ -17,8 +17,8 @@ ghost use Rattle.hail_world.specs.Reports.{AreNodesOf, HoldNotes, IsCause, IsRep
 ghost use Rattle.hail_world.specs.Reports.{honest_at};
 ghost use Rattle.hail_world.specs.Played.{IsReportOf};
 ghost use Rattle.hail_world.specs.Seats.{Seat as SeatValue};
-ghost use Rattle.hail_world.specs.Runs.{ArePlayed, GoesBy, HandsBack, IsStopped, acked_with, opened};
-ghost use Rattle.hail_world.specs.Runs.{seat_of};
+ghost use Rattle.hail_world.specs.Runs.{ArePlayed, GoesBy, HandsBack, IsStopped, acked_with};
+ghost use Rattle.hail_world.specs.Runs.{opened, seat_of};
 
 use crate::blocks::KnownBlocks;
 use crate::chain::chain_of;
@@ -278,7 +278,10 @@ fn push_some(acked: &mut Items<Acked>, one: Option<Acked>) -> Result<(), NoMemor
     }
 }
 
-fn standing_of<H: Hasher<Digest = Digest32>, W: Way>(member: u16, place: &Place<Seat<H, W>>) -> Option<Acked>
+fn standing_of<H: Hasher<Digest = Digest32>, W: Way>(
+    member: u16,
+    place: &Place<Seat<H, W>>,
+) -> Option<Acked>
     ensures { (r : Rules) (o : Option Member) → WorksBy r member place.now → SitsAs place.now o
         → result ≡ acked_at (member, o) }
 {
@@ -336,13 +339,7 @@ pub(crate) fn copy_bytes(alloc: Global, bytes: &[u8]) -> Result<Items<u8>, NoMem
 fn close_all<H: Hasher<Digest = Digest32>, W: Way>(
     alloc: Global,
     places: Vec<Place<Seat<H, W>>>,
-) -> Result<
-    (
-        Items<Items<u8>>,
-        Items<Option<SeatNode<H, W>>>,
-    ),
-    NoMemory,
->
+) -> Result<(Items<Items<u8>>, Items<Option<SeatNode<H, W>>>), NoMemory>
     ensures { (r : Rules) (w : RulesWorld) → WorkBy r 0 places.items
         → SitAs places.items w.members
         → IfOk result (λ closed. HoldNotes (honest w) closed.0

@@ -177,7 +177,8 @@ module _ (P : Line → Type 0) where
   all_merged lanes (k ∷ order) p =
       let next = all_next lanes k p in
       let more = all_merged (without_next lanes k) order next.1 in
-      (all_joined (take 1 (lane_at lanes k)) (merged (without_next lanes k) order) next.0 more.0, more.1)
+      (all_joined (take 1 (lane_at lanes k)) (merged (without_next lanes k) order) next.0 more.0,
+      more.1)
 
   all_rows : (a : List (ℕ × Line)) → AllByRecursion P (lines_of a) → AllByRecursion Holds a
   all_rows [] p = tt
@@ -471,7 +472,8 @@ pub record TellsApart (r : Rules) (lines : List Line) : Type 0 where
 
 pub tells_apart : (hash : List ℕ → Digest32) (x : Laned) → TellsBlocks (rules_of hash x.script)
     → IsCluster (rules_of hash x.script) x.script.lines → AllByRecursion FitsLine x.script.lines
-    → ((r : Rules) (script : List Line) (earlier later : List ℕ) → TellsBlocks r → IsCluster r script
+    → ((r : Rules) (script : List Line) (earlier later : List ℕ) → TellsBlocks r → IsCluster r
+    script
     → AllByRecursion FitsLine script → outcome r (opening r script) script ≡ Clashes earlier later
     → earlier ≢ later)
     → TellsApart (rules_of hash x.script) x.script.lines

@@ -114,4 +114,3 @@ IsTurnOf hash old k reply new = (new.laned ≡ old.laned) × IsTurnBy hash old k
 abbrev pub told_order : List ℕ → RunError → List ℕ
 told_order order (error.HashClash earlier later) = order
 told_order order _ = []
-

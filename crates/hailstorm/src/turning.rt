@@ -23,8 +23,8 @@ use crate::world::Report;
 use cw_base::{Digest32, Hasher, Items, NoMemory, Strategy};
 use cw_rules::{clash_laws, report_laws};
 use cw_rules_coded::ruled_tells;
-use hail_script::{LaneScript, RunError, script_laws};
 use hail_report::{Entry, Pool};
+use hail_script::{LaneScript, RunError, script_laws};
 use hail_world::{KnownBlocks, Place, Seat, open_all, report_of, turn_line};
 use node::Chunked;
 use std::alloc::Global;
@@ -78,7 +78,9 @@ impl<H: Hasher<Digest = Digest32>> Turning<H> {
         let plain = script.script();
         let count = plain.lines().len();
         let faulty = plain.faulty(alloc)?;
-        let (opening, mut places) = open_all::<H, Chunked, R, S>(rt, alloc, plain, &faulty, strategy)?;
+        let (opening, mut places) = open_all::<H, Chunked, R, S>(
+            rt, alloc, plain, &faulty, strategy,
+        )?;
         let (before, cursors) = cursors_of(alloc, script.sizes(), count)?;
         let mut known = KnownBlocks::new::<H>(alloc)?;
         let pool = match play_before::<H, R, S>(

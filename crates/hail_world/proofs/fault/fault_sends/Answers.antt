@@ -1,6 +1,4 @@
 use Rattle.hail_world.proofs.fault.fault_sends.Goals as goal
 
-pub returns-in_ok-committees-in-Offer : goal.returns-in_ok-committees-in-Offer
-returns-in_ok-committees-in-Offer g c =
-    rw c.in-Offer.is
-    (rw (c.in_ok-committees-in-Offer.ensures, c.as_slice.ensures) at c.offer.ensures)
+pub returns-in-Offer : goal.returns-in-Offer
+returns-in-Offer g c = rw c.in-Offer.is (rw c.as_slice.ensures at c.offer.ensures)

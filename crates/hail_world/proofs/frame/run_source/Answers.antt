@@ -7,7 +7,8 @@ use Rattle.hail_world.proofs.frame.run_source.Goals as goal
 pub returns-in-Ok-clause-ok : goal.returns-in-Ok-clause-ok
 returns-in-Ok-clause-ok g c text left =
     let read = c.in-Whole.ensures in
-    run_read g.W.Way.travel g.H.Hasher.digest_of text c.in-Whole.text.items _ _ left read.0 read.1 read.2
+    run_read g.W.Way.travel g.H.Hasher.digest_of text c.in-Whole.text.items _ _ left read.0 read.1
+    read.2
     c.in-Ok.ran (rw c.deref.ensures.value at c.in-Ok.ensures.spells) c.in-Ok.ensures.run
     (rw c.deref.ensures.value at c.in-Ok.ensures.report)
 
@@ -18,7 +19,8 @@ returns-in-Whole-clause-err g c text left =
     (λ (e : Early). HasNoReport g.W.Way.travel g.H.Hasher.digest_of text
     (g.I.Source.left c.read_script.new.input) e)
     (sym c.early_of.ensures)
-    (cause_early g.W.Way.travel g.H.Hasher.digest_of text c.in-Whole.text.items _ _ left read.0 read.1 read.2
+    (cause_early g.W.Way.travel g.H.Hasher.digest_of text c.in-Whole.text.items _ _ left read.0
+    read.1 read.2
     c.in-Err.error (rw c.deref.ensures.value at c.in-Err.ensures.err))
 
 pub returns-in-TooLong-clause-err : goal.returns-in-TooLong-clause-err

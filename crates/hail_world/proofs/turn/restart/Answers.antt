@@ -25,7 +25,8 @@ returns-clause-started g c frames held =
     c.backlog.ensures.value
     ∙ ap
     (λ (t : Travel).
-    (start (ruled t g.H.Hasher.digest_of c.args.script.now.committees c.args.script.now.backlog (λ b a. true))
+    (start (ruled t g.H.Hasher.digest_of c.args.script.now.committees c.args.script.now.backlog
+    (λ b a. true))
     c.args.id frames).member)
     (sym c.requires.way) in
     let what =
@@ -41,7 +42,8 @@ returns-clause-started g c frames held =
     c.backlog.ensures.value
     ∙ ap
     (λ (t : Travel). out_of
-    (start (ruled t g.H.Hasher.digest_of c.args.script.now.committees c.args.script.now.backlog (λ b a. true))
+    (start (ruled t g.H.Hasher.digest_of c.args.script.now.committees c.args.script.now.backlog
+    (λ b a. true))
     c.args.id frames))
     (sym c.requires.way) in
     (h.member ∙ who, h.gives ∙ what)
@@ -52,8 +54,10 @@ returns-clause-sound g c =
     let who =
     ap (λ (x : Epochs). ruled g.W.Way.travel g.H.Hasher.digest_of x c.backlog.result (λ b a. true))
     c.in_ok-committees.ensures
-    ∙ ap (λ (k : ℕ). ruled g.W.Way.travel g.H.Hasher.digest_of c.args.script.now.committees k (λ b a. true))
+    ∙ ap (λ (k : ℕ). ruled g.W.Way.travel g.H.Hasher.digest_of c.args.script.now.committees k
+    (λ b a. true))
     c.backlog.ensures.value
-    ∙ ap (λ (t : Travel). ruled t g.H.Hasher.digest_of c.args.script.now.committees c.args.script.now.backlog (λ b a. true))
+    ∙ ap (λ (t : Travel). ruled t g.H.Hasher.digest_of c.args.script.now.committees
+    c.args.script.now.backlog (λ b a. true))
     (sym c.requires.way) in
     (h.rules ∙ who, h.number, h.works, calm_stays _ _ h.went_on c.requires.calm)

@@ -25,7 +25,8 @@ returns-in-Whole-clause-silent g c =
 pub returns-in-TooLong-clause-answer : goal.returns-in-TooLong-clause-answer
 returns-in-TooLong-clause-answer g c =
     λ text none left. long_means g.H.Hasher.digest_of text _ _ _ _ _ c.end_early.result
-    (too_long_early travel.Chunked g.H.Hasher.digest_of text _ _ left c.in-TooLong.ensures) c.end_early.ensures
+    (too_long_early travel.Chunked g.H.Hasher.digest_of text _ _ left c.in-TooLong.ensures)
+    c.end_early.ensures
 
 pub returns-in-Whole-clause-run : goal.returns-in-Whole-clause-run
 returns-in-Whole-clause-run g c = λ none.

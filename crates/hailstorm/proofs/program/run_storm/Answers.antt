@@ -23,7 +23,8 @@ returns-clause-answer g c =
 
 pub returns-in-Ok-run-clause-run : goal.returns-in-Ok-run-clause-run
 returns-in-Ok-run-clause-run g c =
-    answer_run travel.Chunked g.H.Hasher.digest_of _ _ (text_of g.H.Hasher.digest_of (Some c.args.number)) (spec.storm_script c.args.number)
+    answer_run travel.Chunked g.H.Hasher.digest_of _ _ (text_of g.H.Hasher.digest_of
+    (Some c.args.number)) (spec.storm_script c.args.number)
     c.end_with.result
     (done_answer travel.Chunked (text_of g.H.Hasher.digest_of (Some c.args.number))
     g.H.Hasher.digest_of (spec.storm_script c.args.number) _ _ _ _
@@ -32,7 +33,8 @@ returns-in-Ok-run-clause-run g c =
 
 pub returns-in-Ok-run-clause-runs : goal.returns-in-Ok-run-clause-runs
 returns-in-Ok-run-clause-runs g c =
-    runs_on travel.Chunked g.H.Hasher.digest_of _ _ (text_of g.H.Hasher.digest_of (Some c.args.number)) (spec.storm_script c.args.number)
+    runs_on travel.Chunked g.H.Hasher.digest_of _ _ (text_of g.H.Hasher.digest_of
+    (Some c.args.number)) (spec.storm_script c.args.number)
     c.end_with.result (c.storm_laws.ensures.runs c.args.number)
     (done_answer travel.Chunked (text_of g.H.Hasher.digest_of (Some c.args.number))
     g.H.Hasher.digest_of (spec.storm_script c.args.number) _ _ _ _
@@ -41,7 +43,8 @@ returns-in-Ok-run-clause-runs g c =
 
 pub returns-clause-run : goal.returns-clause-run
 returns-clause-run g c =
-    answer_run travel.Chunked g.H.Hasher.digest_of _ _ (text_of g.H.Hasher.digest_of (Some c.args.number)) (spec.storm_script c.args.number)
+    answer_run travel.Chunked g.H.Hasher.digest_of _ _ (text_of g.H.Hasher.digest_of
+    (Some c.args.number)) (spec.storm_script c.args.number)
     c.end_early.result
     (error_answer travel.Chunked (text_of g.H.Hasher.digest_of (Some c.args.number))
     g.H.Hasher.digest_of (spec.storm_script c.args.number) _ _ _ _
@@ -51,7 +54,8 @@ returns-clause-run g c =
 
 pub returns-clause-runs : goal.returns-clause-runs
 returns-clause-runs g c =
-    runs_on travel.Chunked g.H.Hasher.digest_of _ _ (text_of g.H.Hasher.digest_of (Some c.args.number)) (spec.storm_script c.args.number)
+    runs_on travel.Chunked g.H.Hasher.digest_of _ _ (text_of g.H.Hasher.digest_of
+    (Some c.args.number)) (spec.storm_script c.args.number)
     c.end_early.result (c.storm_laws.ensures.runs c.args.number)
     (error_answer travel.Chunked (text_of g.H.Hasher.digest_of (Some c.args.number))
     g.H.Hasher.digest_of (spec.storm_script c.args.number) _ _ _ _
