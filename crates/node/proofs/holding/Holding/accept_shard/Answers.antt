@@ -46,13 +46,8 @@ returns-in-Uncut-clause-come g c =
     let x = c.args.chunk.now in
     let uncut =
     sym (ap (λ (k : Holding g.row.D.Denot g.row.A.Denot). k.travel) c.self.view_is) ∙ c.in-Uncut.is in
-    subst
-    (λ (n : Holding g.row.D.Denot g.row.A.Denot). HasCome hash accepts
-    (take_part (came_of h) (is_chunk_of (rules_of hash accepts h) m x) (Row m x)) h n)
-    (sym c.self.view_is)
-    (subst
-    (λ (b : Bool). HasCome hash accepts (take_part (came_of h) b (Row m x)) h h)
-    (sym (no_chunk hash accepts h uncut m x)) (came_nothing hash accepts h c.requires))
+    subst (λ (b : Bool). HasCome hash accepts (take_part (came_of h) b (Row m x)) h h)
+    (sym (no_chunk hash accepts h uncut m x)) (came_nothing hash accepts h c.requires)
 
 pub returns-in-Uncut-clause-new : goal.returns-in-Uncut-clause-new
 returns-in-Uncut-clause-new g c =

@@ -35,11 +35,7 @@ returns-clause-ok g c =
     ∷ [] in
     l in
     let m = c.in_ok-commitment.commitment in
-    let same =
-    c.in_ok-commitment.ensures
-    ∙ ap
-    (λ (k : Holding g.row.D.Denot g.row.A.Denot). commit (rules_of hash accepts k) c.args.block)
-    c.self.view_is in
+    let same = c.in_ok-commitment.ensures in
     let all =
     noted_on hash accepts h c.write.new.self c.write-2.new.self (block m ++ verified m) (vote m)
     (noted_on hash accepts h c.write_block.new.self c.write.new.self (block m) (verified m)
