@@ -1,11 +1,11 @@
-use Rattle.std.proofs.Common.{◌∙◌, ap, subst, ◌++◌, ◌∷◌, [], List, if◌then◌else◌, append_assoc}
+use Rattle.std.proofs.Common.{◌∙◌, subst, ◌++◌, ◌∷◌, [], List, if◌then◌else◌, append_assoc}
 use Rattle.cw_types.specs.declared.commitment.Commitment.{Commitment}
 use Rattle.cw_types.specs.declared.note.Note.{Note}
 use Rattle.cw_types.specs.declared.vote.Vote.TheVariants.{Notarize}
 use Rattle.cw_rules.specs.Notes.{has_block}
 use Rattle.cw_rules.specs.Rules.{commit}
 use Rattle.node.proofs.Noting.{noted_on}
-use Rattle.node.specs.Holding.{Holding, rules_of}
+use Rattle.node.specs.Holding.{rules_of}
 use Rattle.node.specs.Noting.{HasNoted}
 use Rattle.node.specs.Store.{stored_notes}
 use Rattle.node.proofs.holding.Holding.write_proposal.Goals as goal
