@@ -27,7 +27,8 @@ use Rattle.run_light.proofs.Showing.{found_told}
 use Rattle.run_light.proofs.Tables.{table_is}
 
 module _ {H : Type 0} (hash : List ℕ → Digest32) (height : ℕ) (s : Scenario)
-    (report : Report H Chunked) (x : IsRun hash s report) (cluster : IsCluster (rules_of hash s) s.lines) where
+    (report : Report H Chunked) (x : IsRun hash s report)
+    (cluster : IsCluster (rules_of hash s) s.lines) where
   abbrev found : Option Shown
   found = found_in (rules_of hash s) (signed x.world) height (honest x.world)
 
