@@ -11,7 +11,8 @@ class Chunked:
     has_epochs = True
 
     def __init__(self, world):
-        self.world, self.known, self.blocks = world, {}, {}
+        # What was cut, and what chunks showed, is kept: both take long.
+        self.world, self.cuts, self.shows = world, {}, {}
 
     def config(self, total):
         """The numbers in the commitment of a block among so many members."""
@@ -23,16 +24,16 @@ class Chunked:
 
     def cut(self, block):
         """A block's commitment, and its chunks."""
-        if block not in self.known:
+        if block not in self.cuts:
             text, (k, m) = block.write(), self.world.config(block.context.epoch)
             rows = coding.codeword(text, k, m)
             levels = coding.levels_over(self.world.digest_of, rows)
             root = coding.root_of(self.world.digest_of, levels)
-            self.known[block] = named(self.world.digest_of, block, root, k, m), [
+            self.cuts[block] = named(self.world.digest_of, block, root, k, m), [
                 Chunk(row, place, k + m, coding.proof_at(levels, place))
                 for place, row in enumerate(rows)
             ]
-        return self.known[block]
+        return self.cuts[block]
 
     def sends(self, block, epoch, own):
         """Each chunk goes to the member at its place, that of the sender's place to all instead."""
@@ -60,9 +61,9 @@ class Chunked:
         if block or len(chunks) < commitment.k:
             return block
         asked = commitment, tuple(chunks)
-        if asked not in self.blocks:
-            self.blocks[asked] = self.shown_in(*asked)
-        return self.blocks[asked]
+        if asked not in self.shows:
+            self.shows[asked] = self.shown_in(*asked)
+        return self.shows[asked]
 
     def shown_in(self, commitment, chunks):
         """The block of whose codeword these are rows, where it has the commitment."""
@@ -91,17 +92,19 @@ class Uncut:
     def __init__(self, world):
         self.world = world
 
-    def config(self, _):
+    def config(self, total):
         return 1, 1
 
     def commit(self, block):
         digest = self.world.digest_of(block.write())
         return named(self.world.digest_of, block, digest, 1, 1)
 
-    def sends(self, block, _, __):
+    def sends(self, block, epoch, own):
+        """The block goes to all."""
         return [(ALL, Whole(block))]
 
-    def takes(self, _):
+    def takes(self, shard):
+        """No chunk changes anything."""
         return False
 
     def shown(self, member, commitment):
@@ -110,11 +113,12 @@ class Uncut:
         return None if first else member.came_whole(commitment)
 
     def has_part(self, member, proposal):
+        """Whether a payload is shown or held, which the member's vote to notarize asks for."""
         payload = proposal.payload
         return bool(self.shown(member, payload) or member.held(payload))
 
 
 def named(digest_of, block, root, k, m):
     """What names a block by its root and numbers."""
-    return Commitment(
-        digest_of(block.write()), root, digest_of(block.context.write()), k, m)
+    context = digest_of(block.context.write())
+    return Commitment(digest_of(block.write()), root, context, k, m)
