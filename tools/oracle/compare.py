@@ -3,7 +3,8 @@
 byte for byte. The kinds of scripts: members that prune, members that are taken ahead by floors,
 crashes, forgeries, and epochs with forgeries; and three in which each message of a run is changed
 at each byte, cut off at each place and lengthened, all delivered. Prints how much the scripts held.
-usage: compare.py PROGRAM COUNT [FIRST]   (as crates/hail_run/out/hail_run 30)"""
+With the word `whole` blocks travel whole, and no script has several epochs.
+usage: compare.py [whole] PROGRAM COUNT [FIRST]   (as crates/hail_run/out/hail_run 30)"""
 import random
 import subprocess
 import sys
@@ -14,9 +15,11 @@ from formats import Ballot, Cert
 from member import ALL, Entered, Floor, Prune
 from oracle import answer
 from script import line_of, parse
+from travel import Chunked, Uncut
 from world import World
 
 KINDS = ["prunes", "floors", "crashes", "forgeries", "epochs", "epochs"]
+KINDS_OF = {Chunked: KINDS, Uncut: KINDS[:4]}
 CLUSTERS = [(4, 1, 3), (5, 2, 2), (6, 1, 4), (7, 2, 3), (8, 1, 5)]
 
 
@@ -40,11 +43,12 @@ def header(draw, kind):
 class Growing:
     """A script that is played while it grows, so that its lines go by what has happened."""
 
-    def __init__(self, seed):
-        self.kind = KINDS[seed % len(KINDS)]
+    def __init__(self, seed, travel):
+        kinds = KINDS_OF[travel]
+        self.kind = kinds[seed % len(kinds)]
         self.draw = random.Random(seed)
         self.lines = header(self.draw, self.kind)
-        self.world = World(parse(self.text()), sha256).run()
+        self.world = World(parse(self.text()), sha256, travel).run()
         self.seen, self.behind = set(), None
 
     def text(self):
@@ -180,9 +184,9 @@ def is_final(message):
     return isinstance(message, Cert) and message.vote.kind == "finalize"
 
 
-def grown(seed):
+def grown(seed, travel):
     """A script by its number."""
-    growing = Growing(seed)
+    growing = Growing(seed, travel)
     for number in range(16 if growing.kind == "prunes" else 10):
         growing.round(number)
     for member in sorted(growing.world.honest):
@@ -190,6 +194,7 @@ def grown(seed):
     return growing.kind, growing.text()
 
 
+# One block to its end, in chunks and whole.
 SIXTEEN = """cluster 4 3
 propose 1 6869
 deliver 0 0
@@ -204,14 +209,27 @@ deliver 5 2
 deliver 10 2
 deliver 12 2
 """
+ELEVEN = """cluster 4 3
+propose 1 6869
+deliver 0 0
+deliver 1 0
+deliver 0 2
+deliver 1 2
+deliver 3 0
+deliver 4 1
+deliver 4 2
+deliver 5 2
+deliver 7 2
+"""
+RUN_OF = {Chunked: (SIXTEEN, (2, 7, 13)), Uncut: (ELEVEN, (2, 6, 11))}
 
 
-def fuzzed(lines):
+def fuzzed(run, lines, travel):
     """Behind so many lines of a run its messages come changed, from member 3; then the rest."""
     draw = random.Random(lines)
-    _, _, world = answer(SIXTEEN.encode())
-    front, rest = SIXTEEN.splitlines()[:lines], SIXTEEN.splitlines()[lines:]
-    _, _, begun = answer("".join(line + "\n" for line in front).encode())
+    _, _, world = answer(run.encode(), travel=travel)
+    front, rest = run.splitlines()[:lines], run.splitlines()[lines:]
+    _, _, begun = answer("".join(line + "\n" for line in front).encode(), travel=travel)
     texts = [changed for sent in world.pool for changed in changes(draw, sent.message.write())]
     first = len(begun.pool)
     raw = ["faulty 3 raw " + (text.hex() or "-") for text in texts]
@@ -230,9 +248,9 @@ def changes(draw, text):
     yield text + bytes([draw.randrange(256)])
 
 
-def compared(program, name, text):
+def compared(program, name, text, travel):
     """What the script held, and whether both print the same."""
-    status, want, world = answer(text)
+    status, want, world = answer(text, travel=travel)
     ran = subprocess.run([program], input=text, stdout=subprocess.PIPE, check=False)
     same = (ran.returncode, ran.stdout.decode()) == (status, want)
     held = Counter(scripts=1, lines=text.count(b"\n"), differ=int(not same))
@@ -248,15 +266,18 @@ def compared(program, name, text):
 
 
 def main():
-    program, count = sys.argv[1], int(sys.argv[2])
-    first = int(sys.argv[3]) if len(sys.argv) > 3 else 0
-    held = Counter()
+    words, travel = sys.argv[1:], Chunked
+    if words[:1] == ["whole"]:
+        words, travel = words[1:], Uncut
+    program, count = words[0], int(words[1])
+    first = int(words[2]) if len(words) > 2 else 0
+    held, (run, behind) = Counter(), RUN_OF[travel]
     for seed in range(first, first + count):
-        kind, text = grown(seed)
-        held += compared(program, "%s %d" % (kind, seed), text)
-    for lines in (2, 7, 13) if first == 0 else ():
-        kind, text = fuzzed(lines)
-        held += compared(program, "%s behind line %d" % (kind, lines), text)
+        kind, text = grown(seed, travel)
+        held += compared(program, "%s %d" % (kind, seed), text, travel)
+    for lines in behind if first == 0 else ():
+        kind, text = fuzzed(run, lines, travel)
+        held += compared(program, "%s behind line %d" % (kind, lines), text, travel)
     print("in all", dict(held))
     return 1 if held["differ"] else 0
 

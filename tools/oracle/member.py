@@ -1,12 +1,10 @@
 """A member: its notes, what came, and what it does in a step, as docs/RULES.md has it."""
 from typing import NamedTuple
 
-from coding import leads_to
 from formats import (
-    END, Ask, AskHeight, Ballot, Block, Cert, Commitment, Context, Proposal, Reader, Shard, Vote,
-    Whole, nullify, vote_on, whole,
+    END, Ask, AskHeight, Ballot, Block, Cert, Commitment, Context, Proposal, Shard, Vote, Whole,
+    nullify, vote_on,
 )
-import coding
 
 ALL = "all"
 
@@ -122,7 +120,7 @@ class Member:
 
     def forget(self):
         """What is left behind a stop."""
-        self.came, self.given, self.shown_by = [], [], {}
+        self.came, self.given = [], []
         self.notes = Notes()
         for frame in self.frames:
             for note in frame:
@@ -226,16 +224,6 @@ class Member:
         enough = len(signers) >= self.world.quorum(cert.vote.epoch)
         return cert.vote.is_well_formed() and rising and known and enough
 
-    def stands(self, shard):
-        commitment, chunk = shard.commitment, shard.chunk
-        total = commitment.k + commitment.m
-        if (commitment.k, commitment.m) not in self.world.configs or chunk.index >= total:
-            return False
-        if not chunk.shard or len(chunk.shard) % 2 or chunk.count != total:
-            return False
-        path = (chunk.shard, chunk.index, chunk.count, chunk.siblings)
-        return leads_to(self.world.digest_of, *path, commitment.root)
-
     def is_taken(self, message):
         if isinstance(message, Ballot):
             known = message.signer in self.world.members(message.vote.epoch)
@@ -243,7 +231,7 @@ class Member:
             return known and signed and message.vote.is_well_formed()
         if isinstance(message, Cert):
             return self.is_valid(message)
-        return isinstance(message, Shard) and self.stands(message)
+        return isinstance(message, Shard) and self.world.travel.takes(message)
 
     def is_there(self, message):
         if not isinstance(message, Shard):
@@ -257,7 +245,7 @@ class Member:
     def accept(self, message):
         """Whether the message is taken."""
         if isinstance(message, Whole):
-            message = Noted(self.world.commit(message.block), message.block)
+            message = Noted(self.world.travel.commit(message.block), message.block)
             if not self.is_there(message):
                 self.came.append(message)
             return False
@@ -272,32 +260,21 @@ class Member:
                 self.came.append(cert)
             self.came.append(Wish(cert.vote.proposal.payload))
 
-    def shown(self, commitment):
+    def came_whole(self, commitment):
+        """The first block that came whole under a commitment."""
         for entry in self.came:
             if isinstance(entry, Noted) and entry.commitment == commitment:
                 return entry.block
-        chunks = [
+        return None
+
+    def chunks_of(self, commitment):
+        return [
             entry.chunk for entry in self.came
             if isinstance(entry, Shard) and entry.commitment == commitment
-        ][:commitment.k]
-        if len(chunks) < commitment.k:
-            return None
-        if commitment not in self.shown_by:
-            self.shown_by[commitment] = self.shown_in(commitment, chunks)
-        return self.shown_by[commitment]
+        ]
 
-    def shown_in(self, commitment, chunks):
-        """The block of whose codeword these are rows, where it has the commitment."""
-        known = {chunk.index: chunk.shard for chunk in chunks}
-        if len({len(row) for row in known.values()}) > 1:
-            return None
-        laid = b"".join(coding.row_at(place, known) for place in range(commitment.k))
-        text = laid[4:4 + int.from_bytes(laid[:4], "big")]
-        block = whole(text, Reader.block)
-        if block is None or self.world.commit(block) != commitment:
-            return None
-        rows = coding.codeword(text, commitment.k, commitment.m)
-        return block if all(rows[place] == row for place, row in known.items()) else None
+    def shown(self, commitment):
+        return self.world.travel.shown(self, commitment)
 
     # What is owed.
 
@@ -377,19 +354,16 @@ class Member:
             passed = self.is_nullified_between(epoch, proposal.parent, proposal.view)
             if not led or not commitment or not passed or self.own_votes(epoch, proposal.view):
                 continue
-            if self.is_new(proposal, commitment, place) or self.is_again(proposal, commitment):
+            if self.is_new(proposal, commitment) or self.is_again(proposal, commitment):
                 return vote
         return None
 
-    def is_new(self, proposal, commitment, place):
+    def is_new(self, proposal, commitment):
         payload = proposal.payload
-        came = any(
-            isinstance(entry, Shard) and (entry.commitment, entry.chunk.index) == (payload, place)
-            for entry in self.came
-        )
         context = self.world.digest_of(self.context_over(proposal, commitment).write())
-        config = self.world.config(proposal.epoch)
-        return came and (payload.k, payload.m) == config and payload.context == context
+        fitting = (payload.k, payload.m) == self.world.config(proposal.epoch)
+        fitting = fitting and payload.context == context
+        return fitting and self.world.travel.has_part(self, proposal)
 
     def is_again(self, proposal, commitment):
         block = self.held(commitment)
@@ -450,7 +424,7 @@ class Member:
             return []
         context = Context(epoch, view, self.number, below, commitment)
         block = Block(context, self.world.digest_of(parent.write()), height, payload)
-        own = self.world.commit(block)
+        own = self.world.travel.commit(block)
         noted = [] if own in self.notes.blocks else [Noted(own, block)]
         vote = vote_on("notarize", Proposal(epoch, view, below, own))
         return noted + [Verified(epoch, view, own), vote]
@@ -462,7 +436,7 @@ class Member:
         for note in notes:
             if isinstance(note, Verified) and note.commitment in self.notes.blocks:
                 block = self.notes.blocks[note.commitment]
-                out += self.world.chunks_to(block, note.epoch, self.number)
+                out += self.world.travel.sends(block, note.epoch, self.number)
             elif isinstance(note, Vote):
                 out.append((ALL, Ballot(self.number, note)))
             elif isinstance(note, Cert):

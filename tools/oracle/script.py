@@ -88,24 +88,25 @@ def rising(fields):
     return numbers
 
 
-def header(fields):
+def header(fields, has_epochs):
     """The members, the backlog, the heights of an epoch, and how many lists follow."""
     word, numbers = fields[0], [number(field) for field in fields[1:]]
     if (word, len(numbers)) == (b"cluster", 2) and numbers[1] > 0:
         return numbers[0], numbers[1], None, 0
-    if (word, len(numbers)) == (b"epochs", 4) and min(numbers[1:]) > 0 and numbers[3] <= 64:
+    several = has_epochs and (word, len(numbers)) == (b"epochs", 4)
+    if several and min(numbers[1:]) > 0 and numbers[3] <= 64:
         return numbers
     raise ValueError()
 
 
-def spelled(text):
+def spelled(text, has_epochs):
     """The header, the lists and the lines of a text."""
     rows = text.split(b"\n")
     if rows[-1] == b"":
         rows.pop()
     head, lists, lines, at = None, [], [], 1
     try:
-        head = header(rows[0].split(b" ") if rows else [b""])
+        head = header(rows[0].split(b" ") if rows else [b""], has_epochs)
         for at in range(2, head[3] + 2):
             if at > len(rows):
                 raise ValueError()
@@ -123,10 +124,11 @@ def longest(line):
     return len(line.value[2]) if line.event == "faulty" and line.value[0] == "offer" else 0
 
 
-def parse(text):
+def parse(text, has_epochs=True):
+    """The script that a text spells. Where blocks travel whole no header is of several epochs."""
     if len(text) > LONGEST:
         raise Refused("error TooLong")
-    (total, backlog, span, _), lists, lines = spelled(text)
+    (total, backlog, span, _), lists, lines = spelled(text, has_epochs)
     if not 4 <= total <= 65535 or any(len(one) < 4 for one in lists):
         raise Refused("error 2 BadCommittee")
     named = [(at, one[-1]) for at, one in enumerate(lists, 2)]

@@ -7,15 +7,18 @@ from pathlib import Path
 
 from coding import byte_sum, sha256
 from oracle import answer
+from travel import Chunked, Uncut
 
 TABLES = Path(__file__).resolve().parents[2] / "crates/storm_tests/src/tables"
 
 
 def runs():
-    """The hash, the status, the name, the script and the text of each run, its digests written
-    out. Only the runs of one table are under SHA-256."""
+    """The hash, the way in which blocks travel, the status, the name, the script and the text of
+    each run, its digests written out. Only the runs of two tables are under SHA-256, and in one of
+    them blocks travel whole."""
     for path in sorted(TABLES.glob("*.rt")):
-        digest_of = sha256 if path.stem == "hashed" else byte_sum
+        digest_of = sha256 if path.stem in ("hashed", "whole") else byte_sum
+        travel = Uncut if path.stem == "whole" else Chunked
         for table in re.findall(r'"(== [^"]*)"', path.read_text()):
             for part in table.split("== ")[1:]:
                 head, rest = part.split("\n", 1)
@@ -23,14 +26,15 @@ def runs():
                 script, text = rest.split("--\n", 1)
                 long = re.sub(r"\*(..)", lambda digest: digest[1] * 32, text)
                 for stop in name.split(",") if "STOP" in script else [""]:
-                    yield digest_of, int(status), name, script.replace("STOP", stop), long
+                    cut = script.replace("STOP", stop)
+                    yield digest_of, travel, int(status), name, cut, long
 
 
 def main():
     count, wrong = 0, 0
-    for digest_of, status, name, script, text in runs():
+    for digest_of, travel, status, name, script, text in runs():
         count += 1
-        if answer(script.encode(), digest_of)[:2] != (status, text):
+        if answer(script.encode(), digest_of, travel)[:2] != (status, text):
             wrong += 1
             print("differs:", name)
     print("%d runs, %d differ" % (count, wrong))

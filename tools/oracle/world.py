@@ -1,12 +1,12 @@
 """A cluster that plays the lines of a script, and what is reported, as docs/RULES.md has it."""
 from typing import Any, List, NamedTuple, Optional
 
-import coding
 from formats import (
-    Ask, AskHeight, Ballot, Block, Cert, Chunk, Commitment, Context, Proposal, Shard, Whole,
-    message_of, nullify, vote_on,
+    Ask, AskHeight, Ballot, Block, Cert, Commitment, Context, Proposal, Shard, Whole, message_of,
+    nullify, vote_on,
 )
 from member import ALL, Member, Noted
+from travel import Chunked
 
 EMPTY = bytes(32)
 
@@ -30,12 +30,11 @@ class Clash(Exception):
 
 
 class World:
-    def __init__(self, script, digest_of):
-        self.script, self.digest_of = script, digest_of
+    def __init__(self, script, digest_of, travel=Chunked):
+        self.script, self.digest_of, self.travel = script, digest_of, travel(self)
         self.total, self.backlog, self.span = script.total, script.backlog, script.span
         self.faulty, self.pool, self.votes, self.entries = script.faulty, [], set(), []
         self.configs = {self.config(epoch) for epoch in range(len(script.lists))}
-        self.cuts = {}
         parent = Commitment(EMPTY, EMPTY, EMPTY, 1, 1)
         self.first = Block(Context(0, 0, 0, 0, parent), digest_of(b""), 0, b"")
         digest = digest_of(self.first.write())
@@ -63,8 +62,7 @@ class World:
         return len(self.members(epoch)) - self.faults(epoch)
 
     def config(self, epoch):
-        k = self.faults(epoch) + 1
-        return k, len(self.members(epoch)) - k
+        return self.travel.config(len(self.members(epoch)))
 
     def leader(self, epoch, view):
         members = self.members(epoch)
@@ -72,34 +70,6 @@ class World:
 
     def last_height(self, epoch):
         return None if self.span is None else (epoch + 1) * self.span
-
-    # Blocks.
-
-    def cut(self, block):
-        """A block's commitment, and its chunks."""
-        if block not in self.cuts:
-            text, (k, m) = block.write(), self.config(block.context.epoch)
-            rows = coding.codeword(text, k, m)
-            levels = coding.levels_over(self.digest_of, rows)
-            root = coding.root_of(self.digest_of, levels)
-            context = self.digest_of(block.context.write())
-            commitment = Commitment(self.digest_of(text), root, context, k, m)
-            self.cuts[block] = commitment, [
-                Chunk(row, place, k + m, coding.proof_at(levels, place))
-                for place, row in enumerate(rows)
-            ]
-        return self.cuts[block]
-
-    def commit(self, block):
-        return self.cut(block)[0]
-
-    def chunks_to(self, block, epoch, own):
-        """Each chunk to the member at its place, that of the sender's place to all instead."""
-        commitment, chunks = self.cut(block)
-        return [
-            (ALL if member == own else member, Shard(commitment, chunk))
-            for member, chunk in zip(self.members(epoch), chunks)
-        ]
 
     # A run.
 
@@ -153,8 +123,9 @@ class World:
             context = Context(0, view, self.leader(0, view), 0, self.first_commitment)
             parent = self.digest_of(self.first.write())
             block = Block(context, parent, 1, payload)
-            vote = vote_on("notarize", Proposal(0, view, 0, self.commit(block)))
-            return self.chunks_to(block, 0, line.member) + [(ALL, Ballot(line.member, vote))]
+            vote = vote_on("notarize", Proposal(0, view, 0, self.travel.commit(block)))
+            sent = self.travel.sends(block, 0, line.member)
+            return sent + [(ALL, Ballot(line.member, vote))]
         if kind in ("notarize", "finalize"):
             sent = self.pool[value[0]] if value[0] < len(self.pool) else None
             if not sent or not isinstance(sent.message, Ballot) or not sent.message.vote.proposal:
