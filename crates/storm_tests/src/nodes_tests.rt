@@ -256,7 +256,7 @@ fn push_message(text: &mut String, message: &Message) -> Result<(), Fail> {
     match message {
         Message::Shard(_, _) => write!(text, "; shard")?,
         Message::Vote(signer, _) => write!(text, "; vote {signer}")?,
-        Message::Cert(cert) => write!(text, "; cert {:?}", cert.signers)?,
+        Message::Cert(cert) => write!(text, "; cert {:?}", cert.signers.as_slice())?,
         Message::Ask(member, _) => write!(text, "; ask {member}")?,
         Message::AskHeight(member, height) => write!(text, "; ask {member} {height}")?,
         Message::Block(_) => write!(text, "; block")?,
