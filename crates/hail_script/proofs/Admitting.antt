@@ -1,11 +1,12 @@
 -- Whether a script is run, from what its parts say.
-use Rattle.std.proofs.Common.{◌≡◌, ℕ, ◌+◌, ◌<◌, ◌≤◌, ◌^◌, ◌&&◌, Bool, true, false, not, List, [], ◌∷◌, length, drop, map, Option, Some, None, Result, Ok, Err, refl, sym, ap, ◌∙◌, arith, nat_lt, nat_le, IsTrue}
+use Rattle.std.proofs.Common.{◌≡◌, ℕ, ◌+◌, ◌<◌, ◌≤◌, ◌^◌, ◌&&◌, Bool, true, false, List, [], ◌∷◌, drop, Option, Some, None, Result, Ok, Err, refl, ap, ◌∙◌, arith, nat_lt, IsTrue}
 use Rattle.std.specs.List.{list_all}
 use Rattle.std.proofs.lemmas.Bool.{and_parts}
-use Rattle.cw_types.specs.Epochs.{Epochs, is_sound}
+use Rattle.cw_types.specs.Epochs.{is_sound}
 use Rattle.cw_rules.specs.World.{Line}
+use Rattle.cw_rules.specs.declared.travel.Travel.{Travel}
 use Rattle.hail_script.specs.declared.error.RunError.{RunError}
-use Rattle.hail_script.specs.declared.error.RunError.TheVariants.{BadCommittee, OversizeBlock, Syntax, TooManyFaulty, UnknownMember}
+use Rattle.hail_script.specs.declared.error.RunError.TheVariants.{BadCommittee, OversizeBlock, TooManyFaulty, UnknownMember}
 use Rattle.hail_script.specs.declared.headers.Header.TheVariants.{Several}
 use Rattle.hail_script.specs.Admission as admission
 use Rattle.hail_script.specs.Grammar as grammar
@@ -83,16 +84,16 @@ module _ (s : Scenario) (some : 4 ≤ s.committees.total) (few : s.committees.to
       record { sized = sized; known = unknown_is None e; few = b; short = o; later = l }
 
 -- what stands behind a header of epochs
-pub several_is : (members backlog span count : ℕ) (more : List (List ℕ)) (lists : List (List ℕ))
-    (result : Result (List Line) RunError)
+pub several_is : (travel : Travel) (members backlog span count : ℕ) (more : List (List ℕ))
+    (lists : List (List ℕ)) (result : Result (List Line) RunError)
     → lists_in count more ≡ Ok lists → grammar.events_from (count + 2) (drop count more) ≡ result
-    → grammar.behind_header (Some (Several members backlog span count)) more
-    ≡ grammar.scenario_of (record {
+    → grammar.behind_header travel (Some (Several members backlog span count)) more
+    ≡ grammar.scenario_of travel (record {
       total = members;
       span = Some span;
       lists = lists;
     }) backlog result
-several_is members backlog span count more lists result l e =
+several_is travel members backlog span count more lists result l e =
     let same : 2 + count ≡ count + 2 = omega arith in
     rw (l, same, e) refl
 

@@ -1,16 +1,18 @@
 -- A text that isn't run has a cause that is tested before a run.
-use Rattle.std.proofs.Common.{◌≡◌, ℕ, zero, suc, ◌+◌, Bool, true, false, not, nat_lt, List, [], ◌∷◌, length, drop, map, take, Option, Some, None, Result, Ok, Err, refl, sym, ap, subst, ◌∙◌}
+use Rattle.std.proofs.Common.{◌≡◌, ℕ, ◌+◌, Bool, true, false, not, nat_lt, List, [], ◌∷◌, length, drop, map, take, Option, Some, None, Result, Ok, Err, subst}
 use Rattle.std.specs.Prelude.{if◌then◌else◌}
 use Rattle.std.specs.List.{list_all}
 use Rattle.cw_types.specs.Epochs.{Epochs, single}
 use Rattle.cw_rules.specs.World.{Line}
+use Rattle.cw_rules.specs.declared.travel.Travel.{Travel}
+use Rattle.cw_rules.specs.declared.travel.Travel.TheVariants.{Chunked}
 use Rattle.hail_script.specs.declared.error.RunError.{RunError}
 use Rattle.hail_script.specs.declared.error.RunError.TheVariants as error
 use Rattle.hail_script.specs.declared.headers.Header.{Header}
 use Rattle.hail_script.specs.declared.headers.Header.TheVariants.{Cluster, Several}
 use Rattle.hail_script.specs.Grammar as grammar
 use Rattle.hail_script.specs.Grammar.{IsEarly}
-use Rattle.hail_script.specs.Headers.{header_in, if_enough, list_in, lists_from, lists_in, with_list}
+use Rattle.hail_script.specs.Headers.{header_by, if_enough, list_in, lists_from, lists_in, with_list}
 use Rattle.hail_script.specs.Lanes.{Laned, head_in, laned_by, laned_of, others_in, sizes_in, told}
 use Rattle.hail_script.specs.Lines.{event_in}
 use Rattle.hail_script.specs.Pieces.{fields, lines}
@@ -53,31 +55,32 @@ enough_fine count there (Ok lists) h =
     if_fine (nat_lt there count) (error.Syntax (2 + there)) (Ok lists) tt tt
 enough_fine count there (Err e) h = h
 
-scenario_fine : (x : Epochs) (backlog : ℕ) (r : Result (List Line) RunError) → IsFine r
-    → IsFine (grammar.scenario_of x backlog r)
-scenario_fine x backlog (Ok events) h = tt
-scenario_fine x backlog (Err e) h = h
+scenario_fine : (travel : Travel) (x : Epochs) (backlog : ℕ) (r : Result (List Line) RunError)
+    → IsFine r → IsFine (grammar.scenario_of travel x backlog r)
+scenario_fine travel x backlog (Ok events) h = tt
+scenario_fine travel x backlog (Err e) h = h
 
-behind_fine : (members backlog span count : ℕ) (more : List (List ℕ))
+behind_fine : (travel : Travel) (members backlog span count : ℕ) (more : List (List ℕ))
     (r : Result (List (List ℕ)) RunError)
-    → IsFine r → IsFine (grammar.behind_lists members backlog span count more r)
-behind_fine members backlog span count more (Ok lists) h =
-    scenario_fine _ backlog (grammar.events_from (2 + count) (drop count more))
+    → IsFine r → IsFine (grammar.behind_lists travel members backlog span count more r)
+behind_fine travel members backlog span count more (Ok lists) h =
+    scenario_fine travel _ backlog (grammar.events_from (2 + count) (drop count more))
     (events_fine (2 + count) (drop count more))
-behind_fine members backlog span count more (Err e) h = h
+behind_fine travel members backlog span count more (Err e) h = h
 
-header_fine : (o : Option Header) (more : List (List ℕ)) → IsFine (grammar.behind_header o more)
-header_fine None more = tt
-header_fine (Some (Cluster members backlog)) more =
-    scenario_fine (single members) backlog (grammar.events_from 2 more) (events_fine 2 more)
-header_fine (Some (Several members backlog span count)) more =
-    behind_fine members backlog span count more (lists_in count more)
+header_fine : (travel : Travel) (o : Option Header) (more : List (List ℕ))
+    → IsFine (grammar.behind_header travel o more)
+header_fine travel None more = tt
+header_fine travel (Some (Cluster members backlog)) more =
+    scenario_fine travel (single members) backlog (grammar.events_from 2 more) (events_fine 2 more)
+header_fine travel (Some (Several members backlog span count)) more =
+    behind_fine travel members backlog span count more (lists_in count more)
     (enough_fine count (length more) (lists_from 2 (take count more))
     (lists_fine 2 (take count more)))
 
-spelled_fine : (ls : List (List ℕ)) → IsFine (grammar.spelled_in ls)
-spelled_fine [] = tt
-spelled_fine (first ∷ more) = header_fine (header_in (fields first)) more
+spelled_fine : (travel : Travel) (ls : List (List ℕ)) → IsFine (grammar.spelled_in travel ls)
+spelled_fine travel [] = tt
+spelled_fine travel (first ∷ more) = header_fine travel (header_by travel (fields first)) more
 
 refused_fine : (cause : ℕ → RunError) → ((at : ℕ) → IsEarly (cause at))
     → (o : Option ℕ) (rest : Result Scenario RunError) → IsFine rest
@@ -96,10 +99,11 @@ all_fine : (r : Result Scenario RunError) → IsFine r → IsFine (grammar.if_ad
 all_fine (Ok s) h = admitted_fine s
 all_fine (Err e) h = h
 
-pub early : (text : List ℕ) (e : RunError) → grammar.script_of text ≡ Err e → IsEarly e
-early text e h =
+pub early : (travel : Travel) (text : List ℕ) (e : RunError) → grammar.script_by travel text ≡ Err e
+    → IsEarly e
+early travel text e h =
     subst (λ (r : Result Scenario RunError). IsFine r) h
-    (all_fine (grammar.spelled text) (spelled_fine (lines text)))
+    (all_fine (grammar.spelled travel text) (spelled_fine travel (lines text)))
 
 -- ---- scripts with lanes
 
@@ -123,5 +127,5 @@ laned_early text e h =
     let plain = map (λ (row : ℕ × List ℕ). row.1) rows in
     subst (λ (r : Result Laned RunError). IsFine r) h
     (by_fine (head_in (lines text)) (map (λ (row : ℕ × List ℕ). row.0) rows) (sizes_in (lines text))
-    (grammar.if_admitted (grammar.spelled_in plain))
-    (all_fine (grammar.spelled_in plain) (spelled_fine plain)))
+    (grammar.if_admitted (grammar.spelled_in Chunked plain))
+    (all_fine (grammar.spelled_in Chunked plain) (spelled_fine Chunked plain)))

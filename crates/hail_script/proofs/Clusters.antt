@@ -1,14 +1,14 @@
 -- A script that is run makes at most f members of each epoch faulty.
-use Rattle.std.proofs.Common.{◌≡◌, ℕ, ◌+◌, ◌-◌, ◌<◌, ◌≤◌, true, List, [], length, Option, Some, None, refl, subst, arith, nat_le, IsTrue, leb-true}
+use Rattle.std.proofs.Common.{◌≡◌, ℕ, ◌-◌, ◌<◌, ◌≤◌, true, List, [], length, Option, Some, None, refl, IsTrue, leb-true}
 use Rattle.std.specs.Prelude.{count_by, slice_get, unwrap_or}
-use Rattle.std.specs.List.{AllByRecursion, list_all, list_any}
+use Rattle.std.specs.List.{AllByRecursion, list_all}
 use Rattle.std.specs.Option.{option_or}
 use Rattle.cw_types.specs.Epochs.{Epochs, list_of, members_in, rises_from, size}
 use Rattle.cw_types.specs.Numbers.{max_faults}
 use Rattle.cw_types.proofs.EpochLemmas.{each_passes}
 use Rattle.cw_rules.specs.Reached.{IsCluster}
 use Rattle.cw_rules.specs.Rules.{Rules}
-use Rattle.cw_rules.specs.World.{Line, faults}
+use Rattle.cw_rules.specs.World.{Line}
 use Rattle.hail_script.specs.Grammar as grammar
 
 -- the list of an epoch bears what each list does

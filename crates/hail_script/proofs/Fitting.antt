@@ -1,11 +1,11 @@
 -- What the lines of a script that is run bring in can be written.
-use Rattle.std.proofs.Common.{◌≡◌, ℕ, zero, suc, ◌+◌, ◌-◌, ◌*◌, ◌^◌, ◌<◌, ◌≤◌, ◌==◌, ◌&&◌, Bool, true, false, nat_le, nat_lt, List, [], ◌∷◌, length, drop, map, Option, Some, None, Result, Ok, Err, refl, sym, ap, subst, ◌∙◌, arith, ltb-true}
+use Rattle.std.proofs.Common.{◌≡◌, ℕ, ◌+◌, ◌*◌, ◌^◌, ◌<◌, ◌≤◌, ◌==◌, ◌&&◌, Bool, true, false, nat_le, nat_lt, List, [], ◌∷◌, length, drop, map, Option, Some, None, Result, Ok, Err, refl, ap, subst, arith, ltb-true}
 use Rattle.std.specs.Prelude.{bytes_eq, codes, if◌then◌else◌, option_map}
 use Rattle.std.specs.List.{AllByRecursion, list_all}
 use Rattle.std.specs.Char.{is_ascii_digit}
 use Rattle.std.specs.Str.Parse.{digits_value}
 use Rattle.std.proofs.lemmas.Bool.Decides.{nat_tests}
-use Rattle.hex.specs.Hex.{decode_of, decode_pairs, digit_or_error, hex_digit_value, pair_value, value_at, ◌>>=◌}
+use Rattle.hex.specs.Hex.{decode_of, decode_pairs, pair_value, value_at, ◌>>=◌}
 use Rattle.hex.specs.declared.error.FromHexError.{FromHexError}
 use Rattle.hex.specs.declared.error.FromHexError.TheVariants.{OddLength}
 use Rattle.cw_types.specs.Epochs.{Epochs, single}
@@ -13,12 +13,14 @@ use Rattle.cw_rules.specs.Coding.{AreBytes}
 use Rattle.cw_rules.specs.Telling.{FitsLine}
 use Rattle.cw_rules.specs.World.{Ask, Cut, Do, Fault, Faulty, Finalize_of, Line, Notarize_of, Nullify_of, Offer, Raw, Restart, Silent}
 use Rattle.cw_rules.specs.World as rule
+use Rattle.cw_rules.specs.declared.travel.Travel.{Travel}
+use Rattle.cw_rules.specs.declared.travel.Travel.TheVariants.{Chunked}
 use Rattle.hail_script.specs.declared.error.RunError.{RunError}
 use Rattle.hail_script.specs.declared.error.RunError.TheVariants as error
 use Rattle.hail_script.specs.declared.headers.Header.{Header}
 use Rattle.hail_script.specs.declared.headers.Header.TheVariants.{Cluster, Several}
 use Rattle.hail_script.specs.Grammar as grammar
-use Rattle.hail_script.specs.Headers.{header_in, lists_in}
+use Rattle.hail_script.specs.Headers.{header_by, lists_in}
 use Rattle.hail_script.specs.Lanes.{Laned, head_in, laned_by, laned_of, others_in, sizes_in, told}
 use Rattle.hail_script.specs.Lines as lines
 use Rattle.hail_script.specs.Lines.{asking, event_in}
@@ -248,29 +250,31 @@ abbrev RawScript : Result Scenario RunError → Type 0
 RawScript (Ok s) = AllByRecursion IsRaw s.lines
 RawScript (Err e) = Unit {0}
 
-scenario_raw : (x : Epochs) (backlog : ℕ) (events : Result (List Line) RunError) → RawLines events
-    → RawScript (grammar.scenario_of x backlog events)
-scenario_raw x backlog (Ok events) h = h
-scenario_raw x backlog (Err e) h = tt
+scenario_raw : (travel : Travel) (x : Epochs) (backlog : ℕ)
+    (events : Result (List Line) RunError)
+    → RawLines events → RawScript (grammar.scenario_of travel x backlog events)
+scenario_raw travel x backlog (Ok events) h = h
+scenario_raw travel x backlog (Err e) h = tt
 
-behind_raw : (members backlog span count : ℕ) (more : List (List ℕ))
+behind_raw : (travel : Travel) (members backlog span count : ℕ) (more : List (List ℕ))
     (lists : Result (List (List ℕ)) RunError)
-    → RawScript (grammar.behind_lists members backlog span count more lists)
-behind_raw members backlog span count more (Ok lists) =
-    scenario_raw _ backlog (grammar.events_from (2 + count) (drop count more))
+    → RawScript (grammar.behind_lists travel members backlog span count more lists)
+behind_raw travel members backlog span count more (Ok lists) =
+    scenario_raw travel _ backlog (grammar.events_from (2 + count) (drop count more))
     (events_raw (2 + count) (drop count more))
-behind_raw members backlog span count more (Err e) = tt
+behind_raw travel members backlog span count more (Err e) = tt
 
-header_raw : (o : Option Header) (more : List (List ℕ)) → RawScript (grammar.behind_header o more)
-header_raw None more = tt
-header_raw (Some (Cluster members backlog)) more =
-    scenario_raw (single members) backlog (grammar.events_from 2 more) (events_raw 2 more)
-header_raw (Some (Several members backlog span count)) more =
-    behind_raw members backlog span count more (lists_in count more)
+header_raw : (travel : Travel) (o : Option Header) (more : List (List ℕ))
+    → RawScript (grammar.behind_header travel o more)
+header_raw travel None more = tt
+header_raw travel (Some (Cluster members backlog)) more =
+    scenario_raw travel (single members) backlog (grammar.events_from 2 more) (events_raw 2 more)
+header_raw travel (Some (Several members backlog span count)) more =
+    behind_raw travel members backlog span count more (lists_in count more)
 
-spelled_raw : (ls : List (List ℕ)) → RawScript (grammar.spelled_in ls)
-spelled_raw [] = tt
-spelled_raw (first ∷ more) = header_raw (header_in (fields first)) more
+spelled_raw : (travel : Travel) (ls : List (List ℕ)) → RawScript (grammar.spelled_in travel ls)
+spelled_raw travel [] = tt
+spelled_raw travel (first ∷ more) = header_raw travel (header_by travel (fields first)) more
 
 -- ---- payloads are short
 
@@ -325,34 +329,41 @@ none_refused cause (Some at) rest s h = absurd (let no : Err (cause at) ≡ Ok s
 ok_same : (s t : Scenario) → (let r : Result Scenario RunError = Ok s in r) ≡ Ok t → s ≡ t
 ok_same s t h = cc
 
-admitted_fits : (s t : Scenario) → grammar.admitted s ≡ Ok t → AllByRecursion IsRaw s.lines
-    → AllByRecursion FitsLine t.lines
-admitted_fits s t h raw =
+-- a script that is run is the one that was spelled, and no line has too long a payload
+pub admitted_parts : (s t : Scenario) → grammar.admitted s ≡ Ok t
+    → (s ≡ t) × (grammar.oversize_at s ≡ None)
+admitted_parts s t h =
     let sized = if_run _ error.BadCommittee _ t h in
     let known = none_refused error.UnknownMember (grammar.unknown_at s) _ t sized in
     let few = if_run _ error.TooManyFaulty _ t known.1 in
     let short = none_refused error.OversizeBlock (grammar.oversize_at s) (Ok s) t few in
-    let same : s ≡ t = ok_same s t short.1 in
-    subst (λ (x : Scenario). AllByRecursion FitsLine x.lines) same
-    (lines_fit (grammar.first_event s.committees) s.lines short.0 raw)
+    (ok_same s t short.1, short.0)
+
+admitted_fits : (s t : Scenario) → grammar.admitted s ≡ Ok t → AllByRecursion IsRaw s.lines
+    → AllByRecursion FitsLine t.lines
+admitted_fits s t h raw =
+    let parts = admitted_parts s t h in
+    subst (λ (x : Scenario). AllByRecursion FitsLine x.lines) parts.0
+    (lines_fit (grammar.first_event s.committees) s.lines parts.1 raw)
 
 all_fit : (r : Result Scenario RunError) (t : Scenario) → grammar.if_admitted r ≡ Ok t → RawScript r
     → AllByRecursion FitsLine t.lines
 all_fit (Ok s) t h raw = admitted_fits s t h raw
 all_fit (Err e) t h raw = absurd (let no : Err e ≡ Ok t = h in cc)
 
-pub fits : (text : List ℕ) (s : Scenario) → grammar.script_of text ≡ Ok s
+pub fits : (travel : Travel) (text : List ℕ) (s : Scenario) → grammar.script_by travel text ≡ Ok s
     → AllByRecursion FitsLine s.lines
-fits text s h = all_fit (grammar.spelled text) s h (spelled_raw (pieces.lines text))
+fits travel text s h =
+    all_fit (grammar.spelled travel text) s h (spelled_raw travel (pieces.lines text))
 
 -- ---- a script with lanes
 
-script_by : (head : ℕ) (numbers sizes : List ℕ) (r : Result Scenario RunError) (x : Laned)
+pub of_script : (head : ℕ) (numbers sizes : List ℕ) (r : Result Scenario RunError) (x : Laned)
     → laned_by head numbers sizes r ≡ Ok x → r ≡ Ok x.script
-script_by head numbers sizes (Ok s) x h =
+of_script head numbers sizes (Ok s) x h =
     let same : record { script = s; numbers = drop head numbers; sizes = sizes } ≡ x = cc in
     ap (λ (y : Laned). let r : Result Scenario RunError = Ok y.script in r) same
-script_by head numbers sizes (Err e) x h =
+of_script head numbers sizes (Err e) x h =
     absurd (let no : Err (told numbers e) ≡ Ok x = h in cc)
 
 pub laned_fits : (text : List ℕ) (x : Laned) → laned_of text ≡ Ok x
@@ -360,7 +371,7 @@ pub laned_fits : (text : List ℕ) (x : Laned) → laned_of text ≡ Ok x
 laned_fits text x h =
     let rows = others_in (pieces.lines text) in
     let plain = map (λ (row : ℕ × List ℕ). row.1) rows in
-    all_fit (grammar.spelled_in plain) x.script
-    (script_by (head_in (pieces.lines text)) (map (λ (row : ℕ × List ℕ). row.0) rows)
-    (sizes_in (pieces.lines text)) (grammar.if_admitted (grammar.spelled_in plain)) x h)
-    (spelled_raw plain)
+    all_fit (grammar.spelled_in Chunked plain) x.script
+    (of_script (head_in (pieces.lines text)) (map (λ (row : ℕ × List ℕ). row.0) rows)
+    (sizes_in (pieces.lines text)) (grammar.if_admitted (grammar.spelled_in Chunked plain)) x h)
+    (spelled_raw Chunked plain)

@@ -7,3 +7,4 @@ pub mod Admitting
 pub mod Clusters
 pub mod Causes
 pub mod Fitting
+pub mod Travels

@@ -1,5 +1,5 @@
 -- Items that are read one behind the other.
-use Rattle.std.proofs.Common.{◌≡◌, ℕ, List, [], ◌∷◌, ◌++◌, Option, Some, None, refl, Result, Ok, Err}
+use Rattle.std.proofs.Common.{List, ◌++◌, Option, Some, None, Result, Ok, Err}
 use Rattle.hail_script.specs.declared.error.RunError.{RunError}
 
 -- some before the others, if all are read

@@ -5,11 +5,13 @@ use Rattle.std.specs.Option.{option_map_or, option_or}
 use Rattle.cw_types.specs.Epochs.{Epochs, single}
 use Rattle.cw_types.specs.Numbers.{max_faults}
 use Rattle.cw_rules.specs.World.{Ask, Cut, Do, Fault, Faulty, Line, Offer, Propose, faults, line_member}
+use Rattle.cw_rules.specs.declared.travel.Travel.{Travel}
+use Rattle.cw_rules.specs.declared.travel.Travel.TheVariants.{Chunked, Uncut}
 use Rattle.hail_script.specs.declared.error.RunError.{RunError}
 use Rattle.hail_script.specs.declared.error.RunError.TheVariants.{BadCommittee, HashClash, NoMemory, OversizeBlock, Syntax, TooManyFaulty, UnknownMember}
 use Rattle.hail_script.specs.declared.headers.Header.{Header}
 use Rattle.hail_script.specs.declared.headers.Header.TheVariants.{Cluster, Several}
-use Rattle.hail_script.specs.Headers.{header_in, lists_in}
+use Rattle.hail_script.specs.Headers.{header_by, lists_in}
 use Rattle.hail_script.specs.Lines.{event_in}
 use Rattle.hail_script.specs.Pieces.{fields, lines}
 use Rattle.hail_script.specs.Scenario.{Scenario}
@@ -27,36 +29,37 @@ abbrev pub events_from : ℕ → List (List ℕ) → Result (List Line) RunError
 events_from at [] = Ok []
 events_from at (line ∷ more) = with_event (event_in (fields line)) at (events_from (at + 1) more)
 
--- the committees and the backlog before the events, if they are events
-abbrev pub scenario_of : Epochs → ℕ → Result (List Line) RunError → Result Scenario RunError
-scenario_of committees backlog (Ok events) =
-    Ok (record { committees = committees; backlog = backlog; lines = events })
-scenario_of committees backlog (Err e) = Err e
+-- the way of blocks, the committees and the backlog before the events, if they are events
+abbrev pub scenario_of : Travel → Epochs → ℕ → Result (List Line) RunError
+    → Result Scenario RunError
+scenario_of travel committees backlog (Ok events) =
+    Ok (record { travel = travel; committees = committees; backlog = backlog; lines = events })
+scenario_of travel committees backlog (Err e) = Err e
 
 -- the lists of a header of epochs, and the events behind them
-abbrev pub behind_lists : ℕ → ℕ → ℕ → ℕ → List (List ℕ) → Result (List (List ℕ)) RunError
-    → Result Scenario RunError
-behind_lists members backlog span count more (Ok lists) =
-    scenario_of (record { total = members; span = Some span; lists = lists }) backlog
+abbrev pub behind_lists : Travel → ℕ → ℕ → ℕ → ℕ → List (List ℕ)
+    → Result (List (List ℕ)) RunError → Result Scenario RunError
+behind_lists travel members backlog span count more (Ok lists) =
+    scenario_of travel (record { total = members; span = Some span; lists = lists }) backlog
     (events_from (2 + count) (drop count more))
-behind_lists members backlog span count more (Err e) = Err e
+behind_lists travel members backlog span count more (Err e) = Err e
 
 -- what stands behind line 1
-abbrev pub behind_header : Option Header → List (List ℕ) → Result Scenario RunError
-behind_header None more = Err (Syntax 1)
-behind_header (Some (Cluster members backlog)) more =
-    scenario_of (single members) backlog (events_from 2 more)
-behind_header (Some (Several members backlog span count)) more =
-    behind_lists members backlog span count more (lists_in count more)
+abbrev pub behind_header : Travel → Option Header → List (List ℕ) → Result Scenario RunError
+behind_header travel None more = Err (Syntax 1)
+behind_header travel (Some (Cluster members backlog)) more =
+    scenario_of travel (single members) backlog (events_from 2 more)
+behind_header travel (Some (Several members backlog span count)) more =
+    behind_lists travel members backlog span count more (lists_in count more)
 
 -- line 1 is the header, with the lists of its epochs behind it, and each further line is an event
-abbrev pub spelled_in : List (List ℕ) → Result Scenario RunError
-spelled_in [] = Err (Syntax 1)
-spelled_in (first ∷ more) = behind_header (header_in (fields first)) more
+abbrev pub spelled_in : Travel → List (List ℕ) → Result Scenario RunError
+spelled_in travel [] = Err (Syntax 1)
+spelled_in travel (first ∷ more) = behind_header travel (header_by travel (fields first)) more
 
 -- the script that a text spells, or the first line outside the grammar
-abbrev pub spelled : List ℕ → Result Scenario RunError
-spelled text = spelled_in (lines text)
+abbrev pub spelled : Travel → List ℕ → Result Scenario RunError
+spelled travel text = spelled_in travel (lines text)
 
 -- ---- which scripts are run
 
@@ -148,9 +151,17 @@ abbrev pub if_admitted : Result Scenario RunError → Result Scenario RunError
 if_admitted (Ok s) = admitted s
 if_admitted (Err e) = Err e
 
--- the script that a text spells, or the first cause for which it isn't run
+-- the script that a text spells, or the first cause for which it isn't run, where blocks travel so
+abbrev pub script_by : Travel → List ℕ → Result Scenario RunError
+script_by travel text = if_admitted (spelled travel text)
+
+-- the same of blocks that travel in chunks
 abbrev pub script_of : List ℕ → Result Scenario RunError
-script_of text = if_admitted (spelled text)
+script_of text = script_by Chunked text
+
+-- and of blocks that travel whole
+abbrev pub whole_script_of : List ℕ → Result Scenario RunError
+whole_script_of text = script_by Uncut text
 
 -- a cause that is tested before a run
 abbrev pub IsEarly : RunError → Type 0

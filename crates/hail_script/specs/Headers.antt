@@ -2,6 +2,8 @@
 -- each.
 use Rattle.std.specs.Prelude.{[], ℕ, ◌&&◌, ◌+◌, ◌∷◌, ◌≤◌, Err, List, None, Ok, Option, Result, Some, bytes_eq, codes, if◌then◌else◌, length, nat_le, nat_lt, take}
 use Rattle.cw_types.specs.Epochs.{rises_from}
+use Rattle.cw_rules.specs.declared.travel.Travel.{Travel}
+use Rattle.cw_rules.specs.declared.travel.Travel.TheVariants.{Chunked, Uncut}
 use Rattle.hail_script.specs.declared.headers.Header.{Header}
 use Rattle.hail_script.specs.declared.headers.Header.TheVariants.{Cluster, Several}
 use Rattle.hail_script.specs.Pieces.{fields, number, numbers}
@@ -33,6 +35,16 @@ header_in (word ∷ members ∷ backlog ∷ span ∷ count ∷ []) =
     if bytes_eq word (codes "epochs")
     then several_of (number members) (number backlog) (number span) (number count) else None
 header_in _ = None
+
+-- a header of one epoch without end
+abbrev pub one_epoch : Option Header → Option Header
+one_epoch (Some (Cluster members backlog)) = Some (Cluster members backlog)
+one_epoch _ = None
+
+-- the same, where blocks travel so: those that travel whole know one epoch
+abbrev pub header_by : Travel → List (List ℕ) → Option Header
+header_by Chunked parts = header_in parts
+header_by Uncut parts = one_epoch (header_in parts)
 
 -- numbers that rise strictly, of which there is one
 abbrev pub rising : Option (List ℕ) → Option (List ℕ)

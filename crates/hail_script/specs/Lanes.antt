@@ -1,9 +1,10 @@
 -- Scripts with lanes: lanes of events that run beside each other, behind events that come before
--- all of them.
-use Rattle.std.specs.Prelude.{[], ℕ, ◌&&◌, ◌+◌, ◌++◌, ◌-◌, ◌∷◌, Bool, Err, List, None, Ok, Option, Result, Some, bytes_eq, codes, drop, if◌then◌else◌, length, map, nat_lt, slice_get, slice_index, take}
+-- all of them. Their blocks travel in chunks.
+use Rattle.std.specs.Prelude.{[], ℕ, ◌&&◌, ◌+◌, ◌++◌, ◌-◌, ◌∷◌, Bool, Err, List, Ok, Option, Result, Some, bytes_eq, codes, drop, if◌then◌else◌, length, map, nat_lt, slice_get, slice_index, take}
 use Rattle.std.specs.List.{enumerate_from}
 use Rattle.std.specs.Option.{option_map_or}
 use Rattle.cw_rules.specs.World.{Line}
+use Rattle.cw_rules.specs.declared.travel.Travel.TheVariants.{Chunked}
 use Rattle.hail_script.specs.declared.error.RunError.{RunError}
 use Rattle.hail_script.specs.declared.error.RunError.TheVariants.{OversizeBlock, Syntax, UnknownMember}
 use Rattle.hail_script.specs.declared.headers.Header.{Header}
@@ -87,7 +88,7 @@ laned_by head numbers sizes (Err e) = Err (told numbers e)
 abbrev pub laned_in : List (List ℕ) → Result Laned RunError
 laned_in text =
     laned_by (head_in text) (map (λ row. row.0) (others_in text)) (sizes_in text)
-    (if_admitted (spelled_in (map (λ row. row.1) (others_in text))))
+    (if_admitted (spelled_in Chunked (map (λ row. row.1) (others_in text))))
 
 -- the script with lanes that a text spells, or the first cause for which it isn't run
 abbrev pub laned_of : List ℕ → Result Laned RunError

@@ -11,6 +11,7 @@ ghost use Rattle.hail_script.specs.declared.error.RunError.TheVariants as error;
 use crate::error::RunError;
 use crate::pieces::{number_of, numbers_of, pieces_of};
 use cw_base::{Items, NoMemory};
+use cw_rules::Travel;
 use std::alloc::Global;
 
 /// Line 1 of a script.
@@ -78,6 +79,32 @@ pub(crate) fn header_of(alloc: Global, line: &[u8]) -> Result<Option<Header>, No
 {
     let parts = pieces_of(alloc, line, b' ')?;
     Ok(header_in(&parts))
+}
+
+fn one_epoch(header: Option<Header>) -> Option<Header>
+    ensures value { result ≡ headers.one_epoch header }
+    ensures sound { IfSome header headers.IsHeader → IfSome result headers.IsHeader }
+{
+    match header {
+        Some(Header::Cluster(members, backlog)) => Some(Header::Cluster(members, backlog)),
+        _ => None,
+    }
+}
+
+/// The header that a line is, where blocks travel so.
+pub(crate) fn header_by(
+    alloc: Global,
+    travel: Travel,
+    line: &[u8],
+) -> Result<Option<Header>, NoMemory>
+    ensures value { IfOk result (λ header. header ≡ headers.header_by travel (fields line.now)) }
+    ensures sound { IfOk result (λ header. IfSome header headers.IsHeader) }
+{
+    let header = header_of(alloc, line)?;
+    match travel {
+        Travel::Chunked => Ok(header),
+        Travel::Uncut => Ok(one_epoch(header)),
+    }
 }
 
 // Whether numbers rise.

@@ -3,6 +3,7 @@
 
 ghost use Rattle.std.specs.Prelude.{◌≡◌, ◌≤◌, ◌<◌, ◌+◌, ◌-◌, ◌⊎◌, ◌^◌, IfOk, IfErr, drop, length};
 ghost use Rattle.std.specs.Prelude.{map};
+ghost use Rattle.cw_rules.specs.declared.travel.Travel.TheVariants.{Chunked};
 ghost use Rattle.hail_script.specs.Lanes as lanes;
 ghost use Rattle.hail_script.specs.declared.error.RunError.TheVariants as error;
 
@@ -11,6 +12,7 @@ use crate::headers::{Header, header_of};
 use crate::pieces::{pieces_of, without_empty_end};
 use crate::script::Script;
 use cw_base::{Items, NoMemory};
+use cw_rules::Travel;
 use std::alloc::Global;
 use std::marker::Model;
 
@@ -29,11 +31,15 @@ pub struct LaneScript {
 }
 
 impl Model for LaneScript {
+    ghost use Rattle.std.specs.Prelude.{◌≡◌};
+    ghost use Rattle.cw_rules.specs.declared.travel.Travel.TheVariants.{Chunked};
     ghost use Rattle.hail_script.specs.Lanes.{Laned};
 
     ghost Value = { Laned };
 
     ghost view = { λ s. record { script = s.script; numbers = s.numbers; sizes = s.sizes } };
+
+    ghost invariant = { λ s. s.script.travel ≡ Chunked };
 }
 
 impl LaneScript {
@@ -52,7 +58,7 @@ impl LaneScript {
             lines,
             sizes,
         } = part(alloc, lines, head)?;
-        match Script::read(alloc, &lines) {
+        match Script::read(alloc, Travel::Chunked, &lines) {
             Ok(script) => Ok(LaneScript {
                 script,
                 numbers: copied(alloc, behind(&numbers, head as usize))?,
@@ -67,6 +73,13 @@ impl LaneScript {
         ensures { result.now ≡ self.now.script }
     {
         &self.script
+    }
+
+    /// A law: its blocks travel in chunks.
+    pub fn travels_in_chunks(&self)
+        ensures { self.now.script.travel ≡ Chunked }
+    {
+        let _script = &self.script;
     }
 
     /// The number of each event line in the text.

@@ -13,21 +13,24 @@ ghost use Rattle.hail_script.specs.declared.headers.Header.TheVariants as header
 
 use crate::error::RunError;
 use crate::event::EventLine;
-use crate::headers::{Header, header_of, lists_of};
+use crate::headers::{Header, header_by, lists_of};
 use crate::parse::{
     are_sized, bears_all, events_of, first_oversize, first_strange, first_unknown, marks_of,
     narrow_all,
 };
 use crate::pieces::{pieces_of, without_empty_end};
 use cw_base::{Items, NoMemory};
+use cw_rules::Travel;
 use cw_types::Committees;
 use cw_types::laws::committees_are_sound;
 use std::alloc::Global;
 use std::marker::Model;
 
-/// A script that is run: committees of a cluster with its backlog, and event lines.
+/// A script that is run: how the blocks of a cluster travel, its committees with its backlog, and
+/// event lines.
 #[derive(Debug, Drop)]
 pub struct Script {
+    travel: Travel,
     committees: Committees,
     backlog: u64,
     // the number of the first event line
@@ -44,6 +47,7 @@ impl Model for Script {
     ghost Value = { Scenario };
 
     ghost view = { λ s. record {
+      travel = s.travel;
       committees = s.committees;
       backlog = s.backlog;
       lines = map line_of s.events;
@@ -51,7 +55,12 @@ impl Model for Script {
 
     ghost invariant = { λ s. (1 ≤ s.backlog) × (s.first ≡ first_event s.committees) × (s.first ≤ 66)
         × IsRunnable
-        (record { committees = s.committees; backlog = s.backlog; lines = map line_of s.events }) };
+        (record {
+          travel = s.travel;
+          committees = s.committees;
+          backlog = s.backlog;
+          lines = map line_of s.events;
+        }) };
 }
 
 // The committees with these members.
@@ -83,38 +92,63 @@ fn behind<'a, 'b>(lines: &'b [&'a [u8]], count: usize) -> &'b [&'a [u8]]
 }
 
 impl Script {
-    /// The script that a text spells, or the first cause for which it isn't run.
+    /// The script that a text spells, of blocks that travel in chunks, or the first cause for which
+    /// it isn't run.
     pub fn parse(alloc: Global, script: &[u8]) -> Result<Script, RunError>
         ensures ok { IfOk result (λ read. grammar.script_of script.now ≡ Ok read) }
         ensures err { IfErr result (λ e. (e ≡ error.NoMemory)
             ⊎ (grammar.script_of script.now ≡ Err e)) }
     {
+        Script::parse_by(alloc, Travel::Chunked, script)
+    }
+
+    /// The same, of blocks that travel whole: its header is one epoch's.
+    pub fn parse_whole(alloc: Global, script: &[u8]) -> Result<Script, RunError>
+        ensures ok { IfOk result (λ read. grammar.whole_script_of script.now ≡ Ok read) }
+        ensures err { IfErr result (λ e. (e ≡ error.NoMemory)
+            ⊎ (grammar.whole_script_of script.now ≡ Err e)) }
+    {
+        Script::parse_by(alloc, Travel::Uncut, script)
+    }
+
+    /// The script that a text spells, of blocks that travel so, or the first cause for which it
+    /// isn't run.
+    pub fn parse_by(alloc: Global, travel: Travel, script: &[u8]) -> Result<Script, RunError>
+        ensures ok { IfOk result (λ read. grammar.script_by travel script.now ≡ Ok read) }
+        ensures err { IfErr result (λ e. (e ≡ error.NoMemory)
+            ⊎ (grammar.script_by travel script.now ≡ Err e)) }
+        ensures way { IfOk result (λ read. read.travel ≡ travel) }
+    {
         let pieces = pieces_of(alloc, script, b'\n')?;
-        match Script::read(alloc, without_empty_end(&pieces)) {
+        match Script::read(alloc, travel, without_empty_end(&pieces)) {
             Ok(script) => Ok(script),
             Err(error) => Err(error),
         }
     }
 
-    /// The script that lines make, or the first cause for which it isn't run.
-    pub(crate) fn read(alloc: Global, lines: &[&[u8]]) -> Result<Script, RunError>
+    /// The script that lines make, of blocks that travel so, or the first cause for which it isn't
+    /// run.
+    pub(crate) fn read(alloc: Global, travel: Travel, lines: &[&[u8]]) -> Result<Script, RunError>
         ensures ok { IfOk result
-            (λ read. grammar.if_admitted (grammar.spelled_in (map (λ line. line.now) lines.now))
-            ≡ Ok read) }
+            (λ read. grammar.if_admitted
+            (grammar.spelled_in travel (map (λ line. line.now) lines.now)) ≡ Ok read) }
         ensures err { IfErr result (λ e. (e ≡ error.NoMemory)
-            ⊎ (grammar.if_admitted (grammar.spelled_in (map (λ line. line.now) lines.now))
-            ≡ Err e)) }
+            ⊎ (grammar.if_admitted
+            (grammar.spelled_in travel (map (λ line. line.now) lines.now)) ≡ Err e)) }
+        ensures way { IfOk result (λ read. read.travel ≡ travel) }
     {
         let Some((first, more)) = lines.split_first() else {
             return Err(RunError::Syntax(1));
         };
-        let Some(header) = header_of(alloc, first)? else {
+        let Some(header) = header_by(alloc, travel, first)? else {
             return Err(RunError::Syntax(1));
         };
         match header {
-            Header::Cluster(members, backlog) => Script::cluster(alloc, members, backlog, more),
+            Header::Cluster(members, backlog) => {
+                Script::cluster(alloc, travel, members, backlog, more)
+            }
             Header::Several(members, backlog, span, count) => {
-                Script::several(alloc, members, backlog, span, count, more)
+                Script::several(alloc, travel, members, backlog, span, count, more)
             }
         }
     }
@@ -122,6 +156,7 @@ impl Script {
     // One epoch without end, and the events of the lines behind line 1.
     fn cluster(
         alloc: Global,
+        travel: Travel,
         members: u64,
         backlog: u64,
         lines: &[&[u8]],
@@ -129,12 +164,13 @@ impl Script {
         requires { 1 ≤ backlog }
         ensures ok { IfOk result
             (λ read. grammar.if_admitted
-            (grammar.behind_header (Some (header.Cluster members backlog))
+            (grammar.behind_header travel (Some (header.Cluster members backlog))
             (map (λ line. line.now) lines.now)) ≡ Ok read) }
         ensures err { IfErr result (λ e. (e ≡ error.NoMemory)
             ⊎ (grammar.if_admitted
-            (grammar.behind_header (Some (header.Cluster members backlog))
+            (grammar.behind_header travel (Some (header.Cluster members backlog))
             (map (λ line. line.now) lines.now)) ≡ Err e)) }
+        ensures way { IfOk result (λ read. read.travel ≡ travel) }
     {
         let events = match events_of(alloc, 2, lines) {
             Ok(events) => events,
@@ -144,12 +180,13 @@ impl Script {
             return Err(RunError::BadCommittee);
         }
         let committees = Committees::single(alloc, members as u16)?;
-        Script::admit(alloc, committees, backlog, 2, events)
+        Script::admit(alloc, travel, committees, backlog, 2, events)
     }
 
     // Epochs with their lists behind line 1, and the events of the lines behind these.
     fn several(
         alloc: Global,
+        travel: Travel,
         members: u64,
         backlog: u64,
         span: u64,
@@ -162,12 +199,13 @@ impl Script {
         requires few { count ≤ 64 }
         ensures ok { IfOk result
             (λ read. grammar.if_admitted
-            (grammar.behind_header (Some (header.Several members backlog span count))
+            (grammar.behind_header travel (Some (header.Several members backlog span count))
             (map (λ line. line.now) lines.now)) ≡ Ok read) }
         ensures err { IfErr result (λ e. (e ≡ error.NoMemory)
             ⊎ (grammar.if_admitted
-            (grammar.behind_header (Some (header.Several members backlog span count))
+            (grammar.behind_header travel (Some (header.Several members backlog span count))
             (map (λ line. line.now) lines.now)) ≡ Err e)) }
+        ensures way { IfOk result (λ read. read.travel ≡ travel) }
     {
         let lists = match lists_of(alloc, count as usize, lines) {
             Ok(lists) => lists,
@@ -177,12 +215,13 @@ impl Script {
             Ok(events) => events,
             Err(error) => return Err(error),
         };
-        Script::admit_epochs(alloc, members, backlog, span, lists, events)
+        Script::admit_epochs(alloc, travel, members, backlog, span, lists, events)
     }
 
     // Epochs with these lists of members and these events, where they are run.
     fn admit_epochs(
         alloc: Global,
+        travel: Travel,
         members: u64,
         backlog: u64,
         span: u64,
@@ -198,6 +237,7 @@ impl Script {
         ensures ok { IfOk result
             (λ read. grammar.admitted
             (record {
+              travel = travel;
               committees = record { total = members; span = Some span; lists = lists };
               backlog = backlog;
               lines = map line_of events;
@@ -205,10 +245,12 @@ impl Script {
         ensures err { IfErr result (λ e. (e ≡ error.NoMemory)
             ⊎ (grammar.admitted
             (record {
+              travel = travel;
               committees = record { total = members; span = Some span; lists = lists };
               backlog = backlog;
               lines = map line_of events;
             }) ≡ Err e)) }
+        ensures way { IfOk result (λ read. read.travel ≡ travel) }
     {
         if !are_sized(members, lists.as_slice()) {
             return Err(RunError::BadCommittee);
@@ -218,12 +260,13 @@ impl Script {
         }
         let count = lists.len() as u64;
         let committees = committees_of(alloc, members, span, lists.as_slice())?;
-        Script::admit(alloc, committees, backlog, count + 2, events)
+        Script::admit(alloc, travel, committees, backlog, count + 2, events)
     }
 
     // A script of the grammar, where it is run. Its first event line has that number.
     fn admit(
         alloc: Global,
+        travel: Travel,
         committees: Committees,
         backlog: u64,
         first: u64,
@@ -236,12 +279,21 @@ impl Script {
         requires later { IsTrue (list_all grammar.is_later (map line_of events)) }
         ensures ok { IfOk result
             (λ read. grammar.admitted
-            (record { committees = committees; backlog = backlog; lines = map line_of events })
-            ≡ Ok read) }
+            (record {
+              travel = travel;
+              committees = committees;
+              backlog = backlog;
+              lines = map line_of events;
+            }) ≡ Ok read) }
         ensures err { IfErr result (λ e. (e ≡ error.NoMemory)
             ⊎ (grammar.admitted
-            (record { committees = committees; backlog = backlog; lines = map line_of events })
-            ≡ Err e)) }
+            (record {
+              travel = travel;
+              committees = committees;
+              backlog = backlog;
+              lines = map line_of events;
+            }) ≡ Err e)) }
+        ensures way { IfOk result (λ read. read.travel ≡ travel) }
     {
         let lines = events.as_slice();
         if let Some(line) = first_unknown(committees.total(), first, lines) {
@@ -255,11 +307,19 @@ impl Script {
             return Err(RunError::OversizeBlock(line));
         }
         Ok(Script {
+            travel,
             committees,
             backlog,
             first,
             events,
         })
+    }
+
+    /// How blocks travel. Takes no memory.
+    pub fn travel(&self) -> Travel
+        ensures { result ≡ self.now.travel }
+    {
+        self.travel
     }
 
     /// How many members the cluster has. Takes no memory.

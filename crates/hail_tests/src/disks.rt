@@ -4,7 +4,7 @@ ghost use Rattle.std.specs.Prelude.{false};
 
 use cw_base::{Digest32, Hasher, Sequential};
 use cw_types::{AcceptAll, Committees, StepOut, Verifier, Vote};
-use node::{Node, NodeError};
+use node::{Member, NodeError, Way};
 use node_disk::{Disk, MemoryDisk};
 use std::alloc::Global;
 use std::test::Fail;
@@ -28,21 +28,21 @@ pub(crate) fn crashed(mut disk: MemoryDisk) -> Result<MemoryDisk, Fail> {
     }
 }
 
-/// A node, and what its start gave.
-pub(crate) type Started<H> = (Node<H, MemoryDisk, AcceptAll>, StepOut);
+/// A member, and what its start gave.
+pub(crate) type Started<H, W> = (Member<H, MemoryDisk, AcceptAll, W>, StepOut);
 
 /// What a start with backlog 3 answers on a disk, which it hands back where it refuses.
-pub(crate) fn start<H: Hasher<Digest = Digest32>, R: Threads + Sync>(
+pub(crate) fn start<H: Hasher<Digest = Digest32>, W: Way, R: Threads + Sync>(
     rt: &R,
     alloc: Global,
     id: u16,
     committees: Committees,
     disk: MemoryDisk,
-) -> Result<Result<Started<H>, (MemoryDisk, NodeError)>, Fail> {
+) -> Result<Result<Started<H, W>, (MemoryDisk, NodeError)>, Fail> {
     if id >= committees.total() {
         return Err("a member of the cluster".into());
     }
-    Ok(Node::start(rt, alloc, id, committees, 3, disk, AcceptAll, &Sequential))
+    Ok(Member::start(rt, alloc, id, committees, 3, disk, AcceptAll, &Sequential))
 }
 
 /// By whom no vote was signed.

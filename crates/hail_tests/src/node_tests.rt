@@ -9,6 +9,7 @@ mod play;
 mod said;
 mod scenes;
 mod tree;
+mod whole_tests;
 
 use copies::first_uncopied;
 use play::{first_changed, first_wrong, found_after};

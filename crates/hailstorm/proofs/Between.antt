@@ -13,25 +13,18 @@ use Rattle.hail_script.specs.declared.error.RunError.TheVariants as error
 use Rattle.hail_script.specs.declared.event.EventLine.{EventLine}
 use Rattle.hail_script.specs.Events.{line_of}
 use Rattle.hail_script.specs.Lanes.{Laned, laned_of, lanes, rows}
-use Rattle.hailstorm.specs.declared.blocks.KnownBlocks.{KnownBlocks}
-use Rattle.hailstorm.specs.declared.place.Place.{Place}
-use Rattle.hailstorm.specs.declared.report.Report.{Report}
-use Rattle.hailstorm.specs.Lanes.{IsLanesCause, IsLanesReport, lane_at, left, lines_of, played, without_next}
-use Rattle.hailstorm.specs.Places.{SitAs, WorkBy, rules_of}
-use Rattle.hailstorm.specs.Runs.{GoesBy, opened}
-use Rattle.hailstorm.specs.Seats.{Seat}
-use Rattle.hailstorm.specs.Turns.{IsBetween, IsOver, IsReportOf, IsTurnBy, IsTurnOf, IsTurning, Turning, between, told_order}
-use Rattle.hailstorm.proofs.Known.{count_lines}
-use Rattle.hailstorm.proofs.Laned.{TellsApart, count_rows, lanes_clashed, lanes_reported}
-use Rattle.hailstorm.proofs.Merging.{fewer_left, left_more}
-
-pub none_when : {X : Type 0} (o : Option X) → ((x : X) → o ≡ Some x → ⊥) → o ≡ None
-none_when None never = refl
-none_when (Some x) never = absurd (never x refl)
-
-pub none_unless : {X : Type 0} (o : Option X) → is_some o ≡ false → o ≡ None
-none_unless None e = refl
-none_unless (Some x) e = absurd (let no : true ≡ false = e in cc)
+use Rattle.hail_world.specs.declared.blocks.KnownBlocks.{KnownBlocks}
+use Rattle.hail_world.specs.declared.place.Place.{Place}
+use Rattle.hail_world.specs.declared.report.Report.{Report}
+use Rattle.hail_world.specs.Played.{IsReportOf, lines_of}
+use Rattle.hailstorm.specs.Lanes.{IsLanesCause, IsLanesReport, lane_at, left, played, without_next}
+use Rattle.hail_world.specs.Places.{SitAs, WorkBy, rules_of}
+use Rattle.hail_world.specs.Runs.{GoesBy, opened}
+use Rattle.hail_world.specs.Seats.{Seat}
+use Rattle.hailstorm.specs.Turns.{IsBetween, IsOver, IsTurnBy, IsTurnOf, IsTurning, Turning, between, told_order}
+use Rattle.hail_world.proofs.Known.{count_lines}
+use Rattle.hail_world.proofs.Laned.{TellsApart, count_rows, lanes_clashed, lanes_reported}
+use Rattle.hail_world.proofs.Merging.{fewer_left, left_more}
 
 pub rows_many : (x : Laned) (es : List EventLine) → map line_of es ≡ x.script.lines
     → length (rows x) ≡ length es

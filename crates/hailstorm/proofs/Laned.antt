@@ -21,19 +21,20 @@ use Rattle.hail_script.specs.Lanes.{Laned, cut, laned_of, lanes, prefix, rows}
 use Rattle.hail_script.proofs.Causes.{laned_early}
 use Rattle.hail_script.specs.declared.error.RunError.{RunError}
 use Rattle.hail_script.specs.declared.error.RunError.TheVariants as error
-use Rattle.hailstorm.specs.declared.blocks.KnownBlocks.{KnownBlocks}
-use Rattle.hailstorm.specs.declared.place.Place.{Place}
-use Rattle.hailstorm.specs.declared.report.Report.{Report}
-use Rattle.hailstorm.specs.Lanes.{IsLanesCause, IsLanesClash, IsLanesReport, as_plain, but_last, lane_at, left, lines_of, merged, played, renumbered, script_with, turns_of, whole, without_next}
-use Rattle.hailstorm.specs.Places.{WorkBy, rules_of}
+use Rattle.hail_world.specs.declared.blocks.KnownBlocks.{KnownBlocks}
+use Rattle.hail_world.specs.declared.place.Place.{Place}
+use Rattle.hailstorm.specs.Reports.{Report}
+use Rattle.hail_world.specs.Played.{Begin, HavePlayed, IsReportOf, entries_of, lines_of}
+use Rattle.hailstorm.specs.Lanes.{IsLanesCause, IsLanesClash, IsLanesReport, as_plain, but_last, lane_at, left, merged, played, renumbered, script_with, turns_of, whole, without_next}
+use Rattle.hail_world.specs.Places.{WorkBy, rules_of}
 use Rattle.hailstorm.specs.Reports.{IsClashOf, IsRun}
-use Rattle.hailstorm.specs.Runs.{IsStopped, chain_from, opened}
-use Rattle.hailstorm.specs.Seats.{Seat}
-use Rattle.hailstorm.specs.Turns.{Begin, HasAdvanced, HasMet, HavePlayed, IsBetween, IsOver, IsReportOf, between, entries_of}
+use Rattle.hail_world.specs.Runs.{IsStopped, chain_from, opened}
+use Rattle.hail_world.specs.Seats.{Seat}
+use Rattle.hailstorm.specs.Turns.{HasAdvanced, HasMet, IsBetween, IsOver, between}
 use Rattle.hailstorm.proofs.Merging.{all_turned, between_next, cursor_lane, cursor_next, cut_whole, left_more, merged_any, merged_length, merged_more, rows_count, rows_get, rows_lines, turns_next}
-use Rattle.hailstorm.proofs.Reporting.{openers}
-use Rattle.hailstorm.proofs.Running.{four}
-use Rattle.hailstorm.proofs.Turned.{clash_behind, lines_more}
+use Rattle.hail_world.proofs.Reporting.{openers}
+use Rattle.hail_world.proofs.Running.{four}
+use Rattle.hail_world.proofs.Turned.{clash_behind, lines_more}
 
 -- ---- the lines of a script, in another order
 
@@ -176,7 +177,8 @@ module _ (P : Line → Type 0) where
   all_merged lanes (k ∷ order) p =
       let next = all_next lanes k p in
       let more = all_merged (without_next lanes k) order next.1 in
-      (all_joined (take 1 (lane_at lanes k)) (merged (without_next lanes k) order) next.0 more.0, more.1)
+      (all_joined (take 1 (lane_at lanes k)) (merged (without_next lanes k) order) next.0 more.0,
+      more.1)
 
   all_rows : (a : List (ℕ × Line)) → AllByRecursion P (lines_of a) → AllByRecursion Holds a
   all_rows [] p = tt
@@ -470,7 +472,8 @@ pub record TellsApart (r : Rules) (lines : List Line) : Type 0 where
 
 pub tells_apart : (hash : List ℕ → Digest32) (x : Laned) → TellsBlocks (rules_of hash x.script)
     → IsCluster (rules_of hash x.script) x.script.lines → AllByRecursion FitsLine x.script.lines
-    → ((r : Rules) (script : List Line) (earlier later : List ℕ) → TellsBlocks r → IsCluster r script
+    → ((r : Rules) (script : List Line) (earlier later : List ℕ) → TellsBlocks r → IsCluster r
+    script
     → AllByRecursion FitsLine script → outcome r (opening r script) script ≡ Clashes earlier later
     → earlier ≢ later)
     → TellsApart (rules_of hash x.script) x.script.lines

@@ -5,19 +5,19 @@ use Rattle.cw_base.specs.declared.hash.Digest32.{Digest32}
 use Rattle.hail_script.specs.declared.error.RunError.{RunError}
 use Rattle.hail_script.specs.declared.error.RunError.TheVariants as error
 use Rattle.hail_script.specs.Lanes.{laned_of}
-use Rattle.hailstorm.specs.declared.frame.Early.{Early}
-use Rattle.hailstorm.specs.declared.frame.Early.TheVariants as early
-use Rattle.hailstorm.specs.declared.frame.Exit.{Exit}
-use Rattle.hailstorm.specs.declared.frame.Exit.TheVariants.{Clash, Done, Refused}
-use Rattle.hailstorm.specs.declared.report.Report.{Report}
+use Rattle.hail_report.specs.declared.exit.Early.{Early}
+use Rattle.hail_report.specs.declared.exit.Early.TheVariants as early
+use Rattle.hail_report.specs.declared.exit.Exit.{Exit}
+use Rattle.hail_report.specs.declared.exit.Exit.TheVariants.{Clash, Done, Refused}
+use Rattle.hailstorm.specs.Reports.{Report}
 use Rattle.hailstorm.specs.Lanes.{IsLanesCause, IsLanesReport}
 use Rattle.hailstorm.specs.LanesProgram.{EndsLanes, IsLanesDue, LanesAnswers, LanesMeans, clash_lines, lanes_text}
 use Rattle.hailstorm.specs.LanesProgram.IsLanesDue.{OfClash, OfExcess, OfRefusal, OfRun}
 use Rattle.hailstorm.specs.LanesProgram.LanesAnswers.{Ran, Stopped}
-use Rattle.hailstorm.specs.Programs.{EndsEarly, Finishes, HasFault, IsShort, IsSilent, early_of}
-use Rattle.hailstorm.specs.Reading.{HasRead, script_limit}
-use Rattle.hailstorm.specs.Text.{error_line}
-use Rattle.hailstorm.proofs.Meaning.{all_read}
+use Rattle.hail_report.specs.Exits.{EndsEarly, Finishes, HasFault, IsShort, IsSilent, early_of}
+use Rattle.hail_report.specs.Reading.{HasRead, script_limit}
+use Rattle.hail_report.specs.Text.{error_line}
+use Rattle.hail_world.proofs.Meaning.{all_read}
 
 -- ---- the ends of a program
 

@@ -12,16 +12,17 @@ use Rattle.hail_script.specs.declared.error.RunError.{RunError}
 use Rattle.hail_script.specs.declared.event.EventLine.{EventLine}
 use Rattle.hail_script.specs.Events.{line_of}
 use Rattle.hail_script.specs.Lanes.{Laned, cut, lanes, prefix, rows}
-use Rattle.hailstorm.specs.declared.blocks.KnownBlocks.{KnownBlocks}
-use Rattle.hailstorm.specs.declared.place.Place.{Place}
-use Rattle.hailstorm.specs.Lanes.{lines_of, played}
-use Rattle.hailstorm.specs.Places.{WorkBy, rules_of}
-use Rattle.hailstorm.specs.Runs.{IsStopped, opened}
-use Rattle.hailstorm.specs.Seats.{Seat}
-use Rattle.hailstorm.specs.Turns.{Begin, HavePlayed, IsBetween, between}
-use Rattle.hailstorm.proofs.Known.{count_lines}
+use Rattle.hail_world.specs.declared.blocks.KnownBlocks.{KnownBlocks}
+use Rattle.hail_world.specs.declared.place.Place.{Place}
+use Rattle.hail_world.specs.Played.{Begin, HavePlayed, lines_of}
+use Rattle.hailstorm.specs.Lanes.{played}
+use Rattle.hail_world.specs.Places.{WorkBy, rules_of}
+use Rattle.hail_world.specs.Runs.{IsStopped, opened}
+use Rattle.hail_world.specs.Seats.{Seat}
+use Rattle.hailstorm.specs.Turns.{IsBetween, between}
+use Rattle.hail_world.proofs.Known.{count_lines}
 use Rattle.hailstorm.proofs.Laned.{all_lines, lines_joined, row_at}
-use Rattle.hailstorm.proofs.Turned.{lines_more, stopped_behind}
+use Rattle.hail_world.proofs.Turned.{lines_more, stopped_behind}
 
 -- a place below so many lines is one of a line
 pub within_lines : (es : List EventLine) (lines : List Line) (i n : ℕ) → map line_of es ≡ lines

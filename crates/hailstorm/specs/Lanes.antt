@@ -11,9 +11,9 @@ use Rattle.hail_script.specs.declared.error.RunError.TheVariants as error
 use Rattle.hail_script.specs.Grammar.{first_event}
 use Rattle.hail_script.specs.Lanes.{Laned, laned_of, lanes, prefix}
 use Rattle.hail_script.specs.Scenario.{Scenario}
-use Rattle.hailstorm.specs.declared.report.Report.{Report}
-use Rattle.hailstorm.specs.Places.{rules_of}
-use Rattle.hailstorm.specs.Reports.{IsClashOf, IsRun, honest_numbers}
+use Rattle.hail_world.specs.Places.{rules_of}
+use Rattle.hail_world.specs.Played.{lines_of}
+use Rattle.hailstorm.specs.Reports.{Report, IsClashOf, IsRun, honest_numbers}
 
 -- ---- lanes merged in an order
 
@@ -49,9 +49,6 @@ played x order = prefix x ++ merged (lanes x) order
 -- these lines, and behind them what is left of the lanes
 abbrev pub whole : Laned → List ℕ → List (ℕ × Line)
 whole x order = played x order ++ flat_map (λ lane. lane) (left (lanes x) order)
-
-abbrev pub lines_of : List (ℕ × Line) → List Line
-lines_of rows = map (λ row. row.1) rows
 
 -- the plain script of these lines
 abbrev pub script_with : Laned → List (ℕ × Line) → Scenario

@@ -6,15 +6,15 @@ use Rattle.cw_base.specs.declared.hash.Digest32.{Digest32}
 use Rattle.hail_script.specs.declared.error.RunError.{RunError}
 use Rattle.hail_script.specs.declared.error.RunError.TheVariants as error
 use Rattle.hail_script.specs.Lanes.{laned_of}
-use Rattle.hailstorm.specs.declared.frame.Exit.{Exit}
-use Rattle.hailstorm.specs.declared.frame.Exit.TheVariants.{Clash, Done, NoMemory, ReadFault, Refused, TooLong, Usage, WriteFault}
-use Rattle.hailstorm.specs.declared.report.Report.{Report}
+use Rattle.hail_report.specs.declared.exit.Exit.{Exit}
+use Rattle.hail_report.specs.declared.exit.Exit.TheVariants.{Clash, Done, NoMemory, ReadFault, Refused, TooLong, Usage, WriteFault}
+use Rattle.hailstorm.specs.Reports.{Report}
 use Rattle.hailstorm.specs.Lanes.{IsLanesCause, IsLanesClash, IsLanesReport}
-use Rattle.hailstorm.specs.Programs.{Finishes, IsShort}
-use Rattle.hailstorm.specs.Reading.{HasRead, script_limit}
+use Rattle.hail_report.specs.Exits.{Finishes, IsShort}
+use Rattle.hail_report.specs.Reading.{HasRead, script_limit}
 use Rattle.hailstorm.specs.Reports.{shown_report}
-use Rattle.hailstorm.specs.Text.{error_line, line, report_text, too_long_line}
-use Rattle.hailstorm.specs.Writing.{WritesFront}
+use Rattle.hail_report.specs.Text.{error_line, line, report_text, too_long_line}
+use Rattle.hail_report.specs.Writing.{WritesFront}
 
 -- the answer where there are words
 abbrev pub lanes_usage_line : List ℕ

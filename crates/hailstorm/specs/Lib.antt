@@ -1,16 +1,4 @@
-pub mod Seats
-pub mod Pool
-pub mod Votes
-pub mod Places
-pub mod Offers
-pub mod Honest
 pub mod Reports
-pub mod Runs
-pub mod Known
-pub mod Storm
-pub mod Reading
-pub mod Writing
-pub mod Text
 pub mod Programs
 pub mod Headline
 pub mod Lanes

@@ -6,12 +6,11 @@ ghost use Rattle.hailstorm.specs.Lanes.{IsLanesCause, IsLanesReport};
 ghost use Rattle.hailstorm.specs.Turns.{IsTurnOf};
 
 use crate::reply::Reply;
-use crate::report::Report;
 use crate::turning::Turning;
-use crate::world::World;
+use crate::world::{Report, World};
 use cw_base::{Digest32, Gate, Hasher, Items, NoMemory, Strategy};
 use cw_rules::clash_laws;
-use cw_rules_coded::coded_tells;
+use cw_rules_coded::ruled_tells;
 use hail_script::{LaneScript, RunError, script_laws};
 use mailbox::{Mailbox, Session, Turn};
 use std::alloc::Global;
@@ -80,7 +79,7 @@ fn open_text<H: Hasher<Digest = Digest32>, R: Threads + Sync, S: Strategy>(
 {
     clash_laws();
     script_laws();
-    coded_tells::<H>();
+    ruled_tells::<H>();
     let script = match LaneScript::parse(alloc, text) {
         Ok(script) => script,
         Err(error) => return Err(error),

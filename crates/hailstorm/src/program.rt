@@ -3,20 +3,18 @@
 ghost use Rattle.std.specs.Prelude.{◌≡◌, ◌≢◌, List, ℕ, None, Some, IfOk, map, string_bytes};
 ghost use Rattle.std.specs.Prelude.{Option, option_map};
 ghost use Rattle.hailstorm.specs.Headline as headline;
-ghost use Rattle.hailstorm.specs.Headline.{Means, MeansUsage, Answers, IsRunOf};
-ghost use Rattle.hailstorm.specs.Programs.{HasFault, HasRun, IsSilent, RunsOn};
+ghost use Rattle.hailstorm.specs.Headline.{Means, MeansUsage, Answers, IsRunOf, text_of};
+ghost use Rattle.hail_world.specs.Headline.{EndsWith};
+ghost use Rattle.hail_report.specs.Exits.{HasFault, HasRun, IsSilent, RunsOn};
 ghost use Rattle.hailstorm.specs.Reports.{shown_report};
-ghost use Rattle.hailstorm.specs.Storm as spec;
+ghost use Rattle.hail_report.specs.Storm as spec;
 
-use crate::frame::{Exit, early_of, end_early, finish, run_source};
-use crate::laws::storm_laws;
-use crate::report::{Ran, Report};
-use crate::seat::Seat;
-use crate::storm::{storm_script, summary_text};
-use crate::text::report_text;
-use crate::world::World;
+use crate::world::{Report, World};
 use cw_base::{Digest32, Hasher, NoMemory, Sink, Source, Strategy};
+use hail_report::{Exit, early_of, end_early, finish, storm_laws, storm_script, summary_of_parts};
 use hail_script::number_of;
+use hail_world::run_input;
+use node::Chunked;
 use std::alloc::Global;
 use std::thread::Threads;
 
@@ -80,7 +78,7 @@ pub fn run_program<
 {
     match asked_of(words) {
         None => finish(output, USAGE, Exit::Usage),
-        Some(None) => run_input(rt, alloc, input, output, strategy),
+        Some(None) => run_input::<H, Chunked, R, I, O, S>(rt, alloc, input, output, strategy),
         Some(Some(number)) => run_storm(rt, alloc, number, output, strategy),
     }
 }
@@ -106,28 +104,6 @@ fn asked_storm(word: &[u8], field: &[u8]) -> Option<Option<u64>>
     Some(Some(number))
 }
 
-// Reads a script, runs it, and writes its report or why there is none.
-fn run_input<H: Hasher<Digest = Digest32>, R: Threads + Sync, I: Source, O: Sink, S: Strategy>(
-    rt: &R,
-    alloc: Global,
-    input: &mut I,
-    output: &mut O,
-    strategy: &S,
-) -> Exit<Report<H>>
-    ensures answer { (text : List ℕ) → I.left input.old ≡ Some text
-        → Means H.digest_of text (I.left input.new) (O.held output.old) (O.held output.new) result }
-    ensures run { HasRun (IsRunOf H.digest_of None) (O.held output.old) (O.held output.new)
-        result }
-    ensures fault { HasFault (I.faults input.old) (I.faults input.new) (O.faults output.old)
-        (O.faults output.new) result }
-    ensures silent { IsSilent (O.held output.old) (O.held output.new) result }
-{
-    match run_source::<H, R, I, S>(rt, alloc, input, strategy) {
-        Ok(Ran { script: _, report }) => end_with::<H, O>(alloc, None, output, report),
-        Err(early) => end_early(alloc, output, early),
-    }
-}
-
 // Runs the script of a storm, and writes a summary.
 fn run_storm<H: Hasher<Digest = Digest32>, R: Threads + Sync, O: Sink, S: Strategy>(
     rt: &R,
@@ -149,38 +125,41 @@ fn run_storm<H: Hasher<Digest = Digest32>, R: Threads + Sync, O: Sink, S: Strate
         return Exit::NoMemory;
     };
     match World::run::<H, R, S>(rt, alloc, &script, strategy) {
-        Ok(report) => end_with::<H, O>(alloc, Some(number), output, report),
+        Ok(report) => end_with::<H, O>(alloc, number, output, report),
         Err(error) => end_early(alloc, output, early_of(error)),
     }
 }
 
-// Writes the text of a report, or its summary, and ends so.
+// Writes the summary of a report, and ends so.
 fn end_with<H: Hasher<Digest = Digest32>, O: Sink>(
     alloc: Global,
-    storm: Option<u64>,
+    number: u64,
     output: &mut O,
     report: Report<H>,
 ) -> Exit<Report<H>>
-    ensures { headline.EndsWith H.digest_of storm (O.held output.old) (O.held output.new)
-        (O.faults output.old) (O.faults output.new) report result }
+    ensures { EndsWith (text_of H.digest_of (Some number)) (O.held output.old)
+        (O.held output.new) (O.faults output.old) (O.faults output.new) report result }
 {
-    match text_of::<H>(alloc, storm, &report) {
+    match summary_text::<H>(alloc, number, &report) {
         Ok(text) => finish(output, &text, Exit::Done(report)),
         Err(_) => Exit::NoMemory,
     }
 }
 
-// The text of a report, or its summary.
-fn text_of<H: Hasher<Digest = Digest32>>(
+// The summary of a report.
+fn summary_text<H: Hasher<Digest = Digest32>>(
     alloc: Global,
-    storm: Option<u64>,
+    number: u64,
     report: &Report<H>,
 ) -> Result<Vec<u8>, NoMemory>
     ensures { IfOk result
-        (λ text. text.items ≡ headline.text_of H.digest_of storm (shown_report report.now)) }
+        (λ text. text.items ≡ text_of H.digest_of (Some number) (shown_report report.now)) }
 {
-    match storm {
-        None => report_text::<H>(alloc, report),
-        Some(number) => summary_text::<H>(alloc, number, report),
-    }
+    summary_of_parts::<H>(
+        alloc,
+        number,
+        report.opening.as_slice(),
+        report.steps.as_slice(),
+        report.chain.as_slice(),
+    )
 }

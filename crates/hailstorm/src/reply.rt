@@ -3,9 +3,8 @@
 ghost use Rattle.std.specs.Prelude.{◌≡◌, ◌⊎◌, true, IfOk};
 ghost use Rattle.hail_script.specs.declared.error.RunError.TheVariants as cause;
 
-use crate::report::{Entry, Sent};
-use crate::world::copy_bytes;
 use cw_base::{Items, NoMemory};
+use hail_report::{Entry, Sent};
 use hail_script::RunError;
 use std::alloc::Global;
 
@@ -36,6 +35,12 @@ pub(crate) fn copy_entry(alloc: Global, entry: &Entry) -> Result<Entry, NoMemory
         sent,
         handed: Items::from_vec(handed),
     })
+}
+
+fn copy_bytes(alloc: Global, bytes: &[u8]) -> Result<Items<u8>, NoMemory>
+    ensures { IfOk result (λ copy. copy ≡ bytes.now) }
+{
+    Ok(Items::from_vec(Vec::from_slice(alloc, bytes)?))
 }
 
 fn copy_error(alloc: Global, error: &RunError) -> Result<RunError, NoMemory>

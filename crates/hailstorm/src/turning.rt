@@ -8,28 +8,25 @@ ghost use Rattle.cw_rules.specs.Rules.{Rules};
 ghost use Rattle.cw_rules.specs.World.{Line, World as RulesWorld, run};
 ghost use Rattle.hail_script.specs.declared.error.RunError.TheVariants as cause;
 ghost use Rattle.hail_script.specs.Lanes.{Laned, laned_of, lanes as lanes_in, prefix, rows};
-ghost use Rattle.hailstorm.specs.Lanes.{IsLanesCause, IsLanesReport, lane_at, left, lines_of};
-ghost use Rattle.hailstorm.specs.Known.{Knows};
+ghost use Rattle.hail_world.specs.Played.{HavePlayed, IsReportOf, lines_of};
+ghost use Rattle.hailstorm.specs.Lanes.{IsLanesCause, IsLanesReport, lane_at, left};
+ghost use Rattle.hail_world.specs.Known.{Knows};
 ghost use Rattle.hailstorm.specs.Lanes.{played};
-ghost use Rattle.hailstorm.specs.Places.{SitAs, WorkBy, rules_of};
-ghost use Rattle.hailstorm.specs.Runs.{GoesBy, IsStopped, opened};
-ghost use Rattle.hailstorm.specs.Turns.{HasAdvanced, HavePlayed, IsBetween, IsOver, IsReportOf};
+ghost use Rattle.hail_world.specs.Places.{SitAs, WorkBy, rules_of};
+ghost use Rattle.hail_world.specs.Runs.{GoesBy, IsStopped, opened};
+ghost use Rattle.hailstorm.specs.Turns.{HasAdvanced, IsBetween, IsOver};
 ghost use Rattle.hailstorm.specs.Turns.{IsTurnOf, told_order};
 
-use crate::blocks::KnownBlocks;
-use crate::chain::chain_of;
 use crate::cursors::{cursor_at, cursors_of, first_left, number_of};
-use crate::line_turn::turn_line;
-use crate::place::Place;
-use crate::pool::Pool;
 use crate::reply::{Reply, copy_entry, errors_again, law_of_equality};
-use crate::report::{Entry, Report};
-use crate::seat::Seat;
-use crate::world::{close_all, open_all, standings};
+use crate::world::Report;
 use cw_base::{Digest32, Hasher, Items, NoMemory, Strategy};
 use cw_rules::{clash_laws, report_laws};
-use cw_rules_coded::coded_tells;
+use cw_rules_coded::ruled_tells;
+use hail_report::{Entry, Pool};
 use hail_script::{LaneScript, RunError, script_laws};
+use hail_world::{KnownBlocks, Place, Seat, open_all, report_of, turn_line};
+use node::Chunked;
 use std::alloc::Global;
 use std::marker::Model;
 use std::mem;
@@ -41,7 +38,7 @@ pub(crate) struct Turning<H: Hasher<Digest = Digest32>> {
     script: LaneScript,
     // of each member, whether some line makes it faulty
     faulty: Vec<bool>,
-    places: Vec<Place<Seat<H>>>,
+    places: Vec<Place<Seat<H, Chunked>>>,
     known: KnownBlocks,
     opening: Items<Entry>,
     pool: Pool,
@@ -77,10 +74,13 @@ impl<H: Hasher<Digest = Digest32>> Turning<H> {
             (λ e. IsStopped (rules_of H.digest_of script.script) (opened H.digest_of script.script)
             (lines_of (prefix script)) e) }
     {
+        script.travels_in_chunks();
         let plain = script.script();
         let count = plain.lines().len();
         let faulty = plain.faulty(alloc)?;
-        let (opening, mut places) = open_all::<H, R, S>(rt, alloc, plain, &faulty, strategy)?;
+        let (opening, mut places) = open_all::<H, Chunked, R, S>(
+            rt, alloc, plain, &faulty, strategy,
+        )?;
         let (before, cursors) = cursors_of(alloc, script.sizes(), count)?;
         let mut known = KnownBlocks::new::<H>(alloc)?;
         let pool = match play_before::<H, R, S>(
@@ -212,7 +212,7 @@ impl<H: Hasher<Digest = Digest32>> Turning<H> {
         report_laws();
         clash_laws();
         script_laws();
-        coded_tells::<H>();
+        ruled_tells::<H>();
         self.script.script().is_cluster();
         let _backlog = self.script.script().backlog();
         let _lines = self.script.script().lines();
@@ -228,7 +228,7 @@ impl<H: Hasher<Digest = Digest32>> Turning<H> {
             stopped,
         } = self;
         match stopped {
-            None => match report_of::<H>(alloc, places, opening, pool) {
+            None => match report_of::<H, Chunked>(alloc, places, opening, pool.into_entries()) {
                 Ok(report) => Ok((order, report)),
                 Err(NoMemory) => Err((Items::new(alloc), RunError::NoMemory)),
             },
@@ -264,7 +264,7 @@ fn play_before<H: Hasher<Digest = Digest32>, R: Threads + Sync, S: Strategy>(
     alloc: Global,
     script: &LaneScript,
     faulty: &[bool],
-    places: &mut [Place<Seat<H>>],
+    places: &mut [Place<Seat<H, Chunked>>],
     known: &mut KnownBlocks,
     before: usize,
     strategy: &S,
@@ -285,13 +285,14 @@ fn play_before<H: Hasher<Digest = Digest32>, R: Threads + Sync, S: Strategy>(
         (λ e. IsStopped (rules_of H.digest_of script.now.script)
         (opened H.digest_of script.now.script) (lines_of (take before (rows script.now))) e) }
 {
+    script.travels_in_chunks();
     let plain = script.script();
     plain.is_cluster();
     let lines = plain.lines();
     let mut pool = Pool::new(alloc);
     for index in 0..before {
         let number = number_of(script.numbers(), index);
-        let entry = match turn_line::<H, R, S>(
+        let entry = match turn_line::<H, Chunked, R, S>(
             rt,
             alloc,
             plain,
@@ -317,7 +318,7 @@ fn advance<H: Hasher<Digest = Digest32>, R: Threads + Sync, S: Strategy>(
     alloc: Global,
     script: &LaneScript,
     faulty: &[bool],
-    places: &mut [Place<Seat<H>>],
+    places: &mut [Place<Seat<H, Chunked>>],
     known: &mut KnownBlocks,
     pool: &mut Pool,
     cursors: &mut [(usize, usize)],
@@ -340,12 +341,13 @@ fn advance<H: Hasher<Digest = Digest32>, R: Threads + Sync, S: Strategy>(
     ensures twice { IfOk result (λ r. r.0 ≡ r.1) }
     ensures err { IfErr result (λ e. IsOver H.digest_of script.now order.new e) }
 {
+    script.travels_in_chunks();
     let plain = script.script();
     plain.is_cluster();
     let line = &plain.lines()[from];
     let number = number_of(script.numbers(), from);
     order.push(lane)?;
-    let entry = match turn_line::<H, R, S>(
+    let entry = match turn_line::<H, Chunked, R, S>(
         rt, alloc, plain, faulty, places, known, pool, number, line, strategy,
     ) {
         Ok(entry) => entry,
@@ -365,30 +367,4 @@ fn put_entry(alloc: Global, pool: &mut Pool, entry: Entry) -> Result<(), NoMemor
     let entries = mem::replace(pool, Pool::new(alloc));
     *pool = entries.with(alloc, entry)?;
     Ok(())
-}
-
-// The report that the parts of a cluster give behind their last line.
-fn report_of<H: Hasher<Digest = Digest32>>(
-    alloc: Global,
-    places: Vec<Place<Seat<H>>>,
-    opening: Items<Entry>,
-    pool: Pool,
-) -> Result<Report<H>, NoMemory>
-    requires { length places.items < 2 ^ 16 }
-    ensures { (r : Rules) (w : RulesWorld) → GoesBy H.digest_of r → WorkBy r 0 places.items
-        → SitAs places.items w.members
-        → IfOk result (λ report. IsReportOf r w opening pool report) }
-{
-    let steps = pool.into_entries();
-    let acked = standings::<H>(alloc, &places)?;
-    let chain = chain_of::<H>(alloc, &places, opening.as_slice(), steps.as_slice())?;
-    let (disks, nodes) = close_all::<H>(alloc, places)?;
-    Ok(Report {
-        opening,
-        steps,
-        acked,
-        disks,
-        nodes,
-        chain,
-    })
 }

@@ -27,7 +27,7 @@ use Rattle.node.proofs.Arrivals.{count_behind, map_behind, parts_row, parts_whol
 use Rattle.node.specs.Accepting.{with_row}
 use Rattle.node.specs.declared.arrival.Arrival.{Arrival}
 use Rattle.node.specs.declared.arrival.Shown.{Shown}
-use Rattle.node.specs.Holding.{Holding, came_of, count_rows, parts_of, rules_of, shown_under, state_of}
+use Rattle.node.specs.Holding.{Holding, came_of, count_rows, cut_rules, parts_of, rules_of, shown_under, state_of}
 use Rattle.node.specs.Standing.{HasCome, IsSameBeside, PartsStand}
 
 -- the ballots with one more are those of what came with one more
@@ -72,7 +72,15 @@ valid_signers r signed s h =
 module _ {D A : Type 0} (hash : List ℕ → Digest32) (accepts : A → Block → Block → Bool) where
   same_beside : (h : Holding D A) → IsSameBeside h h
   same_beside h =
-      record { id = refl; epochs = refl; backlog = refl; app = refl; store = refl; log = refl }
+      record {
+        travel = refl;
+        id = refl;
+        epochs = refl;
+        backlog = refl;
+        app = refl;
+        store = refl;
+        log = refl;
+      }
 
   -- nothing came
   pub came_nothing : (h : Holding D A) → PartsStand hash accepts h
@@ -106,6 +114,7 @@ module _ {D A : Type 0} (hash : List ℕ → Digest32) (accepts : A → Block �
         taken = same;
         same =
             record {
+              travel = refl;
               id = refl;
               epochs = refl;
               backlog = refl;
@@ -141,6 +150,7 @@ module _ {D A : Type 0} (hash : List ℕ → Digest32) (accepts : A → Block �
         taken = refl;
         same =
             record {
+              travel = refl;
               id = refl;
               epochs = refl;
               backlog = refl;
@@ -155,7 +165,7 @@ module _ {D A : Type 0} (hash : List ℕ → Digest32) (accepts : A → Block �
       → list_any (same_part (Whole b)) (came_of h).parts ≡ false
       → voter.IsTallyOf hash h.tally (rules_of hash accepts h)
       (voter.with_came (state_of h) (take_part (came_of h) true (Whole b)))
-      → shards.StandsFor hash h.shards (rules_of hash accepts h)
+      → shards.StandsFor hash h.shards (cut_rules hash accepts h)
       (take_part (came_of h) true (Whole b))
       → new
       ≡ record h {
@@ -179,7 +189,8 @@ module _ {D A : Type 0} (hash : List ℕ → Digest32) (accepts : A → Block �
               (voter.with_came (state_of h) came))
               (sym same) tally;
           shards =
-              subst (λ (came : Came). shards.StandsFor hash h.shards (rules_of hash accepts h) came)
+              subst
+              (λ (came : Came). shards.StandsFor hash h.shards (cut_rules hash accepts h) came)
               (sym same) chunks;
           rows = count_behind h.arrivals (w ∷ []) ∙ (add-zero (count_rows h.arrivals) ∙ s.rows);
           named =
@@ -193,6 +204,7 @@ module _ {D A : Type 0} (hash : List ℕ → Digest32) (accepts : A → Block �
         taken = same;
         same =
             record {
+              travel = refl;
               id = refl;
               epochs = refl;
               backlog = refl;
@@ -226,7 +238,7 @@ module _ {D A : Type 0} (hash : List ℕ → Digest32) (accepts : A → Block �
       (voter.with_came (state_of h) (take_part (came_of h) true (Row c x)))
       → shards.StandsFor hash
       (record { epochs = h.shards.epochs; kept = kept.with_chunk h.shards.kept c x })
-      (rules_of hash accepts h) (take_part (came_of h) true (Row c x))
+      (cut_rules hash accepts h) (take_part (came_of h) true (Row c x))
       → ((d : Commitment) → 0 < d.config.minimum
       → shown (kept.rules_of hash h.shards.epochs)
       (kept.came_of (kept.with_chunk h.shards.kept c x)) d
@@ -258,7 +270,7 @@ module _ {D A : Type 0} (hash : List ℕ → Digest32) (accepts : A → Block �
           shards =
               subst
               (λ (came : Came). shards.StandsFor hash
-              (record { epochs = h.shards.epochs; kept = more }) (rules_of hash accepts h) came)
+              (record { epochs = h.shards.epochs; kept = more }) (cut_rules hash accepts h) came)
               (sym same) chunks;
           rows =
               count_behind h.arrivals (w ∷ [])
@@ -274,6 +286,7 @@ module _ {D A : Type 0} (hash : List ℕ → Digest32) (accepts : A → Block �
         taken = same;
         same =
             record {
+              travel = refl;
               id = refl;
               epochs = refl;
               backlog = refl;

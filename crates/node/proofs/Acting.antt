@@ -63,6 +63,7 @@ module _ {D A : Type 0} (hash : List ℕ → Digest32) (accepts : A → Block �
       rules =
           λ i. rules_of hash accepts
           (record a {
+            travel = come.same.travel i;
             epochs = come.same.epochs i;
             backlog = come.same.backlog i;
             app = come.same.app i;
@@ -101,6 +102,7 @@ module _ {D A : Type 0} (hash : List ℕ → Digest32) (accepts : A → Block �
       → HasCome hash accepts came old a → HasNoted hash accepts xs a b
       → HasNoted hash accepts ys b c → IsSameHolder old c
   same_acted old a b c came xs ys come first rest = record {
+    travel = rest.travel ∙ (first.travel ∙ come.same.travel);
     id = rest.id ∙ (first.id ∙ come.same.id);
     epochs = rest.epochs ∙ (first.epochs ∙ come.same.epochs);
     backlog = rest.backlog ∙ (first.backlog ∙ come.same.backlog);
@@ -127,6 +129,7 @@ module _ {D A : Type 0} (hash : List ℕ → Digest32) (accepts : A → Block �
       same_rules hash accepts a b notes noted
       ∙ (λ i. rules_of hash accepts
       (record a {
+        travel = come.same.travel i;
         epochs = come.same.epochs i;
         backlog = come.same.backlog i;
         app = come.same.app i;

@@ -34,6 +34,7 @@ module _ {D A : Type 0} (hash : List ℕ → Digest32) (accepts : A → Block �
         stands = s;
         state = sym (no_notes (state_of h));
         store = sym (none_staged h.store);
+        travel = refl;
         id = refl;
         epochs = refl;
         backlog = refl;
@@ -66,6 +67,7 @@ module _ {D A : Type 0} (hash : List ℕ → Digest32) (accepts : A → Block �
         };
         state = same;
         store = refl;
+        travel = refl;
         id = refl;
         epochs = refl;
         backlog = refl;
@@ -89,6 +91,7 @@ module _ {D A : Type 0} (hash : List ℕ → Digest32) (accepts : A → Block �
     stands = q.stands;
     state = q.state ∙ (ap (λ (s : State). with_notes s ys) p.state ∙ notes_on (state_of a) xs ys);
     store = q.store ∙ (ap (λ (t : Store). with_all_staged t ys) p.store ∙ staged_on a.store xs ys);
+    travel = q.travel ∙ p.travel;
     id = q.id ∙ p.id;
     epochs = q.epochs ∙ p.epochs;
     backlog = q.backlog ∙ p.backlog;
@@ -101,4 +104,9 @@ module _ {D A : Type 0} (hash : List ℕ → Digest32) (accepts : A → Block �
       → rules_of hash accepts b ≡ rules_of hash accepts a
   same_rules a b xs p =
       λ i. rules_of hash accepts
-      (record b { epochs = p.epochs i; backlog = p.backlog i; app = p.app i })
+      (record b {
+        travel = p.travel i;
+        epochs = p.epochs i;
+        backlog = p.backlog i;
+        app = p.app i;
+      })

@@ -27,7 +27,7 @@ use Rattle.node.proofs.Accepting.{came_nothing, came_row}
 use Rattle.cw_types.proofs.Same.{same_commitment-true}
 use Rattle.cw_rules.proofs.Lists.{first_of_both}
 use Rattle.node.specs.Accepting.{is_new_row, is_own_place, with_row}
-use Rattle.node.specs.Holding.{Holding, came_of, rules_of, shown_under, state_of}
+use Rattle.node.specs.Holding.{Holding, came_of, cut_rules, rules_of, shown_under, state_of}
 use Rattle.node.specs.Standing.{HasCome, PartsStand}
 use Rattle.node.specs.declared.arrival.Shown.{Shown}
 
@@ -182,7 +182,7 @@ and_false false = refl
 module _ {D A : Type 0} (hash : List ℕ → Digest32) (accepts : A → Block → Block → Bool)
     (h : Holding D A) (s : PartsStand hash accepts h) (c : Commitment) (x : Chunk) where
   -- the rules of the kept chunks take a chunk as those of the node do
-  pub same_test : is_chunk_of (rules_of hash accepts h) c x
+  pub same_test : is_chunk_of (cut_rules hash accepts h) c x
       ≡ is_chunk_of (kept.rules_of hash h.shards.epochs) c x
   same_test = ap (λ q. is_chunk_of q c x) s.shards.rules
 
@@ -192,13 +192,13 @@ module _ {D A : Type 0} (hash : List ℕ → Digest32) (accepts : A → Block �
       (list_any (same_part (Row c x)) (came_of h).parts))
       → ((verdict (kept.rules_of hash h.shards.epochs) h.shards.kept c x ≡ Foreign) ↔
       (IsFalse (list_any (same_part (Row c x)) (came_of h).parts)
-      × IsFalse (is_chunk_of (rules_of hash accepts h) c x)))
+      × IsFalse (is_chunk_of (cut_rules hash accepts h) c x)))
       → (verdict (kept.rules_of hash h.shards.epochs) h.shards.kept c x ≡ Known)
       ⊎ (verdict (kept.rules_of hash h.shards.epochs) h.shards.kept c x ≡ Foreign)
       → new ≡ record h { shards = after (kept.rules_of hash h.shards.epochs) h.shards c x }
       → HasCome hash accepts
-      (take_part (came_of h) (is_chunk_of (rules_of hash accepts h) c x) (Row c x)) h new
-      × (false ≡ is_new_row (rules_of hash accepts h) (came_of h) c x)
+      (take_part (came_of h) (is_chunk_of (cut_rules hash accepts h) c x) (Row c x)) h new
+      × (false ≡ is_new_row (cut_rules hash accepts h) (came_of h) c x)
   row_none new known foreign told is = (
     subst (λ (came : Came). HasCome hash accepts came h new) (sym nothing)
         (subst (λ (n : Holding D A). HasCome hash accepts (came_of h) h n)
@@ -216,12 +216,12 @@ module _ {D A : Type 0} (hash : List ℕ → Digest32) (accepts : A → Block �
     sym refused,
   )
     where
-      refused : is_new_row (rules_of hash accepts h) (came_of h) c x ≡ false
+      refused : is_new_row (cut_rules hash accepts h) (came_of h) c x ≡ false
       refused =
-          ⊎_elim (λ k. rw (known.0 k) (and_false (is_chunk_of (rules_of hash accepts h) c x)))
+          ⊎_elim (λ k. rw (known.0 k) (and_false (is_chunk_of (cut_rules hash accepts h) c x)))
           (λ k. rw ((foreign.0 k).1) refl) told
 
-      nothing : take_part (came_of h) (is_chunk_of (rules_of hash accepts h) c x) (Row c x)
+      nothing : take_part (came_of h) (is_chunk_of (cut_rules hash accepts h) c x) (Row c x)
           ≡ came_of h
       nothing = rw refused refl
 
@@ -231,14 +231,14 @@ module _ {D A : Type 0} (hash : List ℕ → Digest32) (accepts : A → Block �
       (list_any (same_part (Row c x)) (came_of h).parts))
       → ((verdict (kept.rules_of hash h.shards.epochs) h.shards.kept c x ≡ Foreign) ↔
       (IsFalse (list_any (same_part (Row c x)) (came_of h).parts)
-      × IsFalse (is_chunk_of (rules_of hash accepts h) c x)))
+      × IsFalse (is_chunk_of (cut_rules hash accepts h) c x)))
       → (verdict (kept.rules_of hash h.shards.epochs) h.shards.kept c x ≡ Known → ⊥)
       → (verdict (kept.rules_of hash h.shards.epochs) h.shards.kept c x ≡ Foreign → ⊥)
       → voter.IsTallyOf hash (with_row h.epochs h.id h.tally c x.index) (rules_of hash accepts h)
       (voter.with_came (state_of h) (take_part (came_of h) true (Row c x)))
       → shards.StandsFor hash (after (kept.rules_of hash h.shards.epochs) h.shards c x)
-      (rules_of hash accepts h)
-      (take_part (came_of h) (is_chunk_of (rules_of hash accepts h) c x) (Row c x))
+      (cut_rules hash accepts h)
+      (take_part (came_of h) (is_chunk_of (cut_rules hash accepts h) c x) (Row c x))
       → ((d : Commitment) → 0 < d.config.minimum
       → shown (kept.rules_of hash h.shards.epochs)
       (kept.came_of (kept_after (kept.rules_of hash h.shards.epochs) h.shards.kept c x)) d
@@ -251,20 +251,20 @@ module _ {D A : Type 0} (hash : List ℕ → Digest32) (accepts : A → Block �
         shown = showing;
       }
       → HasCome hash accepts
-      (take_part (came_of h) (is_chunk_of (rules_of hash accepts h) c x) (Row c x)) h new
-      × (true ≡ is_new_row (rules_of hash accepts h) (came_of h) c x)
+      (take_part (came_of h) (is_chunk_of (cut_rules hash accepts h) c x) (Row c x)) h new
+      × (true ≡ is_new_row (cut_rules hash accepts h) (came_of h) c x)
   row_some new showing known foreign unknown taken tally chunks shows is = (
     subst (λ (t : Bool). HasCome hash accepts (take_part (came_of h) t (Row c x)) h new) (sym test)
         (came_row hash accepts h new c x showing s fresh tally
         (subst
         (λ (ks : List KeptChunk). shards.StandsFor hash
-        (record { epochs = h.shards.epochs; kept = ks }) (rules_of hash accepts h)
+        (record { epochs = h.shards.epochs; kept = ks }) (cut_rules hash accepts h)
         (take_part (came_of h) true (Row c x)))
         so
         (subst
         (λ (t : Bool). shards.StandsFor hash
         (after (kept.rules_of hash h.shards.epochs) h.shards c x)
-        (rules_of hash accepts h) (take_part (came_of h) t (Row c x)))
+        (cut_rules hash accepts h) (take_part (came_of h) t (Row c x)))
         test chunks))
         (λ d m. ap
         (λ (ks : List KeptChunk). shown (kept.rules_of hash h.shards.epochs) (kept.came_of ks)
@@ -287,7 +287,7 @@ module _ {D A : Type 0} (hash : List ℕ → Digest32) (accepts : A → Block �
           × (is_chunk_of (kept.rules_of hash h.shards.epochs) c x ≡ true)
       both = taken_by (kept.rules_of hash h.shards.epochs) h.shards.kept c x unknown taken
 
-      test : is_chunk_of (rules_of hash accepts h) c x ≡ true
+      test : is_chunk_of (cut_rules hash accepts h) c x ≡ true
       test = same_test ∙ both.1
 
       fresh : list_any (same_part (Row c x)) (came_of h).parts ≡ false

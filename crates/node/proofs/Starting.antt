@@ -15,7 +15,8 @@ use Rattle.cw_types.specs.declared.event.StepOut.{StepOut}
 use Rattle.cw_types.specs.declared.message.Message.{Message}
 use Rattle.cw_rules.specs.Sends.{missing, note_sends, to_all}
 use Rattle.cw_rules.specs.Step.{deliveries, no_tickets, nothing_came, start, with_notes}
-use Rattle.cw_rules_coded.specs.Coded.{coded}
+use Rattle.cw_rules.specs.declared.travel.Travel.{Travel}
+use Rattle.cw_rules_coded.specs.Coded.{coded, ruled}
 use Rattle.node_disk.specs.Log.{LogState}
 use Rattle.shards.specs.Kept as kept
 use Rattle.shards.specs.Standing as shards
@@ -109,25 +110,27 @@ from_nothing r now entries none = record {
 }
 
 module _ {D A : Type 0} (hash : List ℕ → Digest32) (accepts : A → Block → Block → Bool) where
-  pub stands_begun : (id : ℕ) (x : Epochs) (backlog : ℕ) (app : A) (t : Store) (log : LogState D)
+  pub stands_begun : (travel : Travel) (id : ℕ) (x : Epochs) (backlog : ℕ) (app : A) (t : Store)
+      (log : LogState D)
       → t.epochs ≡ x → t.backlog ≡ backlog → t.failed ≡ false
-      → ((u : Known) (s : State) → voter.IsTallyOf hash u (coded hash x backlog (accepts app)) s
+      → ((u : Known) (s : State)
+      → voter.IsTallyOf hash u (ruled travel hash x backlog (accepts app)) s
       → (note : Note)
-      → voter.IsTallyOf hash (with_note u note) (coded hash x backlog (accepts app))
+      → voter.IsTallyOf hash (with_note u note) (ruled travel hash x backlog (accepts app))
       (with_notes s (note ∷ [])))
-      → voter.IsTallyOf hash (unknowing x id) (coded hash x backlog (accepts app))
+      → voter.IsTallyOf hash (unknowing x id) (ruled travel hash x backlog (accepts app))
       (record { notes = []; came = nothing_came; given = t.given })
       → shards.StandsFor hash (record { epochs = x; kept = [] })
       (coded hash x backlog (accepts app)) nothing_came
-      → PartsStand hash accepts (begun id x backlog app t log)
-  stands_begun id x backlog app t log epochs same running law first chunks = record {
+      → PartsStand hash accepts (begun travel id x backlog app t log)
+  stands_begun travel id x backlog app t log epochs same running law first chunks = record {
     epochs = epochs;
     backlog = same;
     running = running;
     id = refl;
     tally =
-        stands_told hash (coded hash x backlog (accepts app)) law (stored_notes t) (unknowing x id)
-        (record { notes = []; came = nothing_came; given = t.given }) first;
+        stands_told hash (ruled travel hash x backlog (accepts app)) law (stored_notes t)
+        (unknowing x id) (record { notes = []; came = nothing_came; given = t.given }) first;
     shards = chunks;
     rows = refl;
     named = refl;

@@ -18,6 +18,7 @@ use Rattle.node.specs.declared.act.Before.{Before}
 
 -- who the node is
 pub record IsSameHolder {D A : Type 0} (old new : Holding D A) : Type 0 where
+  pub travel : new.travel ≡ old.travel
   pub id : new.id ≡ old.id
   pub epochs : new.epochs ≡ old.epochs
   pub backlog : new.backlog ≡ old.backlog

@@ -9,7 +9,8 @@ use Rattle.cw_types.specs.declared.commitment.Commitment.{Commitment}
 use Rattle.cw_rules.specs.Accepted.{Came, Part, State, Whole}
 use Rattle.cw_rules.specs.Rules.{Rules}
 use Rattle.cw_rules.specs.Step.{Member}
-use Rattle.cw_rules_coded.specs.Coded.{coded}
+use Rattle.cw_rules.specs.declared.travel.Travel.{Travel}
+use Rattle.cw_rules_coded.specs.Coded.{coded, ruled}
 use Rattle.node_disk.specs.Log.{LogState}
 use Rattle.shards.specs.Kept.{Gathered, part_of}
 use Rattle.shards.specs.declared.pieces.KeptChunk.{KeptChunk}
@@ -19,10 +20,11 @@ use Rattle.node.specs.Store.{Store, stored_notes}
 use Rattle.node.specs.declared.arrival.Arrival.{Arrival}
 use Rattle.node.specs.declared.arrival.Shown.{Shown}
 
--- the member's number, the committees, the backlog, the application, the store and its log, the
--- tally, the chunks that are kept, what chunks and blocks came, in order, the blocks that chunks
--- showed, and the wishes
+-- how blocks travel, the member's number, the committees, the backlog, the application, the store
+-- and its log, the tally, the chunks that are kept, what chunks and blocks came, in order, the
+-- blocks that chunks showed, and the wishes
 pub record Holding (D A : Type 0) : Type 0 where
+  pub travel : Travel
   pub id : ℕ
   pub epochs : Epochs
   pub backlog : ℕ
@@ -60,7 +62,12 @@ state_of h = record { notes = stored_notes h.store; came = came_of h; given = h.
 -- the rules that are followed
 abbrev pub rules_of : {D A : Type 0} → (List ℕ → Digest32) → (A → Block → Block → Bool)
     → Holding D A → Rules
-rules_of hash accepts h = coded hash h.epochs h.backlog (accepts h.app)
+rules_of hash accepts h = ruled h.travel hash h.epochs h.backlog (accepts h.app)
+
+-- the same for blocks that are cut. Where blocks travel whole no chunk comes by which these differ
+abbrev pub cut_rules : {D A : Type 0} → (List ℕ → Digest32) → (A → Block → Block → Bool)
+    → Holding D A → Rules
+cut_rules hash accepts h = coded hash h.epochs h.backlog (accepts h.app)
 
 -- the member of the rules
 abbrev pub member_of : {D A : Type 0} → Bool → Holding D A → Member
@@ -75,6 +82,7 @@ member_of live h = record {
 -- the node that holds this
 abbrev pub node_of : {D A : Type 0} → Bool → Holding D A → NodeState D A
 node_of live h = record {
+  travel = h.travel;
   id = h.id;
   epochs = h.epochs;
   backlog = h.backlog;
@@ -108,8 +116,9 @@ whole_under c a = option_and_then (λ b. if same_commitment a.commitment c then 
     a.block
 
 -- what a node holds over a store as it starts: its tally knows the notes, and nothing came
-abbrev pub begun : {D A : Type 0} → ℕ → Epochs → ℕ → A → Store → LogState D → Holding D A
-begun id x backlog app t log = record {
+abbrev pub begun : {D A : Type 0} → Travel → ℕ → Epochs → ℕ → A → Store → LogState D → Holding D A
+begun travel id x backlog app t log = record {
+  travel = travel;
   id = id;
   epochs = x;
   backlog = backlog;

@@ -37,6 +37,7 @@ pub record HasNoted {D A : Type 0} (hash : List ℕ → Digest32) (accepts : A �
   pub stands : PartsStand hash accepts new
   pub state : state_of new ≡ with_notes (state_of old) notes
   pub store : new.store ≡ with_all_staged old.store notes
+  pub travel : new.travel ≡ old.travel
   pub id : new.id ≡ old.id
   pub epochs : new.epochs ≡ old.epochs
   pub backlog : new.backlog ≡ old.backlog

@@ -12,7 +12,7 @@ use Rattle.cw_rules.specs.Rules.{Rules}
 use Rattle.shards.specs.Kept as kept
 use Rattle.shards.specs.Standing as shards
 use Rattle.voter.specs.Standing as voter
-use Rattle.node.specs.Holding.{Holding, came_of, count_rows, rules_of, shown_under, state_of}
+use Rattle.node.specs.Holding.{Holding, came_of, count_rows, cut_rules, rules_of, shown_under, state_of}
 use Rattle.node.specs.Leading.{IsLedBy}
 use Rattle.node.specs.Store.{stored_notes}
 use Rattle.node.specs.declared.leads.Led.{Led}
@@ -27,7 +27,7 @@ pub record PartsStand {D A : Type 0} (hash : List ℕ → Digest32) (accepts : A
   pub running : h.store.failed ≡ false
   pub id : h.tally.id ≡ h.id
   pub tally : voter.IsTallyOf hash h.tally (rules_of hash accepts h) (state_of h)
-  pub shards : shards.StandsFor hash h.shards (rules_of hash accepts h) (came_of h)
+  pub shards : shards.StandsFor hash h.shards (cut_rules hash accepts h) (came_of h)
   pub rows : count_rows h.arrivals ≡ length h.shards.kept
   pub named : named_commitments (rules_of hash accepts h) (state_of h)
       ≡ map (λ a. a.commitment) h.arrivals
@@ -61,6 +61,7 @@ pub record IsAwake {D A : Type 0} (hash : List ℕ → Digest32) (accepts : A �
 
 -- what else there is beside what came and how it is kept
 pub record IsSameBeside {D A : Type 0} (old new : Holding D A) : Type 0 where
+  pub travel : new.travel ≡ old.travel
   pub id : new.id ≡ old.id
   pub epochs : new.epochs ≡ old.epochs
   pub backlog : new.backlog ≡ old.backlog

@@ -9,7 +9,8 @@ use Rattle.cw_types.specs.declared.note.Note.{Note}
 use Rattle.cw_types.specs.declared.vote.Vote.{Vote}
 use Rattle.cw_rules.specs.Rules.{Rules}
 use Rattle.cw_rules.specs.Step.{Member, Stepped, state_of, step_notes, taken}
-use Rattle.cw_rules_coded.specs.Coded.{coded}
+use Rattle.cw_rules.specs.declared.travel.Travel.{Travel}
+use Rattle.cw_rules_coded.specs.Coded.{ruled}
 use Rattle.marshal.specs.Frames.{FindsNotes, ReadBack, frame_bytes}
 use Rattle.marshal.specs.Stored as marshal
 use Rattle.node_disk.specs.Disk.{DiskState}
@@ -17,9 +18,10 @@ use Rattle.node_disk.specs.Frames.{Finds}
 use Rattle.node_disk.specs.Images.{IsImage}
 use Rattle.node_disk.specs.Log.{HasSettled, LogState}
 
--- a member's number, the committees, the backlog, the application, the member of the rules, live
--- unless a step was refused, and the log of its notes
+-- how blocks travel, a member's number, the committees, the backlog, the application, the member
+-- of the rules, live unless a step was refused, and the log of its notes
 pub record NodeState (D A : Type 0) : Type 0 where
+  pub travel : Travel
   pub id : ℕ
   pub epochs : Epochs
   pub backlog : ℕ
@@ -27,10 +29,10 @@ pub record NodeState (D A : Type 0) : Type 0 where
   pub member : Member
   pub log : LogState D
 
--- the rules that a node follows, by its hasher and its application
+-- the rules that a node follows, by how its blocks travel, its hasher and its application
 abbrev pub rules_of : {D A : Type 0} → (List ℕ → Digest32) → (A → Block → Block → Bool)
     → NodeState D A → Rules
-rules_of hash accepts node = coded hash node.epochs node.backlog (accepts node.app)
+rules_of hash accepts node = ruled node.travel hash node.epochs node.backlog (accepts node.app)
 
 -- the member that a step leaves, with what it answers
 abbrev pub stepped : Member → StepOut → Stepped
@@ -51,6 +53,7 @@ pub record IsNodeOf {D A : Type 0} (id : ℕ) (epochs : Epochs) (backlog : ℕ) 
 
 -- who the node is
 pub record IsSameNode {D A : Type 0} (old new : NodeState D A) : Type 0 where
+  pub travel : new.travel ≡ old.travel
   pub id : new.id ≡ old.id
   pub epochs : new.epochs ≡ old.epochs
   pub backlog : new.backlog ≡ old.backlog

@@ -12,19 +12,20 @@ ghost use Rattle.cw_types.specs.Votes.{well_formed};
 ghost use Rattle.voter.specs.Standing.{are_signers};
 ghost use Rattle.node.specs.Accepting.{brings_row, is_acceptable, is_new_row, is_own_place};
 ghost use Rattle.node.specs.Accepting.{with_row};
-ghost use Rattle.node.specs.Holding.{came_of, knowing, rules_of};
+ghost use Rattle.node.specs.Holding.{came_of, cut_rules, is_whole, knowing, rules_of};
 ghost use Rattle.node.specs.Standing.{HasCome, PartsStand};
 
 use crate::arrival::{Arrival, Shown};
 use crate::holding::Holding;
 use cw_base::{Digest32, Hasher, Items, NoMemory, Strategy};
 use cw_coding::Chunk;
+use cw_rules::Travel;
 use cw_rules_coded::coded_laws;
 use cw_types::{
     Application, Cert, ChainBlock, Commitment, Event, Message, Verifier, Vote, well_formed,
 };
 use node_disk::Disk;
-use shards::{Verdict, cut_block, shards_stand, shown_by_kept, shown_stays};
+use shards::{Verdict, shards_stand, shown_by_kept, shown_stays};
 use std::alloc::Global;
 use std::thread::Threads;
 use voter::standing_is_kept;
@@ -177,13 +178,7 @@ impl<H: Hasher<Digest = Digest32>, D: Disk, A: Application> Holding<H, D, A> {
         if self.has_arrived(block) {
             return Ok(());
         }
-        let (commitment, _chunks) = cut_block::<H, R, S>(
-            rt,
-            alloc,
-            &self.committees,
-            block,
-            strategy,
-        )?;
+        let commitment = self.commitment_of(rt, alloc, block, strategy)?;
         let block = block.copy(alloc)?;
         self.add_whole(commitment, block)
     }
@@ -268,10 +263,10 @@ impl<H: Hasher<Digest = Digest32>, D: Disk, A: Application> Holding<H, D, A> {
         ensures come { OnOk result
             (HasCome H.digest_of A.accepts
             (rule.take_part (came_of self.old)
-            (rule.is_chunk_of (rules_of H.digest_of A.accepts self.old) commitment.now chunk.now)
+            (rule.is_chunk_of (cut_rules H.digest_of A.accepts self.old) commitment.now chunk.now)
             (Row commitment.now chunk.now)) self.old self.new) }
         ensures new { IfOk result
-            (λ new. new ≡ is_new_row (rules_of H.digest_of A.accepts self.old) (came_of self.old)
+            (λ new. new ≡ is_new_row (cut_rules H.digest_of A.accepts self.old) (came_of self.old)
             commitment.now chunk.now) }
         ensures kept { self.new ≡ knowing self.old self.new }
     {
@@ -291,10 +286,10 @@ impl<H: Hasher<Digest = Digest32>, D: Disk, A: Application> Holding<H, D, A> {
         ensures come { OnOk result
             (HasCome H.digest_of A.accepts
             (rule.take_part (came_of self.old)
-            (rule.is_chunk_of (rules_of H.digest_of A.accepts self.old) commitment.now chunk)
+            (rule.is_chunk_of (cut_rules H.digest_of A.accepts self.old) commitment.now chunk)
             (Row commitment.now chunk)) self.old self.new) }
         ensures new { IfOk result
-            (λ new. new ≡ is_new_row (rules_of H.digest_of A.accepts self.old) (came_of self.old)
+            (λ new. new ≡ is_new_row (cut_rules H.digest_of A.accepts self.old) (came_of self.old)
             commitment.now chunk) }
         ensures kept { self.new ≡ knowing self.old self.new }
     {
@@ -319,6 +314,32 @@ impl<H: Hasher<Digest = Digest32>, D: Disk, A: Application> Holding<H, D, A> {
                 self.add_row(commitment, index)?;
                 Ok(true)
             }
+        }
+    }
+
+    // Takes a chunk. Where blocks travel whole it changes nothing.
+    fn accept_shard<R: Threads + Sync, S: Strategy>(
+        &mut self,
+        rt: &R,
+        alloc: Global,
+        commitment: &Commitment,
+        chunk: &Chunk<Digest32>,
+        strategy: &S,
+    ) -> Result<bool, NoMemory>
+        requires { PartsStand H.digest_of A.accepts self.old }
+        ensures come { OnOk result
+            (HasCome H.digest_of A.accepts
+            (rule.take_part (came_of self.old)
+            (rule.is_chunk_of (rules_of H.digest_of A.accepts self.old) commitment.now chunk.now)
+            (Row commitment.now chunk.now)) self.old self.new) }
+        ensures new { IfOk result
+            (λ new. new ≡ is_new_row (rules_of H.digest_of A.accepts self.old) (came_of self.old)
+            commitment.now chunk.now) }
+        ensures kept { self.new ≡ knowing self.old self.new }
+    {
+        match self.travel {
+            Travel::Chunked => self.accept_chunk(rt, alloc, commitment, chunk, strategy),
+            Travel::Uncut => Ok(false),
         }
     }
 
@@ -351,7 +372,7 @@ impl<H: Hasher<Digest = Digest32>, D: Disk, A: Application> Holding<H, D, A> {
                 Ok(false)
             }
             Event::Deliver(Message::Shard(commitment, chunk)) => {
-                self.accept_chunk(rt, alloc, commitment, chunk, strategy)
+                self.accept_shard(rt, alloc, commitment, chunk, strategy)
             }
             Event::Deliver(Message::Block(block)) => {
                 self.accept_block(rt, alloc, block, strategy)?;

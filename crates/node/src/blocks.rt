@@ -14,8 +14,9 @@ ghost use Rattle.node.specs.Store.{stored_notes};
 
 use crate::holding::Holding;
 use cw_base::{Digest32, Hasher, NoMemory};
+use cw_rules::Travel;
 use cw_types::laws::commitment_fits;
-use cw_types::{Application, ChainBlock, Commitment, Note};
+use cw_types::{Application, ChainBlock, Commitment, Note, genesis_commitment};
 use node_disk::Disk;
 use shards::shown_by_kept;
 use std::alloc::Global;
@@ -31,18 +32,46 @@ impl<H: Hasher<Digest = Digest32>, D: Disk, A: Application> Holding<H, D, A> {
         self.arrivals.whole(commitment)
     }
 
-    // The block as which a commitment is shown.
-    fn shown(&self, commitment: &Commitment) -> Option<&ChainBlock>
-        requires { PartsStand H.digest_of A.accepts self.now }
+    // The block as which a commitment is shown where blocks are cut.
+    fn shown_cut(&self, commitment: &Commitment) -> Option<&ChainBlock>
+        requires stands { PartsStand H.digest_of A.accepts self.now }
+        requires cut { self.now.travel ≡ Travel.Chunked }
         ensures { option_map (λ block. block.now) result
-            ≡ held_rule.shown (rules_of H.digest_of A.accepts self.now) (came_of self.now)
-            commitment.now }
+            ≡ held_rule.shown_by Travel.Chunked (rules_of H.digest_of A.accepts self.now)
+            (came_of self.now) commitment.now }
     {
         shown_by_kept();
         commitment_fits(*commitment);
         match self.whole(commitment) {
             Some(block) => Some(block),
             None => self.shown.under(commitment),
+        }
+    }
+
+    // The block as which a commitment is shown where blocks travel whole.
+    fn shown_whole(&self, commitment: &Commitment) -> Option<&ChainBlock>
+        requires { PartsStand H.digest_of A.accepts self.now }
+        ensures { option_map (λ block. block.now) result
+            ≡ held_rule.shown_by Travel.Uncut (rules_of H.digest_of A.accepts self.now)
+            (came_of self.now) commitment.now }
+    {
+        if commitment.is_same(&genesis_commitment::<H>()) {
+            None
+        } else {
+            self.whole(commitment)
+        }
+    }
+
+    // The block as which a commitment is shown.
+    pub(crate) fn shown(&self, commitment: &Commitment) -> Option<&ChainBlock>
+        requires { PartsStand H.digest_of A.accepts self.now }
+        ensures { option_map (λ block. block.now) result
+            ≡ held_rule.shown (rules_of H.digest_of A.accepts self.now) (came_of self.now)
+            commitment.now }
+    {
+        match self.travel {
+            Travel::Chunked => self.shown_cut(commitment),
+            Travel::Uncut => self.shown_whole(commitment),
         }
     }
 

@@ -23,7 +23,6 @@ use cw_types::{
     Application, ChainBlock, Commitment, Event, Note, Payload, Proposal, Vote, committees,
 };
 use node_disk::Disk;
-use shards::cut_block;
 use std::alloc::Global;
 use std::thread::Threads;
 use voter::parent_stands;
@@ -100,13 +99,7 @@ impl<H: Hasher<Digest = Digest32>, D: Disk, A: Application> Holding<H, D, A> {
             self.old self.new) }
         ensures kept { self.new ≡ knowing self.old self.new }
     {
-        let (commitment, _chunks) = cut_block::<H, R, S>(
-            rt,
-            alloc,
-            &self.committees,
-            &block,
-            strategy,
-        )?;
+        let commitment = self.commitment_of(rt, alloc, &block, strategy)?;
         self.write_block(&commitment, block)?;
         self.write(Note::Verified(place.epoch, place.view, commitment))?;
         self.write(Note::Vote(Vote::Notarize(Proposal {

@@ -11,6 +11,7 @@ ghost use Rattle.node.specs.Store.{store_of};
 use crate::came::{Arrivals, ShownBlocks};
 use crate::store::Store;
 use cw_base::{Digest32, Hasher, Items};
+use cw_rules::Travel;
 use cw_types::{Application, Commitment, Committees};
 use marshal::Marshal;
 use node_disk::{Disk, MemoryDisk};
@@ -22,6 +23,7 @@ use voter::Tally;
 /// What a node holds between its calls. Contracts see it as a record of what its parts tell.
 #[derive(Drop)]
 pub(crate) struct Holding<H: Hasher<Digest = Digest32>, D: Disk, A> {
+    pub travel: Travel,
     pub id: u16,
     pub committees: Committees,
     pub backlog: u64,
@@ -44,6 +46,7 @@ impl<H: Hasher<Digest = Digest32>, D: Disk, A> Model for Holding<H, D, A> {
     ghost Value = { Holding D A };
 
     ghost view = { λ h. record {
+      travel = h.travel;
       id = h.id;
       epochs = h.committees;
       backlog = h.backlog;

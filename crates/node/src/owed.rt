@@ -25,19 +25,21 @@ use voter::tally_stands;
 
 impl<H: Hasher<Digest = Digest32>, D: Disk, A: Application> Holding<H, D, A> {
     // That of a floor, an epoch or a vote.
-    fn owed_without_memory(&self) -> Option<Note>
+    fn owed_last(&self) -> Result<Option<Note>, NoMemory>
         requires { PartsStand H.digest_of A.accepts self.now }
-        ensures value { result ≡ last_owed (rules_of H.digest_of A.accepts self.now) self.now.id
-            (state_of self.now) }
-        ensures storable { IfSome result (λ note. IsTrue (is_storable note)) }
+        ensures value { IfOk result
+            (λ note. note ≡ last_owed (rules_of H.digest_of A.accepts self.now) self.now.id
+            (state_of self.now)) }
+        ensures storable { IfOk result (λ note. IfSome note (λ note. IsTrue (is_storable note))) }
     {
         if let Some(note) = self.owed_floor() {
-            return Some(note);
+            return Ok(Some(note));
         }
         if let Some(note) = self.owed_epoch() {
-            return Some(note);
+            return Ok(Some(note));
         }
-        self.owed_vote()
+        let note = self.owed_vote()?;
+        Ok(note)
     }
 
     /// The note that is owed: that of the first case that applies. It can be stored.
@@ -58,7 +60,8 @@ impl<H: Hasher<Digest = Digest32>, D: Disk, A: Application> Holding<H, D, A> {
         if let Some(note) = self.owed_certified(alloc)? {
             return Ok(Some(note));
         }
-        Ok(self.owed_without_memory())
+        let note = self.owed_last()?;
+        Ok(note)
     }
 
     // ---- certificates
@@ -213,25 +216,6 @@ impl<H: Hasher<Digest = Digest32>, D: Disk, A: Application> Holding<H, D, A> {
         let top = self.top_height();
         match self.span() {
             Some(span) => self.reached_epoch(span, top / span),
-            None => None,
-        }
-    }
-
-    // ---- votes
-
-    // 6. and 7. A vote to notarize, else to finalize.
-    fn owed_vote(&self) -> Option<Note>
-        requires { PartsStand H.digest_of A.accepts self.now }
-        ensures value { result ≡ option_or
-            (first_some (rule.notarize_owed (rules_of H.digest_of A.accepts self.now) self.now.id
-            (state_of self.now)) (rule.named_proposals (state_of self.now)))
-            (first_some (rule.finalize_owed (rules_of H.digest_of A.accepts self.now) self.now.id
-            (state_of self.now)) (rule.named_proposals (state_of self.now))) }
-        ensures storable { IfSome result (λ note. IsTrue (is_storable note)) }
-    {
-        tally_stands();
-        match self.tally.owed_vote() {
-            Some(vote) => Some(Note::Vote(vote)),
             None => None,
         }
     }

@@ -4,7 +4,8 @@ ghost use Rattle.std.specs.Prelude.{◌≡◌, false, true, IfOk, OnErr};
 ghost use Rattle.mailbox.specs.Calls.{HasAddedCall};
 ghost use Rattle.node.specs.Seating.{IsSeatTurn, IsStep};
 
-use crate::node::{Node, NodeError};
+use crate::member::{Member, NodeError};
+use crate::way::{Chunked, Way};
 use cw_base::{Digest32, Hasher, NoMemory, Strategy};
 use cw_types::{Application, Event, StepOut, Verifier};
 use mailbox::{Mailbox, Session, Turn};
@@ -14,7 +15,7 @@ use std::marker::Model;
 use std::sync::Wait;
 use std::thread::Threads;
 
-/// A node beside its verifier and its strategy. Contracts see the node, the verifier, and whether
+/// A member beside its verifier and its strategy; a [`Seat`] is that of a node. Contracts see the node, the verifier, and whether
 /// an answer was lost.
 ///
 /// Its turns may start threads, so a mailbox of it is stepped by [`step_seat`].
@@ -26,19 +27,23 @@ use std::thread::Threads;
 /// let place = step_seat(&rt, alloc, &mut mailbox, Event::Ack)?;
 /// ```
 #[derive(Drop)]
-pub struct Seat<
+pub struct MemberSeat<
     H: Hasher<Digest = Digest32>,
     D: Disk + Drop,
     A: Application + Drop,
     V: Verifier + Drop,
     S: Strategy + Drop,
+    W: Way,
 > {
-    node: Node<H, D, A>,
+    node: Member<H, D, A, W>,
     verifier: V,
     strategy: S,
     // No memory was left for the second copy of an answer.
     lost: bool,
 }
+
+/// A node beside its verifier and its strategy.
+pub type Seat<H, D, A, V, S> = MemberSeat<H, D, A, V, S, Chunked>;
 
 impl<
     H: Hasher<Digest = Digest32>,
@@ -46,7 +51,8 @@ impl<
     A: Application + Drop,
     V: Verifier + Drop,
     S: Strategy + Drop,
-> Model for Seat<H, D, A, V, S> {
+    W: Way,
+> Model for MemberSeat<H, D, A, V, S, W> {
     ghost use Rattle.node.specs.Seating.{SeatState};
 
     ghost Value = { SeatState D A V };
@@ -60,7 +66,8 @@ impl<
     A: Application + Drop,
     V: Verifier + Drop,
     S: Strategy + Drop,
-> Turn for Seat<H, D, A, V, S> {
+    W: Way,
+> Turn for MemberSeat<H, D, A, V, S, W> {
     type Event = Event;
 
     type Reply = Result<StepOut, NodeError>;
@@ -83,12 +90,13 @@ impl<
     A: Application + Drop,
     V: Verifier + Drop,
     S: Strategy + Drop,
-> Seat<H, D, A, V, S> {
+    W: Way,
+> MemberSeat<H, D, A, V, S, W> {
     /// Joins the three.
-    pub fn new(node: Node<H, D, A>, verifier: V, strategy: S) -> Seat<H, D, A, V, S>
+    pub fn new(node: Member<H, D, A, W>, verifier: V, strategy: S) -> MemberSeat<H, D, A, V, S, W>
         ensures { result ≡ record { node = node; verifier = verifier; lost = false } }
     {
-        Seat {
+        MemberSeat {
             node,
             verifier,
             strategy,
@@ -97,7 +105,7 @@ impl<
     }
 
     /// Its node.
-    pub fn node(&self) -> &Node<H, D, A>
+    pub fn node(&self) -> &Member<H, D, A, W>
         ensures { result.now ≡ self.now.node }
     {
         &self.node
@@ -163,12 +171,13 @@ pub fn step_seat<
     A: Application + Drop,
     V: Verifier + Drop,
     S: Strategy + Drop,
-    L: Session<Seat<H, D, A, V, S>>,
+    W: Way,
+    L: Session<MemberSeat<H, D, A, V, S, W>>,
     R: Threads + Wait + Sync,
 >(
     rt: &R,
     alloc: Global,
-    mailbox: &mut Mailbox<Seat<H, D, A, V, S>, L>,
+    mailbox: &mut Mailbox<MemberSeat<H, D, A, V, S, W>, L>,
     event: Event,
 ) -> Result<u64, NoMemory>
     ensures ok { IfOk result (λ place.
@@ -187,11 +196,12 @@ fn step_once<
     A: Application + Drop,
     V: Verifier,
     S: Strategy,
+    W: Way,
     R: Threads + Sync,
 >(
     rt: &R,
     alloc: Global,
-    node: &mut Node<H, D, A>,
+    node: &mut Member<H, D, A, W>,
     event: &Event,
     verifier: &V,
     strategy: &S,

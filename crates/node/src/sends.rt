@@ -16,9 +16,11 @@ ghost use Rattle.node.specs.Standing.{PartsStand};
 ghost use Rattle.node.specs.Store.{stored_notes};
 
 use crate::holding::Holding;
+use crate::naming::uncut_config;
 use cw_base::{Config, Digest32, Hasher, NoMemory, Strategy};
 use cw_coding::Chunk;
-use cw_types::{Application, Commitment, Event, Message, Note, Out, To, max_faults};
+use cw_rules::Travel;
+use cw_types::{Application, ChainBlock, Commitment, Event, Message, Note, Out, To};
 use node_disk::Disk;
 use shards::cut_block;
 use std::alloc::Global;
@@ -86,6 +88,59 @@ impl<H: Hasher<Digest = Digest32>, D: Disk, A: Application> Holding<H, D, A> {
         Ok(())
     }
 
+    // Puts behind the others the chunks of a block of an epoch, where blocks are cut.
+    fn put_cut<R: Threads + Sync, S: Strategy>(
+        &self,
+        rt: &R,
+        alloc: Global,
+        epoch: u64,
+        block: &ChainBlock,
+        strategy: &S,
+        out: &mut Vec<Out>,
+    ) -> Result<(), NoMemory>
+        requires { self.now.travel ≡ Travel.Chunked }
+        ensures { OnOk result (out.new.items ≡ out.old.items
+            ++ rule.block_sends Travel.Chunked (rules_of H.digest_of A.accepts self.now) self.now.id
+            epoch block.now) }
+    {
+        let (own, chunks) = cut_block::<H, R, S>(rt, alloc, &self.committees, block, strategy)?;
+        self.put_chunks(self.committees.members(epoch), &own, chunks, out)
+    }
+
+    // Puts a block behind the others, where blocks travel whole.
+    fn put_whole(
+        &self,
+        alloc: Global,
+        block: &ChainBlock,
+        out: &mut Vec<Out>,
+    ) -> Result<(), NoMemory>
+        ensures { OnOk result
+            (out.new.items ≡ out.old.items ++ rule.to_all (Message.Block block.now) ∷ []) }
+    {
+        out.push(to_all(Message::Block(block.copy(alloc)?)))?;
+        Ok(())
+    }
+
+    // Puts behind the others what a block of an epoch sends that is to be voted for.
+    fn put_verified<R: Threads + Sync, S: Strategy>(
+        &self,
+        rt: &R,
+        alloc: Global,
+        epoch: u64,
+        block: &ChainBlock,
+        strategy: &S,
+        out: &mut Vec<Out>,
+    ) -> Result<(), NoMemory>
+        ensures { OnOk result (out.new.items ≡ out.old.items
+            ++ rule.block_sends self.now.travel (rules_of H.digest_of A.accepts self.now)
+            self.now.id epoch block.now) }
+    {
+        match self.travel {
+            Travel::Chunked => self.put_cut(rt, alloc, epoch, block, strategy, out),
+            Travel::Uncut => self.put_whole(alloc, block, out),
+        }
+    }
+
     // Puts behind the others what a Verified note of an epoch sends.
     fn put_block<R: Threads + Sync, S: Strategy>(
         &self,
@@ -103,16 +158,7 @@ impl<H: Hasher<Digest = Digest32>, D: Disk, A: Application> Holding<H, D, A> {
             (stored_notes self.now.store) (NoteValue.Verified epoch view commitment.now)) }
     {
         match self.store.noted_block(commitment) {
-            Some(block) => {
-                let (own, chunks) = cut_block::<H, R, S>(
-                    rt,
-                    alloc,
-                    &self.committees,
-                    block,
-                    strategy,
-                )?;
-                self.put_chunks(self.committees.members(epoch), &own, chunks, out)
-            }
+            Some(block) => self.put_verified(rt, alloc, epoch, block, strategy, out),
             None => Ok(()),
         }
     }
@@ -170,13 +216,14 @@ impl<H: Hasher<Digest = Digest32>, D: Disk, A: Application> Holding<H, D, A> {
     // ---- the own chunk
 
     // Whether blocks of that epoch are cut so.
-    fn is_config_of(&self, config: &Config, epoch: u64) -> bool
+    pub(crate) fn is_config_of(&self, config: &Config, epoch: u64) -> bool
         ensures { result ≡ same_counts config.now
             (config_of (rules_of H.digest_of A.accepts self.now) epoch) }
     {
-        let n = self.committees.size(epoch);
-        let least = max_faults(n) + 1;
-        config.minimum_shards.get() == least && config.extra_shards.get() == n - least
+        match self.travel {
+            Travel::Chunked => config.is_same(&self.committees.config(epoch)),
+            Travel::Uncut => config.is_same(&uncut_config()),
+        }
     }
 
     // Whether a chunk is of the epoch's config and stands at the member's own place in it.

@@ -17,6 +17,7 @@ use crate::holding::Holding;
 use crate::leads::LeadMap;
 use crate::store::Store;
 use cw_base::{Digest32, Hasher, Items, NoMemory, Strategy};
+use cw_rules::Travel;
 use cw_types::{Application, Committees, Note, StepOut};
 use node_disk::{Disk, StoreError};
 use shards::{Shards, shards_stand};
@@ -25,9 +26,10 @@ use std::marker::PhantomData;
 use std::thread::Threads;
 use voter::{Tally, standing_is_kept};
 
-/// The number, the committees, the backlog and the application of a member.
+/// How blocks travel, and the number, the committees, the backlog and the application of a member.
 #[derive(Drop)]
 pub(crate) struct Setup<A> {
+    pub travel: Travel,
     pub id: u16,
     pub committees: Committees,
     pub backlog: u64,
@@ -55,6 +57,7 @@ impl<H: Hasher<Digest = Digest32>, D: Disk, A: Application + Drop> Holding<H, D,
     ) -> Holding<H, D, A>
         requires { setup.id < lists.0.total }
         ensures { result ≡ record {
+          travel = setup.travel;
           id = setup.id;
           epochs = setup.committees;
           backlog = setup.backlog;
@@ -70,12 +73,14 @@ impl<H: Hasher<Digest = Digest32>, D: Disk, A: Application + Drop> Holding<H, D,
         } }
     {
         let Setup {
+            travel,
             id,
             committees,
             backlog,
             app,
         } = setup;
         Holding {
+            travel,
             id,
             committees,
             backlog,
@@ -96,6 +101,7 @@ impl<H: Hasher<Digest = Digest32>, D: Disk, A: Application + Drop> Holding<H, D,
         ensures { result ≡ self.log.disk }
     {
         let Holding {
+            travel: _,
             id: _,
             committees: _,
             backlog: _,
@@ -140,7 +146,7 @@ impl<H: Hasher<Digest = Digest32>, D: Disk, A: Application + Drop> Holding<H, D,
         requires quiet { (store_of store.marshal).staged ≡ [] }
         requires running { (store_of store.marshal).failed ≡ false }
         ensures value { IfOk result
-            (λ h. h ≡ begun setup.id setup.committees setup.backlog setup.app
+            (λ h. h ≡ begun setup.travel setup.id setup.committees setup.backlog setup.app
             (store_of store.marshal) (log_of store.marshal)) }
         ensures ready { IfOk result (λ h. IsReady H.digest_of A.accepts h) }
         ensures err { IfErr result

@@ -7,7 +7,7 @@ use crate::scripts::{EPOCHS, LONGER, NO_TRANSFER, STOPPING};
 use cw_archive::Archive;
 use cw_base::Sha256;
 use cw_types::Message;
-use hailstorm::{Entry, Exit};
+use hail_report::{Entry, Exit};
 use std::alloc::Global;
 use std::test::Fail;
 use std::thread::Threads;

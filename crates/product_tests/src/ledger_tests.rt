@@ -7,7 +7,7 @@ use crate::scripts::{EPOCHS, LONGER, STOPPING, TRANSFER};
 use cw_base::Sha256;
 use cw_ledger::Replica;
 use cw_types::ChainBlock;
-use hailstorm::{Acked, Exit};
+use hail_report::{Acked, Exit};
 use node_disk::MemoryDisk;
 use std::alloc::Global;
 use std::test::Fail;

@@ -3,7 +3,9 @@
 use cw_archive::Archive;
 use cw_base::{Digest32, Hasher, Items, MemorySink, MemorySource, NoMemory, Sequential};
 use cw_ledger::Replica;
-use hailstorm::{Exit, Report, run_program};
+use hail_report::Exit;
+use hail_world::Report;
+use node::Chunked;
 use node_disk::MemoryDisk;
 use run_archive::archive_program;
 use run_ledger::ledger_program;
@@ -12,11 +14,9 @@ use std::alloc::Global;
 use std::test::Fail;
 use std::thread::Threads;
 
-/// A program that plays a script.
+/// A program over the run of a script.
 #[derive(Clone, Copy, Debug)]
 pub(crate) enum Program {
-    /// Writes the report of the run.
-    Report,
     /// Gives each honest member's replica of the ledger its blocks.
     Ledger,
     /// Looks for a height on the honest members' disks.
@@ -52,7 +52,7 @@ pub(crate) fn told_into<H: Hasher<Digest = Digest32>, R: Threads + Sync>(
     let words = words_of(alloc, words)?;
     let mut source = source;
     let mut sink = sink;
-    let status = status::<H, R>(rt, alloc, program, &words, &mut source, &mut sink);
+    let status = status_after::<H, R>(rt, alloc, program, &words, &mut source, &mut sink);
     drop(words);
     drop(source);
     let text = String::from_utf8_lossy(alloc, sink.bytes());
@@ -61,7 +61,7 @@ pub(crate) fn told_into<H: Hasher<Digest = Digest32>, R: Threads + Sync>(
 }
 
 // The exit status of a program.
-fn status<H: Hasher<Digest = Digest32>, R: Threads + Sync>(
+fn status_after<H: Hasher<Digest = Digest32>, R: Threads + Sync>(
     rt: &R,
     alloc: Global,
     program: Program,
@@ -69,28 +69,29 @@ fn status<H: Hasher<Digest = Digest32>, R: Threads + Sync>(
     input: &mut MemorySource,
     output: &mut MemorySink,
 ) -> u8 {
-    let way = &Sequential;
+    let by = &Sequential;
     match program {
-        Program::Report => of(run_program::<H, _, _, _, _>(rt, alloc, words, input, output, way)),
-        Program::Ledger => of(ledger_program::<H, _, _, _, _>(
-            rt, alloc, words, input, output, way,
-        )),
-        Program::Light => of(light_program::<H, _, _, _, _>(rt, alloc, words, input, output, way)),
+        Program::Ledger => {
+            status_of(ledger_program::<H, _, _, _, _>(rt, alloc, words, input, output, by))
+        }
+        Program::Light => {
+            status_of(light_program::<H, _, _, _, _>(rt, alloc, words, input, output, by))
+        }
         Program::Archive => {
-            of(archive_program::<H, _, _, _, _>(rt, alloc, words, input, output, way))
+            status_of(archive_program::<H, _, _, _, _>(rt, alloc, words, input, output, by))
         }
     }
 }
 
 // The status of an exit, which is let go.
-fn of<D: Drop>(exit: Exit<D>) -> u8 {
+fn status_of<D: Drop>(exit: Exit<D>) -> u8 {
     let status = exit.status();
     drop(exit);
     status
 }
 
 /// What the ledger hands back of a run that is done.
-pub(crate) type Ledgers<H> = (Report<H>, Items<Replica<MemoryDisk>>);
+pub(crate) type Ledgers<H> = (Report<H, Chunked>, Items<Replica<MemoryDisk>>);
 
 /// How the ledger ends on a script.
 pub(crate) fn ledger_exit<H: Hasher<Digest = Digest32>, R: Threads + Sync>(
@@ -104,7 +105,7 @@ pub(crate) fn ledger_exit<H: Hasher<Digest = Digest32>, R: Threads + Sync>(
 }
 
 /// What the archive hands back of a run that is done.
-pub(crate) type Archived<H> = (Report<H>, Archive<H>);
+pub(crate) type Archived<H> = (Report<H, Chunked>, Archive<H>);
 
 /// How the archive ends on its words and a script.
 pub(crate) fn archive_exit<H: Hasher<Digest = Digest32>, R: Threads + Sync>(

@@ -5,7 +5,7 @@ use Rattle.std.specs.Fmt.{decimal}
 use Rattle.cw_ledger.specs.Ledger.{last_height}
 use Rattle.cw_ledger.specs.Transfers.{balances, holdings}
 use Rattle.cw_ledger.specs.declared.balances.Holding.{Holding}
-use Rattle.hailstorm.specs.Text.{line}
+use Rattle.hail_report.specs.Text.{line}
 
 -- `ledger M H`, H the height that was applied last
 unfoldable pub height_line : ℕ → Option ℕ → List ℕ

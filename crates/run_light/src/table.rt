@@ -3,11 +3,11 @@
 ghost use Rattle.std.specs.Prelude.{◌≡◌};
 ghost use Rattle.std.specs.List.{list_any};
 ghost use Rattle.cw_rules.specs.World as rule;
-ghost use Rattle.hailstorm.specs.Places.{marked, table};
-ghost use Rattle.hailstorm.specs.Pool.{sent_in};
+ghost use Rattle.hail_world.specs.Places.{marked, table};
+ghost use Rattle.hail_report.specs.Pool.{sent_in};
 
 use cw_types::{Message, Verifier, Vote};
-use hailstorm::{Entry, Sent};
+use hail_report::{Entry, Sent};
 
 /// The table of votes of a run: a faulty member signed all, an honest one those that it sent.
 #[derive(Drop)]

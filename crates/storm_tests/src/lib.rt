@@ -21,4 +21,6 @@ mod stopped_tests;
 #[cfg(test)]
 mod tables;
 #[cfg(test)]
+mod whole_tests;
+#[cfg(test)]
 mod worked_tests;

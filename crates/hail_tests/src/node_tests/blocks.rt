@@ -1,4 +1,4 @@
-//! Committees, blocks that are cut for them, and the votes that members signed on them.
+//! Committees, blocks that travel among them, and the votes that members signed on them.
 
 ghost use Rattle.std.specs.Prelude.{◌≡◌, ◌&&◌, ◌==◌};
 ghost use Rattle.std.specs.List.{list_any};
@@ -6,35 +6,41 @@ ghost use Rattle.cw_types.specs.Same.{same_vote};
 
 use cw_base::{Digest32, Items, NoMemory, Sequential, SumHasher};
 use cw_coding::Chunk;
+use cw_rules::Travel;
 use cw_types::{
     Cert, ChainBlock, Commitment, Committees, Context, Payload, Proposal, Verifier, Vote, genesis,
     genesis_commitment,
 };
+use node::Way;
 use shards::cut_block;
 use std::alloc::Global;
-use std::marker::Model;
+use std::marker::{Model, PhantomData};
 use std::test::Fail;
 use std::thread::Threads;
+use whole_node::whole_commit;
 
-/// A block with what names it, and its chunks. The first block has none.
+/// A block with what names it, and its chunks with what these name it by, which is the same where
+/// blocks travel in chunks. The first block has none.
 #[derive(Drop)]
-pub(crate) struct Cut {
+pub(crate) struct Made {
     pub block: ChainBlock,
     pub commitment: Commitment,
+    pub cut: Commitment,
     pub chunks: Vec<Chunk<Digest32>>,
 }
 
-/// The committees of a cluster, and blocks of its chain: the first one, and others by their places.
-/// Members 0, 1 and 2 signed all votes on them in their views and the next, member 3 none. What
-/// contracts see of it says nothing.
+/// The committees of a cluster in which blocks travel so, and blocks of its chain: the first one,
+/// and others by their places. Members 0, 1 and 2 signed all votes on them in their views and the
+/// next, member 3 none. What contracts see of it says nothing.
 #[derive(Drop)]
-pub(crate) struct Scene {
+pub(crate) struct Scene<W: Way> {
     committees: Committees,
-    blocks: Vec<Cut>,
+    blocks: Vec<Made>,
     signed: Signed,
+    way: PhantomData<W>,
 }
 
-impl Model for Scene {
+impl<W: Way> Model for Scene<W> {
     ghost Value = { Unit {0} };
 
     ghost view = { λ _. tt };
@@ -57,13 +63,14 @@ impl Verifier for Signed {
     }
 }
 
-impl Scene {
+impl<W: Way> Scene<W> {
     /// With the first block alone.
-    pub(crate) fn new(alloc: Global, committees: Committees) -> Result<Scene, Fail> {
+    pub(crate) fn new(alloc: Global, committees: Committees) -> Result<Scene<W>, Fail> {
         let mut blocks = Vec::new(alloc);
-        blocks.push(Cut {
+        blocks.push(Made {
             block: genesis::<SumHasher>(alloc),
             commitment: genesis_commitment::<SumHasher>(),
+            cut: genesis_commitment::<SumHasher>(),
             chunks: Vec::new(alloc),
         })?;
         let signed = Signed {
@@ -73,6 +80,7 @@ impl Scene {
             committees,
             blocks,
             signed,
+            way: PhantomData,
         })
     }
 
@@ -86,7 +94,7 @@ impl Scene {
         payload: &[u8],
     ) -> Result<(), Fail> {
         let block = self.over(alloc, below, round, payload)?;
-        let made = self.cut(rt, alloc, block)?;
+        let made = self.made(rt, alloc, block)?;
         let place = self.blocks.len();
         self.blocks.push(made)?;
         self.sign(place, round.1)
@@ -113,22 +121,27 @@ impl Scene {
     }
 
     // What names the block, and its chunks.
-    fn cut<R: Threads + Sync>(
+    fn made<R: Threads + Sync>(
         &self,
         rt: &R,
         alloc: Global,
         block: ChainBlock,
-    ) -> Result<Cut, Fail> {
-        let (commitment, chunks) = cut_block::<SumHasher, R, Sequential>(
+    ) -> Result<Made, Fail> {
+        let (cut, chunks) = cut_block::<SumHasher, R, Sequential>(
             rt,
             alloc,
             &self.committees,
             &block,
             &Sequential,
         )?;
-        Ok(Cut {
+        let commitment = match W::travel() {
+            Travel::Chunked => cut,
+            Travel::Uncut => whole_commit::<SumHasher>(alloc, &block)?,
+        };
+        Ok(Made {
             block,
             commitment,
+            cut,
             chunks,
         })
     }
@@ -162,7 +175,7 @@ impl Scene {
     }
 
     /// The block at a place.
-    pub(crate) fn block(&self, place: usize) -> Result<&Cut, Fail> {
+    pub(crate) fn block(&self, place: usize) -> Result<&Made, Fail> {
         match self.blocks.get(place) {
             Some(made) => Ok(made),
             None => Err("a block at that place".into()),

@@ -3,6 +3,7 @@
 use super::blocks::{Scene, certificate};
 use crate::tables::{Call, call_and_answer};
 use cw_types::{Cert, Event, Message, Vote};
+use node::Way;
 use std::alloc::Global;
 use std::test::Fail;
 
@@ -100,7 +101,7 @@ fn own_event(call: Call) -> Result<NodeCall, Fail> {
 }
 
 /// The event that the member takes.
-pub(crate) fn event_of(alloc: Global, scene: &Scene, call: NodeCall) -> Result<Event, Fail> {
+pub(crate) fn event_of<W: Way>(alloc: Global, scene: &Scene<W>, call: NodeCall) -> Result<Event, Fail> {
     match call {
         NodeCall::Propose(place) => {
             let payload = scene.block(place)?.block.payload().copy(alloc)?;
@@ -123,7 +124,7 @@ pub(crate) fn event_of(alloc: Global, scene: &Scene, call: NodeCall) -> Result<E
 }
 
 // The message that comes.
-fn message_of(alloc: Global, scene: &Scene, call: NodeCall) -> Result<Message, Fail> {
+fn message_of<W: Way>(alloc: Global, scene: &Scene<W>, call: NodeCall) -> Result<Message, Fail> {
     match call {
         NodeCall::Shard(place, index) => shard(alloc, scene, place, index),
         NodeCall::Notarize(signer, place, view) => Ok(Message::Vote(
@@ -148,14 +149,14 @@ fn message_of(alloc: Global, scene: &Scene, call: NodeCall) -> Result<Message, F
     }
 }
 
-fn finalization(alloc: Global, scene: &Scene, place: usize, view: u64) -> Result<Cert, Fail> {
+fn finalization<W: Way>(alloc: Global, scene: &Scene<W>, place: usize, view: u64) -> Result<Cert, Fail> {
     certificate(alloc, Vote::Finalize(scene.proposal(place, view)?))
 }
 
-fn shard(alloc: Global, scene: &Scene, place: usize, index: usize) -> Result<Message, Fail> {
+fn shard<W: Way>(alloc: Global, scene: &Scene<W>, place: usize, index: usize) -> Result<Message, Fail> {
     let made = scene.block(place)?;
     match made.chunks.get(index) {
-        Some(chunk) => Ok(Message::Shard(made.commitment, chunk.copy(alloc)?)),
+        Some(chunk) => Ok(Message::Shard(made.cut, chunk.copy(alloc)?)),
         None => Err("a chunk of that index".into()),
     }
 }

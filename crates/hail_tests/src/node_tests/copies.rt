@@ -4,6 +4,7 @@ use super::blocks::Scene;
 use super::calls::{NodeCall, event_of, told_by};
 use super::member::Member;
 use cw_types::{ChainBlock, Event, Message, Note, StepOut};
+use node::Way;
 use std::alloc::Global;
 use std::test::Fail;
 use std::thread::Threads;
@@ -11,10 +12,10 @@ use std::thread::Threads;
 /// The place of the first line of a table at which a copy is another thing for a new member: of an
 /// event, of what it gives, or, where its notes are counted, of one of these; none where all are
 /// equal.
-pub(crate) fn first_uncopied<R: Threads + Sync>(
+pub(crate) fn first_uncopied<W: Way, R: Threads + Sync>(
     rt: &R,
     alloc: Global,
-    scene: &Scene,
+    scene: &Scene<W>,
     id: u16,
     table: &str,
 ) -> Result<Option<usize>, Fail> {
@@ -24,11 +25,11 @@ pub(crate) fn first_uncopied<R: Threads + Sync>(
     place
 }
 
-fn uncopied_at<R: Threads + Sync>(
+fn uncopied_at<W: Way, R: Threads + Sync>(
     rt: &R,
     alloc: Global,
-    scene: &Scene,
-    member: &mut Member,
+    scene: &Scene<W>,
+    member: &mut Member<W>,
     table: &str,
 ) -> Result<Option<usize>, Fail> {
     for (place, line) in table.lines().enumerate() {
@@ -40,11 +41,11 @@ fn uncopied_at<R: Threads + Sync>(
     Ok(None)
 }
 
-fn is_copied<R: Threads + Sync>(
+fn is_copied<W: Way, R: Threads + Sync>(
     rt: &R,
     alloc: Global,
-    scene: &Scene,
-    member: &mut Member,
+    scene: &Scene<W>,
+    member: &mut Member<W>,
     call: NodeCall,
 ) -> Result<bool, Fail> {
     match call {
@@ -59,11 +60,11 @@ fn is_copied<R: Threads + Sync>(
 }
 
 // Whether the copies of an event and of what the member answers to it equal them.
-fn is_step_copied<R: Threads + Sync>(
+fn is_step_copied<W: Way, R: Threads + Sync>(
     rt: &R,
     alloc: Global,
-    scene: &Scene,
-    member: &mut Member,
+    scene: &Scene<W>,
+    member: &mut Member<W>,
     event: &Event,
 ) -> Result<bool, Fail> {
     let out = member.take(rt, alloc, scene, event)?;

@@ -6,7 +6,7 @@ use super::said::text_of;
 use crate::disks::{Started, crashed, start};
 use cw_base::{Sequential, SumHasher};
 use cw_types::{AcceptAll, Event, Note, StepOut};
-use node::{Node, NodeError};
+use node::{Member as Node, NodeError, Way};
 use node_disk::MemoryDisk;
 use std::alloc::Global;
 use std::marker::Model;
@@ -16,41 +16,41 @@ use std::thread::Threads;
 
 /// A member. What contracts see of it says nothing.
 #[derive(Drop)]
-pub(crate) struct Member {
+pub(crate) struct Member<W: Way> {
     id: u16,
-    node: Node<SumHasher, MemoryDisk, AcceptAll>,
+    node: Node<SumHasher, MemoryDisk, AcceptAll, W>,
     // What its start gave.
     opening: StepOut,
 }
 
-impl Model for Member {
+impl<W: Way> Model for Member<W> {
     ghost Value = { Unit {0} };
 
     ghost view = { λ _. tt };
 }
 
 // What a start of a member gives.
-fn started<R: Threads + Sync>(
+fn started<W: Way, R: Threads + Sync>(
     rt: &R,
     alloc: Global,
-    scene: &Scene,
+    scene: &Scene<W>,
     id: u16,
     disk: MemoryDisk,
-) -> Result<Started<SumHasher>, Fail> {
+) -> Result<Started<SumHasher, W>, Fail> {
     match start(rt, alloc, id, scene.committees(alloc)?, disk)? {
         Ok(started) => Ok(started),
         Err((_, error)) => Err(Fail::from(error)),
     }
 }
 
-impl Member {
+impl<W: Way> Member<W> {
     /// Started on a new disk.
     pub(crate) fn new<R: Threads + Sync>(
         rt: &R,
         alloc: Global,
-        scene: &Scene,
+        scene: &Scene<W>,
         id: u16,
-    ) -> Result<Member, Fail> {
+    ) -> Result<Member<W>, Fail> {
         let disk = MemoryDisk::new(alloc, Vec::new(alloc));
         let (node, opening) = started(rt, alloc, scene, id, disk)?;
         Ok(Member { id, node, opening })
@@ -61,7 +61,7 @@ impl Member {
         &mut self,
         rt: &R,
         alloc: Global,
-        scene: &Scene,
+        scene: &Scene<W>,
     ) -> Result<(), Fail> {
         let new_disk = MemoryDisk::new(alloc, Vec::new(alloc));
         let (other, opening) = started(rt, alloc, scene, self.id, new_disk)?;
@@ -92,7 +92,7 @@ impl Member {
         &mut self,
         rt: &R,
         alloc: Global,
-        scene: &Scene,
+        scene: &Scene<W>,
         event: &Event,
     ) -> Result<StepOut, NodeError> {
         self.node
@@ -104,7 +104,7 @@ impl Member {
         &mut self,
         rt: &R,
         alloc: Global,
-        scene: &Scene,
+        scene: &Scene<W>,
         call: NodeCall,
     ) -> Result<Result<StepOut, NodeError>, Fail> {
         let event = event_of(alloc, scene, call)?;
@@ -116,7 +116,7 @@ impl Member {
         &mut self,
         rt: &R,
         alloc: Global,
-        scene: &Scene,
+        scene: &Scene<W>,
         call: NodeCall,
     ) -> Result<String, Fail> {
         match self.step(rt, alloc, scene, call)? {
@@ -130,7 +130,7 @@ impl Member {
         &mut self,
         rt: &R,
         alloc: Global,
-        scene: &Scene,
+        scene: &Scene<W>,
         call: NodeCall,
     ) -> Result<String, Fail> {
         match call {

@@ -3,6 +3,7 @@
 use super::blocks::Scene;
 use super::calls::{NodeCall, told_by};
 use super::member::Member;
+use node::Way;
 use std::alloc::Global;
 use std::test::Fail;
 use std::thread::Threads;
@@ -12,11 +13,11 @@ type Front<'a> = (&'a str, usize);
 
 // The first call of a table that the member answers otherwise, with that answer; none where it
 // answers all so.
-fn play<R: Threads + Sync>(
+fn play<W: Way, R: Threads + Sync>(
     rt: &R,
     alloc: Global,
-    scene: &Scene,
-    member: &mut Member,
+    scene: &Scene<W>,
+    member: &mut Member<W>,
     (table, count): Front,
 ) -> Result<Option<(usize, String)>, Fail> {
     for (place, line) in table.lines().take(count).enumerate() {
@@ -30,11 +31,11 @@ fn play<R: Threads + Sync>(
 }
 
 // Plays a table, and wants all answered as it says.
-fn play_rightly<R: Threads + Sync>(
+fn play_rightly<W: Way, R: Threads + Sync>(
     rt: &R,
     alloc: Global,
-    scene: &Scene,
-    member: &mut Member,
+    scene: &Scene<W>,
+    member: &mut Member<W>,
     table: Front,
 ) -> Result<(), Fail> {
     match play(rt, alloc, scene, member, table)? {
@@ -44,13 +45,13 @@ fn play_rightly<R: Threads + Sync>(
 }
 
 /// A new member that has played a table, and answered all as it says.
-pub(crate) fn after<R: Threads + Sync>(
+pub(crate) fn after<W: Way, R: Threads + Sync>(
     rt: &R,
     alloc: Global,
-    scene: &Scene,
+    scene: &Scene<W>,
     id: u16,
     table: Front,
-) -> Result<Member, Fail> {
+) -> Result<Member<W>, Fail> {
     let mut member = Member::new(rt, alloc, scene, id)?;
     match play_rightly(rt, alloc, scene, &mut member, table) {
         Ok(()) => Ok(member),
@@ -63,10 +64,10 @@ pub(crate) fn after<R: Threads + Sync>(
 
 /// The first call of a table that a new member answers otherwise once it has played another, with
 /// that answer; none where it answers all so.
-pub(crate) fn first_wrong<R: Threads + Sync>(
+pub(crate) fn first_wrong<W: Way, R: Threads + Sync>(
     rt: &R,
     alloc: Global,
-    scene: &Scene,
+    scene: &Scene<W>,
     id: u16,
     before: Front,
     table: &str,
@@ -92,10 +93,10 @@ const STOPS: [(u64, u8); 9] = [
 
 /// How many notes a start of member 2 finds where it has played a table, and the finalize vote of
 /// member 1 on the first block comes then, and is stopped at that device call: of each stop.
-pub(crate) fn found_after<R: Threads + Sync>(
+pub(crate) fn found_after<W: Way, R: Threads + Sync>(
     rt: &R,
     alloc: Global,
-    scene: &Scene,
+    scene: &Scene<W>,
     before: Front,
     call: u64,
 ) -> Result<Vec<usize>, Fail> {
@@ -107,10 +108,10 @@ pub(crate) fn found_after<R: Threads + Sync>(
     Ok(found)
 }
 
-fn found_with<R: Threads + Sync>(
+fn found_with<W: Way, R: Threads + Sync>(
     rt: &R,
     alloc: Global,
-    scene: &Scene,
+    scene: &Scene<W>,
     before: Front,
     stop: NodeCall,
 ) -> Result<usize, Fail> {
@@ -121,11 +122,11 @@ fn found_with<R: Threads + Sync>(
 }
 
 // How many notes a start finds behind the stopped vote.
-fn found_by<R: Threads + Sync>(
+fn found_by<W: Way, R: Threads + Sync>(
     rt: &R,
     alloc: Global,
-    scene: &Scene,
-    member: &mut Member,
+    scene: &Scene<W>,
+    member: &mut Member<W>,
     stop: NodeCall,
 ) -> Result<usize, Fail> {
     for call in [stop, NodeCall::Finalize(1, 1, 1), NodeCall::Restart] {
@@ -136,11 +137,11 @@ fn found_by<R: Threads + Sync>(
 
 // Whether an event that comes twice is answered so the first time, and the second time by nothing
 // and with no note.
-fn is_idle_again<R: Threads + Sync>(
+fn is_idle_again<W: Way, R: Threads + Sync>(
     rt: &R,
     alloc: Global,
-    scene: &Scene,
-    member: &mut Member,
+    scene: &Scene<W>,
+    member: &mut Member<W>,
     call: NodeCall,
     want: &str,
 ) -> Result<bool, Fail> {
@@ -155,10 +156,10 @@ fn is_idle_again<R: Threads + Sync>(
 
 /// The place of the first event of a table at which a new member does something else where each
 /// comes twice; none where it never does.
-pub(crate) fn first_changed<R: Threads + Sync>(
+pub(crate) fn first_changed<W: Way, R: Threads + Sync>(
     rt: &R,
     alloc: Global,
-    scene: &Scene,
+    scene: &Scene<W>,
     id: u16,
     table: &str,
 ) -> Result<Option<usize>, Fail> {
@@ -168,11 +169,11 @@ pub(crate) fn first_changed<R: Threads + Sync>(
     place
 }
 
-fn changed_at<R: Threads + Sync>(
+fn changed_at<W: Way, R: Threads + Sync>(
     rt: &R,
     alloc: Global,
-    scene: &Scene,
-    member: &mut Member,
+    scene: &Scene<W>,
+    member: &mut Member<W>,
     table: &str,
 ) -> Result<Option<usize>, Fail> {
     for (place, line) in table.lines().enumerate() {

@@ -4,17 +4,18 @@ use super::blocks::Scene;
 use cw_base::Digest32;
 use cw_coding::Chunk;
 use cw_types::{Commitment, Handed, Message, Out, Proposal, StepOut, TicketOut, To, Vote};
+use node::Way;
 use std::alloc::Global;
 use std::test::Fail;
 
 /// The text of what a step gives. Blocks are named by their places in a list.
-pub(crate) fn text_of(alloc: Global, scene: &Scene, out: &StepOut) -> Result<String, Fail> {
+pub(crate) fn text_of<W: Way>(alloc: Global, scene: &Scene<W>, out: &StepOut) -> Result<String, Fail> {
     let text = with_sent(alloc, scene, out.sent.as_slice())?;
     let text = with_handed(alloc, scene, text, out.handed.as_slice())?;
     with_tickets(alloc, scene, text, out.tickets.as_slice())
 }
 
-fn with_sent(alloc: Global, scene: &Scene, sent: &[Out]) -> Result<String, Fail> {
+fn with_sent<W: Way>(alloc: Global, scene: &Scene<W>, sent: &[Out]) -> Result<String, Fail> {
     let mut text = String::new(alloc);
     for out in sent {
         text = joined(alloc, text, sent_text(alloc, scene, out)?)?;
@@ -22,9 +23,9 @@ fn with_sent(alloc: Global, scene: &Scene, sent: &[Out]) -> Result<String, Fail>
     Ok(text)
 }
 
-fn with_handed(
+fn with_handed<W: Way>(
     alloc: Global,
-    scene: &Scene,
+    scene: &Scene<W>,
     mut text: String,
     handed: &[Handed],
 ) -> Result<String, Fail> {
@@ -34,9 +35,9 @@ fn with_handed(
     Ok(text)
 }
 
-fn with_tickets(
+fn with_tickets<W: Way>(
     alloc: Global,
-    scene: &Scene,
+    scene: &Scene<W>,
     mut text: String,
     tickets: &[TicketOut],
 ) -> Result<String, Fail> {
@@ -55,7 +56,7 @@ fn joined(alloc: Global, text: String, more: String) -> Result<String, Fail> {
 }
 
 // The height and the digest are those of the block.
-fn handed_text(alloc: Global, scene: &Scene, handed: &Handed) -> Result<String, Fail> {
+fn handed_text<W: Way>(alloc: Global, scene: &Scene<W>, handed: &Handed) -> Result<String, Fail> {
     let place = scene.named(&handed.commitment)?;
     let made = scene.block(place)?;
     if made.block.height() != handed.height || made.commitment.block != handed.digest {
@@ -64,7 +65,7 @@ fn handed_text(alloc: Global, scene: &Scene, handed: &Handed) -> Result<String, 
     Ok(format!(in alloc; "hand {place}")?)
 }
 
-fn ticket_text(alloc: Global, scene: &Scene, ticket: &TicketOut) -> Result<String, Fail> {
+fn ticket_text<W: Way>(alloc: Global, scene: &Scene<W>, ticket: &TicketOut) -> Result<String, Fail> {
     let number = ticket.number;
     match ticket.commitment {
         None => Ok(format!(in alloc; "ticket {number}")?),
@@ -75,7 +76,7 @@ fn ticket_text(alloc: Global, scene: &Scene, ticket: &TicketOut) -> Result<Strin
     }
 }
 
-fn sent_text(alloc: Global, scene: &Scene, out: &Out) -> Result<String, Fail> {
+fn sent_text<W: Way>(alloc: Global, scene: &Scene<W>, out: &Out) -> Result<String, Fail> {
     let message = message_text(alloc, scene, &out.message)?;
     match out.to {
         To::All => Ok(format!(in alloc; "all {message}")?),
@@ -83,7 +84,7 @@ fn sent_text(alloc: Global, scene: &Scene, out: &Out) -> Result<String, Fail> {
     }
 }
 
-fn message_text(alloc: Global, scene: &Scene, message: &Message) -> Result<String, Fail> {
+fn message_text<W: Way>(alloc: Global, scene: &Scene<W>, message: &Message) -> Result<String, Fail> {
     match message {
         Message::Shard(commitment, chunk) => shard_text(alloc, scene, commitment, chunk),
         Message::Vote(signer, vote) => {
@@ -106,9 +107,9 @@ fn message_text(alloc: Global, scene: &Scene, message: &Message) -> Result<Strin
 }
 
 // The chunk is that of its index.
-fn shard_text(
+fn shard_text<W: Way>(
     alloc: Global,
-    scene: &Scene,
+    scene: &Scene<W>,
     commitment: &Commitment,
     chunk: &Chunk<Digest32>,
 ) -> Result<String, Fail> {
@@ -120,7 +121,7 @@ fn shard_text(
     Ok(format!(in alloc; "shard {index} of {place}")?)
 }
 
-fn vote_text(alloc: Global, scene: &Scene, vote: &Vote) -> Result<String, Fail> {
+fn vote_text<W: Way>(alloc: Global, scene: &Scene<W>, vote: &Vote) -> Result<String, Fail> {
     match vote {
         Vote::Notarize(proposal) => {
             let proposal = proposal_text(alloc, scene, proposal)?;
@@ -135,7 +136,7 @@ fn vote_text(alloc: Global, scene: &Scene, vote: &Vote) -> Result<String, Fail> 
 }
 
 // The block, the epoch and the view, and the view that it stands over.
-fn proposal_text(alloc: Global, scene: &Scene, proposal: &Proposal) -> Result<String, Fail> {
+fn proposal_text<W: Way>(alloc: Global, scene: &Scene<W>, proposal: &Proposal) -> Result<String, Fail> {
     let place = scene.named(&proposal.payload)?;
     let Proposal {
         epoch,

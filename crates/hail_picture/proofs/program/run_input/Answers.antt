@@ -1,4 +1,5 @@
-use Rattle.hailstorm.proofs.Framing.{early_answers, early_fault, early_silent}
+use Rattle.cw_rules.specs.declared.travel.Travel.TheVariants.{Chunked}
+use Rattle.hail_world.proofs.Framing.{early_answers, early_fault, early_silent}
 use Rattle.hail_picture.specs.Drawing.{IsDrawn}
 use Rattle.hail_picture.proofs.program.run_input.Goals as goal
 
@@ -14,7 +15,7 @@ returns-in-Ok-clause-fault g c =
 
 pub returns-in-Err-clause-answer : goal.returns-in-Err-clause-answer
 returns-in-Err-clause-answer g c = λ text left.
-    early_answers g.H.Hasher.digest_of (IsDrawn g.H.Hasher.digest_of) text
+    early_answers Chunked g.H.Hasher.digest_of (IsDrawn g.H.Hasher.digest_of) text
     (g.I.Source.left c.run_source.new.input) (g.O.Sink.held c.args.output.now)
     (g.O.Sink.held c.end_early.new.output)
     (g.O.Sink.faults c.args.output.now) (g.O.Sink.faults c.end_early.new.output) c.in-Err.early

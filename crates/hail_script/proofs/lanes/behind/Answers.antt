@@ -1,5 +1,5 @@
-use Rattle.std.proofs.Common.{◌-◌, sym, drop, arith, length}
-use Rattle.std.proofs.lemmas.List.{drop_all, take_all, length-drop}
+use Rattle.std.proofs.Common.{◌-◌, drop, arith, length}
+use Rattle.std.proofs.lemmas.List.{take_all, length-drop}
 use Rattle.hail_script.proofs.lanes.behind.Goals as goal
 
 pub returns : goal.returns

@@ -1,4 +1,3 @@
-use Rattle.std.proofs.Common.{rules}
 use Rattle.hail_script.proofs.Sized.{small_members}
 use Rattle.hail_script.proofs.parse.narrow_all.Goals as goal
 

@@ -1,4 +1,4 @@
-use Rattle.std.proofs.Common.{ap, sym, ◌∙◌, [], ◌∷◌, ◌++◌, List, Bool, false, arith}
+use Rattle.std.proofs.Common.{sym, [], arith}
 use Rattle.std.proofs.lemmas.List.FromFn.{map-range_with_len_more}
 use Rattle.hail_script.specs.Grammar as grammar
 use Rattle.hail_script.proofs.parse.unmarked.Goals as goal

@@ -1,9 +1,11 @@
-use Rattle.hailstorm.specs.declared.frame.Early.TheVariants as early
-use Rattle.hailstorm.proofs.Framing.{early_fault, early_silent}
+use Rattle.cw_rules.specs.declared.travel.Travel.TheVariants as travel
+use Rattle.hail_report.specs.declared.exit.Early.TheVariants as early
+use Rattle.hail_world.proofs.Framing.{early_fault, early_silent}
 use Rattle.hailstorm.proofs.LanesMeaning.{fault_means, long_means, short_means, whole_fault, whole_read, whole_silent}
 use Rattle.hailstorm.specs.LanesProgram.{IsRunInLanes}
-use Rattle.hailstorm.proofs.Meaning.{too_long_early}
-use Rattle.hailstorm.proofs.Answering.{early_run, lanes_run, no_usage}
+use Rattle.hail_world.proofs.Meaning.{too_long_early}
+use Rattle.hail_world.proofs.Answering.{early_run, no_usage}
+use Rattle.hailstorm.proofs.Answering.{lanes_run}
 use Rattle.hailstorm.proofs.lane_program.lanes_program.Goals as goal
 
 pub returns-in-Whole-clause-answer : goal.returns-in-Whole-clause-answer
@@ -23,7 +25,8 @@ returns-in-Whole-clause-silent g c =
 pub returns-in-TooLong-clause-answer : goal.returns-in-TooLong-clause-answer
 returns-in-TooLong-clause-answer g c =
     λ text none left. long_means g.H.Hasher.digest_of text _ _ _ _ _ c.end_early.result
-    (too_long_early g.H.Hasher.digest_of text _ _ left c.in-TooLong.ensures) c.end_early.ensures
+    (too_long_early travel.Chunked g.H.Hasher.digest_of text _ _ left c.in-TooLong.ensures)
+    c.end_early.ensures
 
 pub returns-in-Whole-clause-run : goal.returns-in-Whole-clause-run
 returns-in-Whole-clause-run g c = λ none.

@@ -1,7 +1,7 @@
 use Rattle.std.proofs.Common.{◌≡◌, ◌≤◌, arith, refl, subst, true}
 use Rattle.hail_script.specs.Grammar.{IsRunnable}
-use Rattle.hailstorm.specs.Places.{rules_of}
-use Rattle.hailstorm.proofs.Known.{few_members}
+use Rattle.hail_world.specs.Places.{rules_of}
+use Rattle.hail_world.proofs.Known.{few_members}
 use Rattle.hailstorm.proofs.Laned.{lanes_refused, opening_clashed, tells_apart}
 use Rattle.hailstorm.proofs.lanes.open_text.Goals as goal
 
@@ -15,9 +15,10 @@ returns-in-Err-open-clause-err g c =
     let x = c.in-Ok.script in
     let s = x.script in
     let few : s.committees.total ≤ 65535 =
-    omega (arith, few_members s (subst IsRunnable c.script-2.ensures c.lines-lines.ensures.runnable)) in
+    omega (arith, few_members s (subst IsRunnable c.script-2.ensures
+    c.lines-lines.ensures.runnable)) in
     opening_clashed hash c.args.text.now x c.in-Err-open.error
     c.in-Ok.ensures.ok c.in-Err-open.ensures.err c.clash_laws.ensures.blocks
-    (tells_apart hash x (c.coded_tells.ensures s.committees s.backlog (λ b a. true) few)
+    (tells_apart hash x (c.ruled_tells.ensures s.travel s.committees s.backlog (λ b a. true) few)
     ((rw c.script.ensures at c.is_cluster.ensures) (rules_of hash s) refl)
     (c.script_laws.ensures.laned c.args.text.now x c.in-Ok.ensures.ok) c.clash_laws.ensures.texts)

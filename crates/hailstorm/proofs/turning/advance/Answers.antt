@@ -4,13 +4,14 @@ use Rattle.cw_rules.specs.Report.{entry_of}
 use Rattle.cw_rules.specs.World.{run}
 use Rattle.hail_script.specs.Events.{line_of}
 use Rattle.hail_script.specs.Scenario.{Scenario}
-use Rattle.hailstorm.specs.Lanes.{lines_of, played}
-use Rattle.hailstorm.specs.Places.{rules_of}
-use Rattle.hailstorm.specs.Runs.{opened}
-use Rattle.hailstorm.proofs.Known.{known_at, later_at, line_at, short_at}
+use Rattle.hail_world.specs.Played.{lines_of}
+use Rattle.hailstorm.specs.Lanes.{played}
+use Rattle.hail_world.specs.Places.{rules_of}
+use Rattle.hail_world.specs.Runs.{opened}
+use Rattle.hail_world.proofs.Known.{known_at, later_at, line_at, short_at}
 use Rattle.hailstorm.proofs.Laned.{begins, is_over, lines_then, next_row, turned_on, turns_then}
 use Rattle.hailstorm.proofs.Prefixed.{one_within}
-use Rattle.hailstorm.proofs.Turned.{played_same}
+use Rattle.hail_world.proofs.Turned.{played_same}
 use Rattle.hailstorm.proofs.turning.advance.Goals as goal
 
 pub turn_line-requires-clause-there : goal.turn_line-requires-clause-there

@@ -3,11 +3,11 @@ use Rattle.std.specs.Prelude.{slice_get, slice_index}
 use Rattle.hail_script.specs.Events.{line_of}
 use Rattle.hail_script.specs.Lanes.{rows}
 use Rattle.hail_script.specs.Scenario.{Scenario}
-use Rattle.hailstorm.specs.Places.{rules_of}
-use Rattle.hailstorm.specs.Runs.{opened}
-use Rattle.hailstorm.proofs.Known.{known_at, later_at, line_at, short_at}
+use Rattle.hail_world.specs.Places.{rules_of}
+use Rattle.hail_world.specs.Runs.{opened}
+use Rattle.hail_world.proofs.Known.{known_at, later_at, line_at, short_at}
 use Rattle.hailstorm.proofs.Prefixed.{before_begins, before_next, before_stops, within_lines}
-use Rattle.hailstorm.proofs.Turned.{played_none}
+use Rattle.hail_world.proofs.Turned.{played_none}
 use Rattle.hailstorm.proofs.turning.play_before.Goals as goal
 
 pub loop-index-init : goal.loop-index-init

@@ -1,8 +1,8 @@
 use Rattle.std.proofs.Common.{◌≡◌, length, take}
 use Rattle.hail_script.specs.Lanes.{rows}
-use Rattle.hailstorm.specs.Places.{WorkBy, rules_of}
-use Rattle.hailstorm.specs.Runs.{opened}
-use Rattle.hailstorm.specs.Turns.{HavePlayed}
+use Rattle.hail_world.specs.Places.{WorkBy, rules_of}
+use Rattle.hail_world.specs.Runs.{opened}
+use Rattle.hail_world.specs.Played.{HavePlayed}
 use Rattle.hailstorm.proofs.turning.play_before.Given as goal
 
 -- the lines so far were played without a clash

@@ -1,11 +1,12 @@
 use Rattle.std.proofs.Common.{◌∙◌}
-use Rattle.hailstorm.proofs.Framing.{done_answers, done_fault, done_silent}
+use Rattle.cw_rules.specs.declared.travel.Travel.TheVariants.{Chunked}
+use Rattle.hail_world.proofs.Framing.{done_answers, done_fault, done_silent}
 use Rattle.run_archive.specs.Program.{IsDone}
 use Rattle.run_archive.proofs.program.write_archive.Goals as goal
 
 pub returns-in-Ok-clause-answer : goal.returns-in-Ok-clause-answer
 returns-in-Ok-clause-answer g c = λ limit text rest fills read.
-    done_answers g.H.Hasher.digest_of (IsDone g.H.Hasher.digest_of limit) text rest
+    done_answers Chunked g.H.Hasher.digest_of (IsDone g.H.Hasher.digest_of limit) text rest
     (g.O.Sink.held c.args.output.now) (g.O.Sink.held c.finish.new.output)
     (g.O.Sink.faults c.args.output.now) (g.O.Sink.faults c.finish.new.output)
     (c.args.ran.report, c.args.archive) c.deref.result.now c.finish.result read.at_end

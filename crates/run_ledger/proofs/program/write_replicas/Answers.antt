@@ -1,5 +1,6 @@
 use Rattle.std.proofs.Common.{◌∙◌}
-use Rattle.hailstorm.proofs.Framing.{done_answers, done_fault, done_silent}
+use Rattle.cw_rules.specs.declared.travel.Travel.TheVariants.{Chunked}
+use Rattle.hail_world.proofs.Framing.{done_answers, done_fault, done_silent}
 use Rattle.run_ledger.specs.Ledgers.{AreDone}
 use Rattle.run_ledger.proofs.Meaning.{are_as_many, is_done}
 use Rattle.run_ledger.proofs.program.write_replicas.Goals as goal
@@ -11,7 +12,7 @@ ledger_text-requires g c =
 
 pub returns-in-Ok-clause-answer : goal.returns-in-Ok-clause-answer
 returns-in-Ok-clause-answer g c = λ text rest read.
-    done_answers g.H.Hasher.digest_of (AreDone g.H.Hasher.digest_of) text rest
+    done_answers Chunked g.H.Hasher.digest_of (AreDone g.H.Hasher.digest_of) text rest
     (g.O.Sink.held c.args.output.now) (g.O.Sink.held c.finish.new.output)
     (g.O.Sink.faults c.args.output.now) (g.O.Sink.faults c.finish.new.output)
     (c.args.ran.report, c.args.replicas) c.deref.result.now c.finish.result read.at_end

@@ -1,5 +1,6 @@
-use Rattle.hailstorm.proofs.Framing.{early_answers, early_fault, early_silent}
-use Rattle.hailstorm.proofs.Answering.{answers_run, early_run}
+use Rattle.cw_rules.specs.declared.travel.Travel.TheVariants.{Chunked}
+use Rattle.hail_world.proofs.Framing.{early_answers, early_fault, early_silent}
+use Rattle.hail_world.proofs.Answering.{answers_run, early_run}
 use Rattle.run_light.specs.Telling.{IsToldRun}
 use Rattle.run_light.proofs.program.run_input.Goals as goal
 
@@ -15,7 +16,7 @@ returns-in-Ok-clause-fault g c =
 
 pub returns-in-Err-clause-answer : goal.returns-in-Err-clause-answer
 returns-in-Err-clause-answer g c = λ text left.
-    early_answers g.H.Hasher.digest_of (IsToldRun g.H.Hasher.digest_of c.args.height) text
+    early_answers Chunked g.H.Hasher.digest_of (IsToldRun g.H.Hasher.digest_of c.args.height) text
     (g.I.Source.left c.run_source.new.input) (g.O.Sink.held c.args.output.now)
     (g.O.Sink.held c.end_early.new.output)
     (g.O.Sink.faults c.args.output.now) (g.O.Sink.faults c.end_early.new.output) c.in-Err.early
@@ -38,7 +39,7 @@ pub returns-in-Ok-clause-run : goal.returns-in-Ok-clause-run
 returns-in-Ok-clause-run g c =
     let (text, read) = c.in-Ok.ensures.read in
     answers_run (IsToldRun g.H.Hasher.digest_of c.args.height) (g.O.Sink.held c.args.output.now)
-    (g.O.Sink.held c.write_light.new.output) g.H.Hasher.digest_of text
+    (g.O.Sink.held c.write_light.new.output) Chunked g.H.Hasher.digest_of text
     (g.I.Source.left c.run_source.new.input) c.write_light.result
     (c.write_light.ensures.answer text (g.I.Source.left c.run_source.new.input) read)
 

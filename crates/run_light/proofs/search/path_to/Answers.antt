@@ -3,7 +3,7 @@ use Rattle.std.proofs.lemmas.Result.{IfOk-weaker}
 use Rattle.cw_types.specs.Block.{Block}
 use Rattle.cw_rules.specs.Rules.{Rules}
 use Rattle.cw_rules_coded.specs.Coded.{coded}
-use Rattle.hailstorm.proofs.Between.{none_when}
+use Rattle.hail_world.proofs.Nothing.{none_when}
 use Rattle.run_light.specs.Finding.{path_to}
 use Rattle.run_light.proofs.Paths.{behind, behind_end, behind_on, behind_start, from, smaller}
 use Rattle.run_light.proofs.search.path_to.Goals as goal

@@ -1,9 +1,6 @@
-use Rattle.std.proofs.Common.{◌≡◌, ℕ, true, map, List, subst, sym, ◌∙◌, ap, inr, IsTrue, Some, None}
-use Rattle.std.specs.List.{list_all}
+use Rattle.std.proofs.Common.{◌≡◌, true, map, subst, sym, ◌∙◌, inr}
 use Rattle.cw_types.specs.Epochs.{Epochs, is_sound}
-use Rattle.hail_script.specs.Admission as admission
 use Rattle.hail_script.specs.Events.{line_of}
-use Rattle.hail_script.specs.Grammar as grammar
 use Rattle.hail_script.specs.Scenario.{Scenario}
 use Rattle.hail_script.proofs.Admitting.{unknown, too_many, oversize, runs, runnable, sound_marked}
 use Rattle.hail_script.proofs.script.Script.admit.Goals as goal
@@ -12,6 +9,7 @@ pub returns-in-Some-clause-err : goal.returns-in-Some-clause-err
 returns-in-Some-clause-err c =
     let s : Scenario =
     record {
+      travel = c.args.travel;
       committees = c.args.committees;
       backlog = c.args.backlog;
       lines = map line_of c.args.events;
@@ -30,6 +28,7 @@ pub returns-then-not-bears_all-clause-err : goal.returns-then-not-bears_all-clau
 returns-then-not-bears_all-clause-err c =
     let s : Scenario =
     record {
+      travel = c.args.travel;
       committees = c.args.committees;
       backlog = c.args.backlog;
       lines = map line_of c.args.events;
@@ -57,6 +56,7 @@ pub returns-in-Some-first_oversize-clause-err : goal.returns-in-Some-first_overs
 returns-in-Some-first_oversize-clause-err c =
     let s : Scenario =
     record {
+      travel = c.args.travel;
       committees = c.args.committees;
       backlog = c.args.backlog;
       lines = map line_of c.args.events;
@@ -87,6 +87,7 @@ pub invariant_of-result : goal.invariant_of-result
 invariant_of-result c =
     let s : Scenario =
     record {
+      travel = c.args.travel;
       committees = c.args.committees;
       backlog = c.args.backlog;
       lines = map line_of c.args.events;
@@ -121,6 +122,7 @@ pub returns-clause-ok : goal.returns-clause-ok
 returns-clause-ok c =
     let s : Scenario =
     record {
+      travel = c.args.travel;
       committees = c.args.committees;
       backlog = c.args.backlog;
       lines = map line_of c.args.events;

@@ -1,8 +1,6 @@
-use Rattle.std.proofs.Common.{◌≡◌, ◌&&◌, ℕ, true, map, List, sym, ◌∙◌, inr, Some, nat_le, nat_lt, length, ◌^◌}
-use Rattle.std.specs.List.{list_all}
+use Rattle.std.proofs.Common.{map, sym, ◌∙◌, inr, Some, nat_le, nat_lt, ◌^◌}
 use Rattle.std.proofs.lemmas.Bool.{and_parts}
 use Rattle.hail_script.specs.Events.{line_of}
-use Rattle.hail_script.specs.Grammar as grammar
 use Rattle.hail_script.specs.Scenario.{Scenario}
 use Rattle.hail_script.proofs.Admitting.{unsized, strange}
 use Rattle.hail_script.proofs.Sized.{committees}
@@ -12,6 +10,7 @@ pub returns-then-not-are_sized-clause-err : goal.returns-then-not-are_sized-clau
 returns-then-not-are_sized-clause-err c =
     let s : Scenario =
     record {
+      travel = c.args.travel;
       committees = record {
         total = c.args.members;
         span = Some c.args.span;
@@ -27,6 +26,7 @@ pub returns-in-Some-clause-err : goal.returns-in-Some-clause-err
 returns-in-Some-clause-err c =
     let s : Scenario =
     record {
+      travel = c.args.travel;
       committees = record {
         total = c.args.members;
         span = Some c.args.span;

@@ -1,4 +1,4 @@
-use Rattle.std.proofs.Common.{◌≡◌, map, sym, ap, ◌∙◌, subst}
+use Rattle.std.proofs.Common.{map, sym, ap, ◌∙◌, subst}
 use Rattle.cw_rules.specs.Reached.{IsCluster}
 use Rattle.hail_script.specs.Events.{line_of}
 use Rattle.hail_script.specs.Scenario.{Scenario}

@@ -1,12 +1,13 @@
 use Rattle.std.proofs.Common.{◌≡◌, ◌++◌, ℕ, [], List, None, length, take, drop, refl, ap, sym, subst, ◌∙◌}
 use Rattle.hail_script.specs.Lanes.{lanes}
 use Rattle.hail_script.specs.Scenario.{Scenario}
-use Rattle.hailstorm.specs.declared.place.Place.{Place}
+use Rattle.hail_world.specs.declared.place.Place.{Place}
 use Rattle.hailstorm.specs.Lanes.{lane_at, left}
-use Rattle.hailstorm.specs.Seats.{Seat}
+use Rattle.hail_world.specs.Seats.{Seat}
 use Rattle.hailstorm.specs.Turns.{Turning}
-use Rattle.hailstorm.proofs.Between.{none_when, nothing_next, rows_many, same_between, turns_none}
-use Rattle.hailstorm.proofs.Running.{whole_front}
+use Rattle.hailstorm.proofs.Between.{nothing_next, rows_many, same_between, turns_none}
+use Rattle.hail_world.proofs.Nothing.{none_when}
+use Rattle.hail_world.proofs.Running.{whole_front}
 use Rattle.hailstorm.proofs.turning.Turning.answer_twice.Goals as goal
 
 pub returns-in_default-cursor_at-clause-lawful : goal.returns-in_default-cursor_at-clause-lawful

@@ -4,10 +4,10 @@ use Rattle.std.specs.Prelude.{flat_map}
 use Rattle.hail_script.specs.Lanes.{laned_of, lanes}
 use Rattle.hail_script.specs.Scenario.{Scenario}
 use Rattle.hailstorm.specs.Lanes.{left}
-use Rattle.hailstorm.specs.Places.{rules_of}
+use Rattle.hail_world.specs.Places.{rules_of}
 use Rattle.hailstorm.specs.Turns.{Turning}
 use Rattle.hailstorm.proofs.Between.{ends_reported, over_cause, over_of}
-use Rattle.hailstorm.proofs.Known.{few_members}
+use Rattle.hail_world.proofs.Known.{few_members}
 use Rattle.hailstorm.proofs.Laned.{tells_apart}
 use Rattle.hailstorm.proofs.turning.Turning.end.Goals as goal
 
@@ -36,12 +36,14 @@ returns-clause-err g c = λ text spells.
     let s = i.script.script in
     let laned = subst (λ (t : Turning). laned_of text ≡ Ok t.laned) (sym c.self.view_is) spells in
     let few : s.committees.total ≤ 65535 =
-    omega (arith, few_members s (subst IsRunnable c.script-3.ensures c.lines-lines.ensures.runnable)) in
+    omega (arith, few_members s (subst IsRunnable c.script-3.ensures
+    c.lines-lines.ensures.runnable)) in
     rw c.order_beside.ensures
     (over_cause hash text i.script i.order c.in-Some.error laned
     (over_of hash i.script i.order i.stopped i.opening i.cursors.items i.pool i.places.items
     i.known i.faulty.items c.self.invariant c.in-Some.error c.in-Some.is)
     c.clash_laws.ensures.blocks
-    (tells_apart hash i.script (c.coded_tells.ensures s.committees s.backlog (λ b a. true) few)
+    (tells_apart hash i.script (c.ruled_tells.ensures s.travel s.committees s.backlog (λ b a. true)
+    few)
     ((rw c.script.ensures at c.is_cluster.ensures) (rules_of hash s) refl)
     (c.script_laws.ensures.laned text i.script laned) c.clash_laws.ensures.texts))

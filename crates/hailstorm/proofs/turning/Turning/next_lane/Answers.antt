@@ -4,7 +4,8 @@ use Rattle.hail_script.specs.Lanes.{lanes}
 use Rattle.hail_script.specs.Scenario.{Scenario}
 use Rattle.hailstorm.specs.Lanes.{lane_at, left}
 use Rattle.hailstorm.specs.Turns.{Turning}
-use Rattle.hailstorm.proofs.Between.{none_next, none_unless, rows_many, some_next}
+use Rattle.hailstorm.proofs.Between.{none_next, rows_many, some_next}
+use Rattle.hail_world.proofs.Nothing.{none_unless}
 use Rattle.hailstorm.proofs.turning.Turning.next_lane.Goals as goal
 
 pub returns-clause-some : goal.returns-clause-some

@@ -2,16 +2,16 @@ use Rattle.std.proofs.Common.{◌≡◌, ◌++◌, ℕ, List, [], length, take, 
 use Rattle.hail_script.specs.Lanes.{rows}
 use Rattle.hail_script.specs.Scenario.{Scenario}
 use Rattle.cw_rules.specs.World.{Line}
-use Rattle.hailstorm.specs.declared.place.Place.{Place}
-use Rattle.hailstorm.specs.Lanes.{lines_of}
-use Rattle.hailstorm.specs.Places.{rules_of}
-use Rattle.hailstorm.specs.Runs.{IsStopped, opened}
-use Rattle.hailstorm.specs.Seats.{Seat}
+use Rattle.hail_world.specs.declared.place.Place.{Place}
+use Rattle.hail_world.specs.Played.{lines_of}
+use Rattle.hail_world.specs.Places.{rules_of}
+use Rattle.hail_world.specs.Runs.{IsStopped, opened}
+use Rattle.hail_world.specs.Seats.{Seat}
 use Rattle.hailstorm.proofs.Between.{rows_many, same_between}
-use Rattle.hailstorm.proofs.Colliding.{knows_opened}
-use Rattle.hailstorm.proofs.Opening.{flags_open}
+use Rattle.hail_world.proofs.Colliding.{knows_opened}
+use Rattle.hail_world.proofs.Opening.{flags_open}
 use Rattle.hailstorm.proofs.Prefixed.{opens_between, prefix_is}
-use Rattle.hailstorm.proofs.Running.{whole_front}
+use Rattle.hail_world.proofs.Running.{whole_front}
 use Rattle.hailstorm.proofs.turning.Turning.open.Goals as goal
 
 pub play_before-requires-clause-flags : goal.play_before-requires-clause-flags
@@ -64,7 +64,8 @@ invariant_of-result g c =
     ∙ c.in_ok-opening.ensures.count
     ∙ ap (λ (s : Scenario). s.committees.total) c.script-plain.ensures in (
       rw c.script-plain.ensures at c.in_ok-opening.ensures.opening,
-      same_between hash x [] c.new-2.result c.in_ok-before.cursors.items c.in_ok-before.cursors.items
+      same_between hash x [] c.new-2.result c.in_ok-before.cursors.items
+      c.in_ok-before.cursors.items
           c.in-Ok.pool new _ c.play_before.new.known c.deref-2.result.now
           c.in_ok-faulty.faulty.items
           (sym c.new-2.ensures) refl (sym back) c.deref-2.ensures.value

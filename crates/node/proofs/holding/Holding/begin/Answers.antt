@@ -1,5 +1,5 @@
 use Rattle.std.proofs.Common.{sym, ◌∙◌, ap, subst, refl, ◌++◌, []}
-use Rattle.cw_rules_coded.specs.Coded.{coded}
+use Rattle.cw_rules_coded.specs.Coded.{ruled}
 use Rattle.node.proofs.Starting.{stands_begun}
 use Rattle.node.specs.Holding.{Holding}
 use Rattle.node.specs.Standing.{IsReady}
@@ -14,7 +14,7 @@ returns-in-Ok-clause-ready g c =
     let setup = c.args.setup in
     let t = store_of c.args.store.marshal in
     let log = log_of c.args.store.marshal in
-    let r = coded hash setup.committees setup.backlog (accepts setup.app) in
+    let r = ruled setup.travel hash setup.committees setup.backlog (accepts setup.app) in
     let told =
     c.in-Ok.ensures.ok
     ∙ ap
@@ -23,6 +23,7 @@ returns-in-Ok-clause-ready g c =
     c.over-holding.ensures in
     let is =
     told ∙ (λ i. record {
+      travel = setup.travel;
       id = setup.id;
       epochs = setup.committees;
       backlog = setup.backlog;
@@ -43,8 +44,8 @@ returns-in-Ok-clause-ready g c =
     }) in
     subst (λ (k : Holding g.row.D.Denot g.row.A.Denot). IsReady hash accepts k) (sym is) (record {
       stands =
-          stands_begun hash accepts setup.id setup.committees setup.backlog setup.app t log
-          c.requires.epochs c.requires.backlog c.requires.running
+          stands_begun hash accepts setup.travel setup.id setup.committees setup.backlog setup.app
+          t log c.requires.epochs c.requires.backlog c.requires.running
           (λ u s stands note. c.standing_is_kept.ensures.note hash u r s stands note)
           (c.standing_is_kept.ensures.start hash r setup.id t.given refl refl refl)
           (c.shards_stand.ensures.start hash setup.committees setup.backlog (accepts setup.app));

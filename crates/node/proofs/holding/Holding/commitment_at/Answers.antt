@@ -1,6 +1,5 @@
 use Rattle.std.proofs.Common.{◌∙◌, ap, true}
 use Rattle.cw_rules.specs.Held.{at_height}
-use Rattle.cw_rules.specs.declared.travel.Travel.TheVariants.{Chunked}
 use Rattle.cw_rules_coded.specs.Coded.{coded}
 use Rattle.marshal.proofs.Applications.{any_height}
 use Rattle.node.specs.Holding.{Holding}
@@ -21,5 +20,5 @@ returns g c =
     ∙ (same
     ∙ ((λ i. at_height (coded hash (s.epochs i) (s.backlog i) (λ b a. true))
     (stored_notes h.store) c.args.height)
-    ∙ any_height Chunked hash h.epochs h.backlog (g.A.Application.accepts h.app)
+    ∙ any_height h.travel hash h.epochs h.backlog (g.A.Application.accepts h.app)
     (stored_notes h.store) c.args.height))

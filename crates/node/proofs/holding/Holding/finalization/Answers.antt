@@ -1,7 +1,6 @@
 use Rattle.std.proofs.Common.{◌∙◌, ap, true}
 use Rattle.cw_rules.specs.Accepted.{first_some}
 use Rattle.cw_rules.specs.Sends.{finalization_at}
-use Rattle.cw_rules.specs.declared.travel.Travel.TheVariants.{Chunked}
 use Rattle.cw_rules_coded.specs.Coded.{coded}
 use Rattle.marshal.proofs.Applications.{any_finalization}
 use Rattle.node.specs.Holding.{Holding}
@@ -26,5 +25,5 @@ returns g c =
     (finalization_at (coded hash (s.epochs i) (s.backlog i) (λ b a. true)) all
     c.args.height)
     all)
-    ∙ any_finalization Chunked hash h.epochs h.backlog (g.A.Application.accepts h.app) all
+    ∙ any_finalization h.travel hash h.epochs h.backlog (g.A.Application.accepts h.app) all
     c.args.height))

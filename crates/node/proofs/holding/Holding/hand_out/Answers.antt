@@ -1,6 +1,5 @@
 use Rattle.std.proofs.Common.{◌∙◌, ap, true, ◌++◌, map}
 use Rattle.cw_rules.specs.Step.{deliveries, nothing_came}
-use Rattle.cw_rules.specs.declared.travel.Travel.TheVariants.{Chunked}
 use Rattle.cw_rules_coded.specs.Coded.{coded}
 use Rattle.cw_types.specs.declared.event.Handed.{Handed}
 use Rattle.node.proofs.Stepping.{stands_handed}
@@ -23,7 +22,7 @@ returns-clause-value g c =
     ∙ (same
     ∙ ((λ i. deliveries (coded hash (s.epochs i) (s.backlog i) (λ b a. true))
     (stored_state h.store))
-    ∙ any_deliveries Chunked hash h.epochs h.backlog (g.A.Application.accepts h.app)
+    ∙ any_deliveries h.travel hash h.epochs h.backlog (g.A.Application.accepts h.app)
     (stored_notes h.store) nothing_came (came_of h) h.store.given))
 
 pub returns-clause-stands : goal.returns-clause-stands

@@ -33,4 +33,4 @@ returns-clause-value g c =
     let b = sym c.in_ok-note.ensures.value ∙ c.in_default.is in
     let d = sym c.in_ok-note-2.ensures.value ∙ c.in_default-2.is in
     let f = sym c.in_ok-note-3.ensures.value ∙ c.in_default-3.is in
-    c.owed_without_memory.ensures.value ∙ sym (as_owed ∙ rw (b, d, f) refl)
+    c.in_ok-note-4.ensures.value ∙ sym (as_owed ∙ rw (b, d, f) refl)

@@ -1,7 +1,6 @@
 use Rattle.std.proofs.Common.{◌∙◌, ap, ◌++◌, List, filter_map, true}
 use Rattle.cw_types.specs.declared.event.TicketOut.{TicketOut}
 use Rattle.cw_rules.specs.Step.{served, ticket_given, ticketed, unserved}
-use Rattle.cw_rules.specs.declared.travel.Travel.TheVariants.{Chunked}
 use Rattle.cw_rules_coded.specs.Coded.{coded}
 use Rattle.marshal.proofs.Applications.{any_served, any_unserved}
 use Rattle.node.specs.Holding.{Holding}
@@ -27,8 +26,8 @@ returns-clause-ok g c =
     { tickets = unserved (coded hash (s.epochs i) (s.backlog i) (λ b a. true)) all after })
     ∙ (λ i. record now.store {
       tickets =
-          any_unserved Chunked hash now.epochs now.backlog (g.A.Application.accepts now.app) all after
-          i;
+          any_unserved now.travel hash now.epochs now.backlog (g.A.Application.accepts now.app)
+          all after i;
     }))) in
     let l =
     c.in_ok-served.ensures.log ∙ ap (λ (k : Holding g.row.D.Denot g.row.A.Denot). k.log) e in
@@ -54,6 +53,7 @@ returns-clause-out g c =
     ∙ ((λ i. filter_map (served (coded hash (s.epochs i) (s.backlog i) (λ b a. true)) all)
     after.waiting)
     ∙ (λ i. filter_map
-    (λ x. any_served Chunked hash now.epochs now.backlog (g.A.Application.accepts now.app) all x i)
+    (λ x. any_served now.travel hash now.epochs now.backlog (g.A.Application.accepts now.app)
+    all x i)
     after.waiting)))) in
     c.in_ok-put_served.ensures ∙ (λ i. a i ++ b i)

@@ -1,0 +1,10 @@
+use Rattle.std.proofs.Common.{◌≡◌, ◌≤◌, ◌*◌, ◌^◌, take}
+use Rattle.hail_report.specs.Text.{sent_count}
+use Rattle.hail_report.proofs.storm.sent_count.Given as goal
+
+-- the sum so far
+abbrev pub invariant-loop-entry : goal.invariant-loop-entry
+invariant-loop-entry l = record {
+  sum : l.count ≡ sent_count (take l.entry-index l.entries);
+  bound : l.count ≤ 2 ^ 64 * l.entry-index;
+}

@@ -1,0 +1,10 @@
+pub mod Seats
+pub mod Places
+pub mod Offers
+pub mod Honest
+pub mod Reports
+pub mod Runs
+pub mod Known
+pub mod Played
+pub mod Programs
+pub mod Headline

@@ -1,0 +1,27 @@
+//! The cluster that a script runs, for both ways in which blocks travel, what is reported of the
+//! run, and the frame of a program from bytes to bytes.
+#![tactic(auto)]
+
+mod blocks;
+mod chain;
+mod clash;
+mod event;
+mod fault;
+mod frame;
+mod line_turn;
+mod place;
+mod play;
+mod program;
+mod report;
+mod seat;
+mod turn;
+mod world;
+
+pub use blocks::KnownBlocks;
+pub use frame::run_source;
+pub use line_turn::turn_line;
+pub use place::Place;
+pub use program::run_input;
+pub use report::{Ran, Report, report_text};
+pub use seat::{Seat, SeatNode};
+pub use world::{open_all, report_of, run_text};

@@ -1,0 +1,392 @@
+//! What a line makes of the member that it names.
+
+ghost use Rattle.std.specs.Prelude.{◌≡◌, ◌<◌, ◌≤◌, List, ℕ, Option, Some, None, [], false, map};
+ghost use Rattle.std.specs.Prelude.{true, is_none, option_and_then, IfOk, IsTrue};
+ghost use Rattle.cw_types.specs.declared.note.Note.{Note as NoteValue};
+ghost use Rattle.cw_types.specs.declared.event.Event.{Event as EventValue};
+ghost use Rattle.cw_rules.specs.Step.{Member, Stepped, cut_step, start};
+ghost use Rattle.cw_rules.specs.World as rule;
+ghost use Rattle.marshal.specs.Frames.{FindsNotes};
+ghost use Rattle.node_disk.specs.Memory.{is_calm, memory_state};
+ghost use Rattle.hail_script.specs.Admission.{asks_oversize};
+ghost use Rattle.hail_script.specs.Events.{ask_of, line_of};
+ghost use Rattle.hail_script.specs.Grammar.{is_later, names_oversize};
+ghost use Rattle.hail_world.specs.Places.{DiskHolds, IsPutOut, Makes, SitsAs, WorksBy};
+ghost use Rattle.hail_world.specs.Places.{did, did_cut};
+ghost use Rattle.hail_world.specs.Places.{over, rules_of, starts_again, table, turned_by};
+ghost use Rattle.hail_world.specs.Places as places;
+ghost use Rattle.hail_world.specs.declared.place.Place.TheVariants.{Live};
+ghost use Rattle.hail_report.specs.Pool.{sent_in};
+ghost use Rattle.hail_world.specs.Seats.{HasStepped, Works, out_of, rules_by};
+
+use crate::event::{Table, event_for};
+use crate::place::Place;
+use crate::seat::{Seat, SeatNode, start, step};
+use cw_base::{Digest32, Hasher, Items, NoMemory, Strategy};
+use cw_types::{Event, Note, StepOut};
+use hail_script::{Ask, EventLine, Script, Stop};
+use marshal::notes_on;
+use node::Way;
+use node_disk::{MemoryDisk, StoreError, law_of_a_stop};
+use std::alloc::Global;
+use std::thread::Threads;
+
+// A member takes an event.
+fn take_event<H: Hasher<Digest = Digest32>, W: Way, R: Threads + Sync, S: Strategy>(
+    rt: &R,
+    alloc: Global,
+    votes: &Table<'_>,
+    node: &mut SeatNode<H, W>,
+    event: &Event,
+    strategy: &S,
+) -> Result<StepOut, NoMemory>
+    requires works { Works node.old }
+    requires calm { is_calm node.old.log.disk ≡ true }
+    ensures steps { IfOk result
+        (λ out. HasStepped (rules_by H.digest_of node.old)
+        (table votes.now.faulty.now (sent_in votes.now.pool.now)) event.now node.old node.new out) }
+    ensures calm { IfOk result (λ out. is_calm node.new.log.disk ≡ true) }
+{
+    match step(rt, alloc, node, event, votes, strategy) {
+        Ok(out) => Ok(out),
+        Err(StoreError::NoMemory) => Err(NoMemory),
+        Err(StoreError::Disk) => unreachable!(),
+        Err(_) => unreachable!(),
+    }
+}
+
+// A member's place once it is stopped.
+fn stopped<H: Hasher<Digest = Digest32>, W: Way>(
+    alloc: Global,
+    node: SeatNode<H, W>,
+) -> Result<Place<Seat<H, W>>, NoMemory>
+    requires { (frames : List (List NoteValue))
+        × FindsNotes frames (memory_state node.log.disk).now.seen }
+    ensures { IfOk result (λ place. IsPutOut node.log.disk place) }
+{
+    let disk = node.into_disk().reopen();
+    match notes_on(alloc, disk.bytes()) {
+        Ok(notes) => Ok(Place::Stopped(disk, notes)),
+        Err(StoreError::NoMemory) => Err(NoMemory),
+        Err(StoreError::Foreign(_)) => unreachable!(),
+        Err(_) => unreachable!(),
+    }
+}
+
+// Nothing is sent or handed out.
+fn nothing(alloc: Global) -> StepOut
+    ensures { result ≡ record { sent = []; handed = []; tickets = [] } }
+{
+    StepOut {
+        sent: Items::new(alloc),
+        handed: Items::new(alloc),
+        tickets: Items::new(alloc),
+    }
+}
+
+// A member takes an event with a stop.
+fn cut_event<H: Hasher<Digest = Digest32>, W: Way, R: Threads + Sync, S: Strategy>(
+    rt: &R,
+    alloc: Global,
+    votes: &Table<'_>,
+    mut node: SeatNode<H, W>,
+    stop: Stop,
+    event: &Event,
+    strategy: &S,
+) -> Result<(Place<Seat<H, W>>, StepOut), NoMemory>
+    requires works { Works node }
+    requires calm { is_calm node.log.disk ≡ true }
+    requires later { 0 < stop.call }
+    ensures cut { let done = cut_step (rules_by H.digest_of node) node.id
+        (table votes.now.faulty.now
+        (sent_in votes.now.pool.now)) node.member stop.call stop.cut stop.fill event.now in
+        IfOk result (λ made. SitsAs made.0 (Some done.member) × (made.1 ≡ out_of done)) }
+    ensures sound { IfOk result (λ made. WorksBy (rules_by H.digest_of node) node.id made.0) }
+{
+    law_of_a_stop();
+    node.stop_at(stop.call, stop.cut, stop.fill);
+    match step(rt, alloc, &mut node, event, votes, strategy) {
+        Ok(out) => Ok((stopped(alloc, node)?, out)),
+        Err(StoreError::Disk) => Ok((stopped(alloc, node)?, nothing(alloc))),
+        Err(StoreError::NoMemory) => {
+            drop(node);
+            Err(NoMemory)
+        }
+        Err(_) => unreachable!(),
+    }
+}
+
+// A stopped member starts on its disk.
+pub(crate) fn restart<H: Hasher<Digest = Digest32>, W: Way, R: Threads + Sync, S: Strategy>(
+    rt: &R,
+    alloc: Global,
+    script: &Script,
+    id: u16,
+    disk: MemoryDisk,
+    strategy: &S,
+) -> Result<(Place<Seat<H, W>>, StepOut), NoMemory>
+    requires way { script.now.travel ≡ W.travel }
+    requires known { id < script.now.committees.total }
+    requires calm { is_calm disk ≡ true }
+    requires holds { (frames : List (List NoteValue))
+        × FindsNotes frames (memory_state disk).now.seen }
+    ensures started { (frames : List (List NoteValue))
+        → FindsNotes frames (memory_state disk).now.seen
+        → let done = start (rules_of H.digest_of script.now) id frames in
+        IfOk result (λ made. SitsAs made.0 (Some done.member) × (made.1 ≡ out_of done)) }
+    ensures sound { IfOk result (λ made. WorksBy (rules_of H.digest_of script.now) id made.0) }
+{
+    let committees = script.committees(alloc)?;
+    let (seat, out) = start(rt, alloc, id, committees, script.backlog(), disk, strategy)?;
+    Ok((Place::Live(seat), out))
+}
+
+// A member that runs takes the event that it was asked for.
+fn event_taken<H: Hasher<Digest = Digest32>, W: Way, R: Threads + Sync, S: Strategy>(
+    rt: &R,
+    alloc: Global,
+    votes: &Table<'_>,
+    seat: Seat<H, W>,
+    event: &Event,
+    strategy: &S,
+) -> Result<(Seat<H, W>, StepOut), NoMemory>
+    requires works { Works seat }
+    requires calm { is_calm seat.log.disk ≡ true }
+    ensures steps { IfOk result
+        (λ made. HasStepped (rules_by H.digest_of seat)
+        (table votes.now.faulty.now (sent_in votes.now.pool.now)) event.now seat made.0 made.1) }
+    ensures calm { IfOk result (λ made. is_calm made.0.log.disk ≡ true) }
+{
+    let Seat { mut node } = seat;
+    match take_event(rt, alloc, votes, &mut node, event, strategy) {
+        Ok(out) => Ok((Seat { node }, out)),
+        Err(error) => {
+            drop(node);
+            Err(error)
+        }
+    }
+}
+
+// A member that runs, and is asked for something.
+fn asked_live<H: Hasher<Digest = Digest32>, W: Way, R: Threads + Sync, S: Strategy>(
+    rt: &R,
+    alloc: Global,
+    script: &Script,
+    votes: &Table<'_>,
+    id: u16,
+    seat: Seat<H, W>,
+    ask: &Ask,
+    strategy: &S,
+) -> Result<(Place<Seat<H, W>>, Option<StepOut>), NoMemory>
+    requires sound { WorksBy (rules_of H.digest_of script.now) id (Live seat) }
+    requires short { asks_oversize ask.now ≡ false }
+    ensures makes { (o : Option Member) → SitsAs (Live seat) o
+        → let signed = table votes.now.faulty.now (sent_in votes.now.pool.now) in
+        IfOk result
+        (λ made. Makes o
+        (option_and_then
+        (did (rules_of H.digest_of script.now) signed (over (sent_in votes.now.pool.now)) id
+        (ask_of ask.now)) o) made.0 made.1) }
+    ensures sound { IfOk result (λ made. WorksBy (rules_of H.digest_of script.now) id made.0) }
+{
+    match event_for(alloc, votes.pool, id, ask) {
+        Ok(None) => Ok((Place::Live(seat), None)),
+        Ok(Some(event)) => {
+            let made = event_taken(rt, alloc, votes, seat, &event, strategy);
+            drop(event);
+            let (seat, out) = made?;
+            Ok((Place::Live(seat), Some(out)))
+        }
+        Err(error) => {
+            drop(seat);
+            Err(error)
+        }
+    }
+}
+
+// A member that is asked for something.
+fn asked<H: Hasher<Digest = Digest32>, W: Way, R: Threads + Sync, S: Strategy>(
+    rt: &R,
+    alloc: Global,
+    script: &Script,
+    votes: &Table<'_>,
+    id: u16,
+    place: Place<Seat<H, W>>,
+    ask: &Ask,
+    strategy: &S,
+) -> Result<(Place<Seat<H, W>>, Option<StepOut>), NoMemory>
+    requires sound { WorksBy (rules_of H.digest_of script.now) id place }
+    requires short { asks_oversize ask.now ≡ false }
+    ensures makes { (o : Option Member) → SitsAs place o
+        → let signed = table votes.now.faulty.now (sent_in votes.now.pool.now) in
+        IfOk result
+        (λ made. Makes o
+        (option_and_then
+        (did (rules_of H.digest_of script.now) signed (over (sent_in votes.now.pool.now)) id
+        (ask_of ask.now)) o) made.0 made.1) }
+    ensures sound { IfOk result (λ made. WorksBy (rules_of H.digest_of script.now) id made.0) }
+{
+    match place {
+        Place::Live(seat) => asked_live(rt, alloc, script, votes, id, seat, ask, strategy),
+        other => Ok((other, None)),
+    }
+}
+
+// A member that runs, and is asked for something, with a stop.
+fn cut_live<H: Hasher<Digest = Digest32>, W: Way, R: Threads + Sync, S: Strategy>(
+    rt: &R,
+    alloc: Global,
+    script: &Script,
+    votes: &Table<'_>,
+    id: u16,
+    seat: Seat<H, W>,
+    stop: Stop,
+    ask: &Ask,
+    strategy: &S,
+) -> Result<(Place<Seat<H, W>>, Option<StepOut>), NoMemory>
+    requires sound { WorksBy (rules_of H.digest_of script.now) id (Live seat) }
+    requires short { asks_oversize ask.now ≡ false }
+    requires later { 0 < stop.call }
+    ensures makes { (o : Option Member) → SitsAs (Live seat) o
+        → let signed = table votes.now.faulty.now (sent_in votes.now.pool.now) in
+        IfOk result
+        (λ made. Makes o
+        (option_and_then
+        (did_cut (rules_of H.digest_of script.now) signed
+        (over (sent_in votes.now.pool.now)) id stop.call stop.cut stop.fill
+        (ask_of ask.now)) o) made.0 made.1) }
+    ensures sound { IfOk result (λ made. WorksBy (rules_of H.digest_of script.now) id made.0) }
+{
+    match event_for(alloc, votes.pool, id, ask) {
+        Ok(None) => Ok((Place::Live(seat), None)),
+        Ok(Some(event)) => {
+            let Seat { node } = seat;
+            let made = cut_event(rt, alloc, votes, node, stop, &event, strategy);
+            drop(event);
+            let (place, out) = made?;
+            Ok((place, Some(out)))
+        }
+        Err(error) => {
+            drop(seat);
+            Err(error)
+        }
+    }
+}
+
+// A member that is asked for something, with a stop.
+fn cut<H: Hasher<Digest = Digest32>, W: Way, R: Threads + Sync, S: Strategy>(
+    rt: &R,
+    alloc: Global,
+    script: &Script,
+    votes: &Table<'_>,
+    id: u16,
+    place: Place<Seat<H, W>>,
+    stop: Stop,
+    ask: &Ask,
+    strategy: &S,
+) -> Result<(Place<Seat<H, W>>, Option<StepOut>), NoMemory>
+    requires sound { WorksBy (rules_of H.digest_of script.now) id place }
+    requires short { asks_oversize ask.now ≡ false }
+    requires later { 0 < stop.call }
+    ensures makes { (o : Option Member) → SitsAs place o
+        → let signed = table votes.now.faulty.now (sent_in votes.now.pool.now) in
+        IfOk result
+        (λ made. Makes o
+        (option_and_then
+        (did_cut (rules_of H.digest_of script.now) signed
+        (over (sent_in votes.now.pool.now)) id stop.call stop.cut stop.fill
+        (ask_of ask.now)) o) made.0 made.1) }
+    ensures sound { IfOk result (λ made. WorksBy (rules_of H.digest_of script.now) id made.0) }
+{
+    match place {
+        Place::Live(seat) => cut_live(rt, alloc, script, votes, id, seat, stop, ask, strategy),
+        other => Ok((other, None)),
+    }
+}
+
+// A member that starts again, where it was stopped.
+fn restarted<H: Hasher<Digest = Digest32>, W: Way, R: Threads + Sync, S: Strategy>(
+    rt: &R,
+    alloc: Global,
+    script: &Script,
+    id: u16,
+    place: Place<Seat<H, W>>,
+    strategy: &S,
+) -> Result<(Place<Seat<H, W>>, Option<StepOut>), NoMemory>
+    requires way { script.now.travel ≡ W.travel }
+    requires known { id < script.now.committees.total }
+    requires sound { WorksBy (rules_of H.digest_of script.now) id place }
+    ensures makes { (o : Option Member) → SitsAs place o
+        → IfOk result
+        (λ made. Makes o
+        (option_and_then (starts_again (rules_of H.digest_of script.now) id) o) made.0 made.1) }
+    ensures sound { IfOk result (λ made. WorksBy (rules_of H.digest_of script.now) id made.0) }
+{
+    match place {
+        Place::Stopped(disk, _) => {
+            let (place, out) = restart(rt, alloc, script, id, disk, strategy)?;
+            Ok((place, Some(out)))
+        }
+        other => Ok((other, None)),
+    }
+}
+
+/// What a line makes of who sits in the place of the member that it names.
+pub(crate) fn take_turn<H: Hasher<Digest = Digest32>, W: Way, R: Threads + Sync, S: Strategy>(
+    rt: &R,
+    alloc: Global,
+    script: &Script,
+    votes: &Table<'_>,
+    id: u16,
+    place: Place<Seat<H, W>>,
+    line: &EventLine,
+    strategy: &S,
+) -> Result<(Place<Seat<H, W>>, Option<StepOut>), NoMemory>
+    requires way { script.now.travel ≡ W.travel }
+    requires known { id < script.now.committees.total }
+    requires sound { WorksBy (rules_of H.digest_of script.now) id place }
+    requires short { names_oversize (line_of line.now) ≡ false }
+    requires later { IsTrue (is_later (line_of line.now)) }
+    ensures makes { (o : Option Member) → SitsAs place o
+        → let signed = table votes.now.faulty.now (sent_in votes.now.pool.now) in
+        IfOk result
+        (λ made. Makes o
+        (option_and_then
+        (turned_by (rules_of H.digest_of script.now) signed
+        (over (sent_in votes.now.pool.now)) id (line_of line.now)) o) made.0 made.1) }
+    ensures sound { IfOk result (λ made. WorksBy (rules_of H.digest_of script.now) id made.0) }
+{
+    match line {
+        EventLine::Do(_, ask) => asked(rt, alloc, script, votes, id, place, ask, strategy),
+        EventLine::Cut(stop, _, ask) => {
+            cut(rt, alloc, script, votes, id, place, *stop, ask, strategy)
+        }
+        EventLine::Restart(_) => restarted(rt, alloc, script, id, place, strategy),
+        EventLine::Faulty(..) => Ok((place, None)),
+    }
+}
+
+/// The notes of who sits in a place.
+pub(crate) fn notes_at<H: Hasher<Digest = Digest32>, W: Way>(place: &Place<Seat<H, W>>) -> &[Note]
+    ensures { result.now ≡ places.notes_at place.now }
+{
+    match place {
+        Place::Faulty => &[],
+        Place::Live(seat) => seat.node.notes(),
+        Place::Stopped(_, notes) => notes.as_slice(),
+    }
+}
+
+/// How many notes a restart found, where it started its member.
+pub(crate) fn found_at<H: Hasher<Digest = Digest32>, W: Way>(
+    line: &EventLine,
+    place: &Place<Seat<H, W>>,
+    out: &Option<StepOut>,
+) -> Option<u64>
+    ensures { result ≡ places.found_at line.now place.now out.now }
+{
+    match (line, out) {
+        (EventLine::Restart(_), Some(_)) => Some(notes_at::<H, W>(place).len() as u64),
+        _ => None,
+    }
+}

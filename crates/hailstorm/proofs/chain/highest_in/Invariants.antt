@@ -1,7 +1,0 @@
-use Rattle.std.proofs.Common.{◌≡◌, drop}
-use Rattle.hailstorm.specs.Runs.{higher}
-use Rattle.hailstorm.proofs.chain.highest_in.Given as goal
-
--- the blocks from here on decide
-abbrev pub invariant-loop-block : goal.invariant-loop-block
-invariant-loop-block l = higher l.found (drop l.block-index l.handed) ≡ higher l.fn.found l.handed

@@ -1,5 +1,0 @@
-use Rattle.hailstorm.proofs.Closing.{ClosedSo}
-use Rattle.hailstorm.proofs.world.close_all.Given as goal
-
-abbrev pub invariant-loop-place : goal.invariant-loop-place
-invariant-loop-place g l = ClosedSo l.yielded l.disks l.nodes

@@ -1,8 +1,0 @@
-use Rattle.hailstorm.specs.Places.{rules_of}
-use Rattle.hailstorm.proofs.Opening.{AreOpened}
-use Rattle.hailstorm.proofs.world.open_all.Given as goal
-
--- the places up to here
-abbrev pub invariant-loop-id : goal.invariant-loop-id
-invariant-loop-id g l =
-    AreOpened (rules_of g.H.Hasher.digest_of l.script) l.script.lines l.id l.places.items l.opening

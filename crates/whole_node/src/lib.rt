@@ -1,0 +1,85 @@
+//! A member of a cluster in which blocks travel whole.
+#![tactic(auto)]
+
+ghost use Rattle.std.specs.Prelude.{◌≡◌, ℕ, ◌<◌, ◌≤◌, IfErr, IfOk, true};
+ghost use Rattle.cw_rules.specs.Step as rule;
+ghost use Rattle.cw_rules_coded.specs.Coded.{uncut};
+ghost use Rattle.cw_types.specs.Epochs.{single};
+ghost use Rattle.node.specs.Disks.{HasFound, WasRefused};
+ghost use Rattle.node.specs.State.{IsAtWork, IsNodeOf, rules_of, stepped};
+
+use cw_base::{Digest32, Hasher, NoMemory, Strategy};
+use cw_types::{Application, Committees, StepOut};
+use node::{Member, NodeError, Uncut};
+use node_disk::{Disk, StoreError};
+use std::alloc::Global;
+use std::thread::Threads;
+
+pub use node::whole_commit;
+
+/// A member of a cluster in which blocks travel whole: a block goes to all in one message, is named
+/// by [`whole_commit`], and is voted for where it was shown or is held. In all else it is a
+/// [`Node`](node::Node), with the same calls. [`start_whole`] starts it among the members of one
+/// epoch; its own start asks for no such committees, and keeps its contract over any.
+///
+/// ```text
+/// let (mut member, out) = start_whole::<Sha256, _, _, _, _>(&rt, alloc, 1, 4, 3, disk, app, &Sequential)?;
+/// let out = member.step(&rt, alloc, &event, &verifier, &Sequential)?;
+/// ```
+pub type WholeNode<H, D, A> = Member<H, D, A, Uncut>;
+
+/// Starts member `id` of `n` on a disk, in one epoch without end, as [`Member::start`] does, and
+/// refuses as it does: it hands the disk back, `Foreign` where its bytes aren't frames of notes,
+/// `Disk` where the disk failed, else for want of memory.
+pub fn start_whole<
+    H: Hasher<Digest = Digest32>,
+    D: Disk,
+    A: Application + Drop,
+    R: Threads + Sync,
+    S: Strategy,
+>(
+    rt: &R,
+    alloc: Global,
+    id: u16,
+    n: u16,
+    backlog: u64,
+    disk: D,
+    app: A,
+    strategy: &S,
+) -> Result<(WholeNode<H, D, A>, StepOut), (D, NodeError)>
+    requires n { 4 ≤ n }
+    requires id { id < n }
+    requires backlog { 1 ≤ backlog }
+
+    // The rules' start on the frames that it finds on the disk.
+    ensures node { IfOk result (λ r. IsNodeOf id (single n) backlog app r.0) }
+    ensures start { IfOk result (λ r.
+        stepped r.0.member r.1 ≡ rule.start
+        (uncut H.digest_of (single n) backlog (A.accepts app)) id r.0.member.frames) }
+    ensures at_work { IfOk result (λ r. IsAtWork D.state r.0) }
+
+    // What it did to the disk, and what a crash at any moment leaves.
+    ensures disk { IfOk result (λ r.
+        HasFound D.state D.continues r.0.member.frames disk r.0.log.disk) }
+    ensures refused { IfErr result (λ e. WasRefused D.state D.continues e.1 disk e.0) }
+    // Over a calm disk it is refused for memory, or as foreign, alone.
+    ensures never_fails { D.calm disk ≡ true → IfErr result (λ e. e.1 ≡ StoreError.Disk → ⊥) }
+    ensures not_failed { IfErr result (λ e. e.1 ≡ StoreError.Failed → ⊥) }
+{
+    let committees = match Committees::single(alloc, n) {
+        Ok(committees) => committees,
+        Err(NoMemory) => return Err((disk, StoreError::NoMemory)),
+    };
+    WholeNode::<H, D, A>::start(rt, alloc, id, committees, backlog, disk, app, strategy)
+}
+
+/// A law, of every member to which blocks come whole: the rules that its steps go by are those of
+/// blocks that travel whole.
+pub fn goes_by_uncut<H: Hasher<Digest = Digest32>, D: Disk, A: Application + Drop>(
+    node: &WholeNode<H, D, A>,
+)
+    ensures { rules_of H.digest_of A.accepts node.now
+        ≡ uncut H.digest_of node.now.epochs node.now.backlog (A.accepts node.now.app) }
+{
+    let _travel = node.travel();
+}
