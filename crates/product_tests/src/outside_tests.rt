@@ -1,25 +1,19 @@
 //! Tests of what comes from outside: sources and sinks that fail, and inputs that are too large.
 //! The texts follow from what each program writes of a cluster in which nothing happens.
 
-use crate::runs::{Program, sink_of, source_of, told_into};
+use crate::runs::{PROGRAMS, Program, sink_of, source_of, told_into};
 use cw_base::{MemorySink, MemorySource, SumHasher};
 use std::alloc::Global;
 use std::test::Fail;
 
 const HEADER: &str = "cluster 4 3\n";
 
-// The programs, each with words that are its own, and what it writes first of a run of the header.
-const PROGRAMS: [(Program, &str, &str); 3] = [
-    (Program::Ledger, "", "led"),
-    (Program::Light, "0", "non"),
-    (Program::Archive, "0", "use"),
-];
-
 // The header has twelve bytes: pieces of 3 are read by calls 1 to 4, and call 5 finds the end.
 #[test]
 fn a_source_that_fails_ends_each_run_with_nothing_written(rt: HostRuntime) -> Result<(), Fail> {
     let alloc = rt.alloc();
-    for (program, words, _) in PROGRAMS {
+    for program in PROGRAMS {
+        let words = program.words();
         for call in [1u64, 2, 5] {
             let bytes = HEADER.as_bytes().to_vec(alloc)?;
             let source = MemorySource::new(bytes, 3, vec![in alloc; call]?);
@@ -37,12 +31,13 @@ fn a_source_that_fails_ends_each_run_with_nothing_written(rt: HostRuntime) -> Re
 #[test]
 fn a_sink_that_fails_has_a_front_of_each_text(rt: HostRuntime) -> Result<(), Fail> {
     let alloc = rt.alloc();
-    for (program, words, front) in PROGRAMS {
-        for (words, script, want) in [
-            (words, HEADER, front),
-            (words, "", "err"),
-            ("x", "", "usa"),
-        ] {
+    for (program, front) in [
+        (Program::Ledger, "led"),
+        (Program::Light, "non"),
+        (Program::Archive, "use"),
+    ] {
+        let own = program.words();
+        for (words, script, want) in [(own, HEADER, front), (own, "", "err"), ("x", "", "usa")] {
             let sink = MemorySink::new(alloc, 3, vec![in alloc; 2u64]?)?;
             let source = source_of(alloc, script)?;
             let (status, text) = told_into::<SumHasher, _>(
@@ -68,7 +63,8 @@ fn filled_up(alloc: Global, front: &str, size: usize) -> Result<MemorySource, Fa
 #[test]
 fn what_is_too_large_is_told_by_each_program(rt: HostRuntime) -> Result<(), Fail> {
     let alloc = rt.alloc();
-    for (program, words, _) in PROGRAMS {
+    for program in PROGRAMS {
+        let words = program.words();
         for (front, size, want) in [
             ("", 16_777_216, "error 1 Syntax 1\n"),
             ("", 16_777_217, "error TooLong\n"),

@@ -1,7 +1,7 @@
 //! Tests of scripts that have no report: each program tells why, as docs/FORMATS.md has it. The
 //! text of a block is that of its formats.
 
-use crate::runs::{Program, Told, told};
+use crate::runs::{PROGRAMS, Told, told};
 use cw_base::SumHasher;
 use std::alloc::Global;
 use std::test::Fail;
@@ -27,7 +27,8 @@ fn scripts_that_are_not_run_are_told_by_each_program(rt: HostRuntime) -> Result<
             "error 4 TooManyFaulty\n",
         ),
     ] {
-        for (program, words) in PROGRAMS {
+        for program in PROGRAMS {
+            let words = program.words();
             let (status, text) = told::<SumHasher, _>(&rt, rt.alloc(), program, words, script)?;
             assert_eq!(rt; (status, text.as_str()), (3, want), "by {program:?}");
         }
@@ -35,17 +36,11 @@ fn scripts_that_are_not_run_are_told_by_each_program(rt: HostRuntime) -> Result<
     Ok(())
 }
 
-// The programs, with words that each takes.
-const PROGRAMS: [(Program, &str); 3] = [
-    (Program::Ledger, ""),
-    (Program::Light, "0"),
-    (Program::Archive, "0"),
-];
-
 #[test]
 fn a_clash_is_told_by_each_program(rt: HostRuntime) -> Result<(), Fail> {
     let want = clash(rt.alloc())?;
-    for (program, words) in PROGRAMS {
+    for program in PROGRAMS {
+        let words = program.words();
         let found = told::<SumHasher, _>(&rt, rt.alloc(), program, words, CLASH)?;
         assert_eq!(rt; found, want, "by {program:?}");
     }

@@ -25,6 +25,20 @@ pub(crate) enum Program {
     Archive,
 }
 
+impl Program {
+    /// Words that it takes.
+    pub(crate) fn words(self) -> &'static str {
+        match self {
+            Program::Ledger => "",
+            Program::Light => "0",
+            Program::Archive => "0",
+        }
+    }
+}
+
+/// Each program.
+pub(crate) const PROGRAMS: [Program; 3] = [Program::Ledger, Program::Light, Program::Archive];
+
 /// An exit status, and what was written.
 pub(crate) type Told = (u8, String);
 
