@@ -16,23 +16,25 @@ HEIGHT, SIGNERS = 9, 6
 
 
 def bytes_of(note):
-    """A note's bytes."""
+    """A note's bytes: its tag, which tells whether an epoch stands behind it, and its fields."""
     if isinstance(note, Noted):
-        return b"\0" + note.commitment.write() + note.block.write()
+        return bytes([0]) + note.commitment.write() + note.block.write()
     if isinstance(note, Verified):
-        front = b"\1" if note.epoch == 0 else b"\12" + be(note.epoch, 8)
-        return front + be(note.view, 8) + note.commitment.write()
+        return tagged(1, 10, note.epoch) + be(note.view, 8) + note.commitment.write()
     if isinstance(note, Certified):
         it = note.proposal
-        front = b"\2" if it.epoch == 0 else b"\11" + be(it.epoch, 8)
-        return front + be(it.view, 8) + be(it.parent, 8) + it.payload.write()
+        return tagged(2, 9, it.epoch) + be(it.view, 8) + be(it.parent, 8) + it.payload.write()
+    if isinstance(note, Vote):
+        return bytes([3]) + note.write()
+    if isinstance(note, Cert):
+        return bytes([4]) + note.write()[1:]  # as in a message, but for the message's tag
     if isinstance(note, Entered):
-        return b"\10" + be(note.epoch, 8) + note.commitment.write()
-    if isinstance(note, (Ack, Floor, Prune)):
-        tag = {Ack: b"\5", Floor: b"\6", Prune: b"\7"}[type(note)]
-        return tag + be(note.height, 8)
-    # A certificate's text as a message begins with the message's tag.
-    return b"\3" + note.write() if isinstance(note, Vote) else b"\4" + note.write()[1:]
+        return bytes([8]) + be(note.epoch, 8) + note.commitment.write()
+    return bytes([{Ack: 5, Floor: 6, Prune: 7}[type(note)]]) + be(note.height, 8)
+
+
+def tagged(first, later, epoch):
+    return bytes([first]) if epoch == 0 else bytes([later]) + be(epoch, 8)
 
 
 class Written(Member):
@@ -57,11 +59,10 @@ class Written(Member):
     def append(self, notes, kept):
         """Length, frame and a closed gate behind the last gate, which opens where they are kept."""
         text = b"".join(map(bytes_of, notes))
-        range_ = be(len(text), 8) + text + b"\0"
-        front = self.disk[:self.gate] + (b"\1" if kept else b"\0")
-        self.disk = front + range_ + self.disk[len(front) + len(range_):]
+        front = self.disk[:self.gate] + bytes([kept]) + be(len(text), 8) + text + bytes([0])
+        self.disk = front + self.disk[len(front):]
         if kept:
-            self.gate += len(range_)
+            self.gate = len(front) - 1
 
 
 def message_text(message):
