@@ -9,6 +9,8 @@ mod fuzzed_tests;
 #[cfg(test)]
 mod lanes_tests;
 #[cfg(test)]
+mod nodes_tests;
+#[cfg(test)]
 mod outside_tests;
 #[cfg(test)]
 mod runs;
