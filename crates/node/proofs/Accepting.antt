@@ -189,7 +189,8 @@ module _ {D A : Type 0} (hash : List ℕ → Digest32) (accepts : A → Block �
               (voter.with_came (state_of h) came))
               (sym same) tally;
           shards =
-              subst (λ (came : Came). shards.StandsFor hash h.shards (cut_rules hash accepts h) came)
+              subst
+              (λ (came : Came). shards.StandsFor hash h.shards (cut_rules hash accepts h) came)
               (sym same) chunks;
           rows = count_behind h.arrivals (w ∷ []) ∙ (add-zero (count_rows h.arrivals) ∙ s.rows);
           named =

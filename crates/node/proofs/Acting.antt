@@ -129,6 +129,7 @@ module _ {D A : Type 0} (hash : List ℕ → Digest32) (accepts : A → Block �
       same_rules hash accepts a b notes noted
       ∙ (λ i. rules_of hash accepts
       (record a {
+        travel = come.same.travel i;
         epochs = come.same.epochs i;
         backlog = come.same.backlog i;
         app = come.same.app i;

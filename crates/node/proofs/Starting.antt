@@ -110,9 +110,11 @@ from_nothing r now entries none = record {
 }
 
 module _ {D A : Type 0} (hash : List ℕ → Digest32) (accepts : A → Block → Block → Bool) where
-  pub stands_begun : (travel : Travel) (id : ℕ) (x : Epochs) (backlog : ℕ) (app : A) (t : Store) (log : LogState D)
+  pub stands_begun : (travel : Travel) (id : ℕ) (x : Epochs) (backlog : ℕ) (app : A) (t : Store)
+      (log : LogState D)
       → t.epochs ≡ x → t.backlog ≡ backlog → t.failed ≡ false
-      → ((u : Known) (s : State) → voter.IsTallyOf hash u (ruled travel hash x backlog (accepts app)) s
+      → ((u : Known) (s : State)
+      → voter.IsTallyOf hash u (ruled travel hash x backlog (accepts app)) s
       → (note : Note)
       → voter.IsTallyOf hash (with_note u note) (ruled travel hash x backlog (accepts app))
       (with_notes s (note ∷ [])))
@@ -127,8 +129,8 @@ module _ {D A : Type 0} (hash : List ℕ → Digest32) (accepts : A → Block �
     running = running;
     id = refl;
     tally =
-        stands_told hash (ruled travel hash x backlog (accepts app)) law (stored_notes t) (unknowing x id)
-        (record { notes = []; came = nothing_came; given = t.given }) first;
+        stands_told hash (ruled travel hash x backlog (accepts app)) law (stored_notes t)
+        (unknowing x id) (record { notes = []; came = nothing_came; given = t.given }) first;
     shards = chunks;
     rows = refl;
     named = refl;

@@ -46,6 +46,13 @@ stands_logged hash accepts h log s = record {
   shown = s.shown;
 }
 
+-- nor does it say how blocks travel
+pub travel_logged : {D A : Type 0} (stopped : Bool) (old new : Holding D A) (log : LogState D)
+    → (stopped ≡ false → new ≡ record old { log = log }) → (stopped ≡ true → new ≡ old)
+    → new.travel ≡ old.travel
+travel_logged true old new log armed same = ap (λ h. h.travel) (same refl)
+travel_logged false old new log armed same = ap (λ h. h.travel) (armed refl)
+
 -- so it is awake with a stop on its disk, or without
 pub awake_logged : {D A : Type 0} (hash : List ℕ → Digest32) (accepts : A → Block → Block → Bool)
     (stopped : Bool) (old new : Holding D A) (entries : List (Commitment × Led)) (log : LogState D)

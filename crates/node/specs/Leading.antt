@@ -1,5 +1,5 @@
 -- Which commitments notes lead to, as it is kept.
-use Rattle.std.specs.Prelude.{◌≡◌, ℕ, ◌&&◌, ◌||◌, ◌+◌, ◌-◌, ◌≤◌, ◌++◌, ◌∷◌, [], Bool, List, None, Option, Some, false, filter_map, if◌then◌else◌, max, nat_lt, not, unwrap_or}
+use Rattle.std.specs.Prelude.{◌≡◌, ℕ, ◌&&◌, ◌||◌, ◌+◌, ◌-◌, ◌≤◌, ◌++◌, Bool, List, None, Option, Some, false, filter_map, if◌then◌else◌, max, nat_lt, not, unwrap_or}
 use Rattle.std.specs.List.{list_any}
 use Rattle.std.specs.Map.{lookup}
 use Rattle.cw_types.specs.Same.{same_commitment}

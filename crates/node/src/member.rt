@@ -55,7 +55,7 @@ pub struct Member<H: Hasher<Digest = Digest32>, D: Disk, A: Application + Drop, 
 pub type Node<H, D, A> = Member<H, D, A, Chunked>;
 
 impl<H: Hasher<Digest = Digest32>, D: Disk, A: Application + Drop, W: Way> Model
-for Member<H, D, A, W> {
+    for Member<H, D, A, W> {
     ghost use Rattle.std.specs.Prelude.{◌≡◌, false, not};
     ghost use Rattle.node.specs.State.{NodeState};
     ghost use Rattle.node.specs.Holding.{node_of};

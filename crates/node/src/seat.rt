@@ -93,11 +93,7 @@ impl<
     W: Way,
 > MemberSeat<H, D, A, V, S, W> {
     /// Joins the three.
-    pub fn new(
-        node: Member<H, D, A, W>,
-        verifier: V,
-        strategy: S,
-    ) -> MemberSeat<H, D, A, V, S, W>
+    pub fn new(node: Member<H, D, A, W>, verifier: V, strategy: S) -> MemberSeat<H, D, A, V, S, W>
         ensures { result ≡ record { node = node; verifier = verifier; lost = false } }
     {
         MemberSeat {

@@ -17,6 +17,17 @@ pub(crate) fn whole_blocks<R: Threads + Sync>(rt: &R, alloc: Global) -> Result<S
     of_two_blocks(rt, alloc, Committees::single(alloc, 4)?, (0, 2, 2))
 }
 
+/// The same members, and a whole block of view 62 which has the commitment of the first block, since
+/// under this hash their bytes add up alike.
+pub(crate) fn whole_as_genesis<R: Threads + Sync>(
+    rt: &R,
+    alloc: Global,
+) -> Result<Scene<Uncut>, Fail> {
+    let mut scene = Scene::new(alloc, Committees::single(alloc, 4)?)?;
+    scene.add(rt, alloc, 0, (0, 62, 2), &[190])?;
+    Ok(scene)
+}
+
 /// The same members in epochs of one height each. No block stands over the one that ends the first.
 pub(crate) fn short_epochs<R: Threads + Sync>(
     rt: &R,

@@ -1,11 +1,13 @@
 //! Tests of a member alone to which blocks come whole.
 
 use super::play::{first_changed, first_wrong, found_after};
-use super::scenes::whole_blocks;
+use super::scenes::{whole_as_genesis, whole_blocks};
 use cw_base::{Sequential, SumHasher};
-use cw_types::AcceptAll;
-use node_disk::MemoryDisk;
+use cw_types::{AcceptAll, StepOut, genesis_commitment};
+use node_disk::{Disk, MemoryDisk};
+use std::alloc::Global;
 use std::test::Fail;
+use std::thread::Threads;
 use whole_node::{WholeNode, start_whole};
 
 // The run in which member 1 proposes a block that is finalized, as each member has it. Four members
@@ -52,18 +54,21 @@ notes: 0
 block 1: all vote 0 notarize 1 in 0/1 over 0
 notes: 2";
 
-// Nor does one get it whose payload was noted and let go, nor a proposal over a view that isn't
-// nullified.
-const OPEN_VIEW: &str = "block 1:
-block 2: 
+// The block came, but not its proposal by the leader of the view: members 0 and 2 aren't that, and
+// view 2 isn't the member's.
+const UNASKED: &str = "block 1:
+block 2:
 notarize 2 2 2:
-notarize 1 1 1: all vote 0 notarize 1 in 0/1 over 0";
+notarize 2 1 1:
+notes: 2
+notarize 1 1 1: all vote 0 notarize 1 in 0/1 over 0; all cert notarize 1 in 0/1 over 0 by \
+    [0, 1, 2]; all vote 0 finalize 1 in 0/1 over 0";
 
 #[test]
 fn a_block_that_was_never_seen_gets_no_vote(rt: HostRuntime) -> Result<(), Fail> {
     let alloc = rt.alloc();
     let scene = whole_blocks(&rt, alloc)?;
-    for table in [UNSEEN, OPEN_VIEW] {
+    for table in [UNSEEN, UNASKED] {
         assert_eq!(rt; first_wrong(&rt, alloc, &scene, 0, ("", 0), table)?, None);
     }
     Ok(())
@@ -105,5 +110,45 @@ fn a_whole_member_asks_and_answers(rt: HostRuntime) -> Result<(), Fail> {
     let alloc = rt.alloc();
     let scene = whole_blocks(&rt, alloc)?;
     assert_eq!(rt; first_wrong(&rt, alloc, &scene, 0, ("", 0), ASKED)?, None);
+    Ok(())
+}
+
+// A block that has the commitment of genesis is shown as nothing, so it isn't noted.
+const AS_GENESIS: &str = "block 1:
+notes: 0";
+
+#[test]
+fn no_block_is_shown_as_genesis(rt: HostRuntime) -> Result<(), Fail> {
+    let alloc = rt.alloc();
+    let scene = whole_as_genesis(&rt, alloc)?;
+    assert!(rt; scene.block(1)?.commitment == genesis_commitment::<SumHasher>());
+    assert_eq!(rt; first_wrong(&rt, alloc, &scene, 0, ("", 0), AS_GENESIS)?, None);
+    Ok(())
+}
+
+// The epoch, the view and the notes of a member that started, and how much it hands out and sends.
+fn numbers<D: Disk>(
+    (node, out): (WholeNode<SumHasher, D, AcceptAll>, StepOut),
+) -> (u64, u64, usize, usize, usize) {
+    let notes = node.notes().len();
+    (node.epoch(), node.view(), notes, out.handed.len(), out.sent.len())
+}
+
+// The same of member 1 of four, which starts on an empty disk.
+fn numbers_at_start<R: Threads + Sync>(
+    rt: &R,
+    alloc: Global,
+) -> Result<(u64, u64, usize, usize, usize), Fail> {
+    let disk = MemoryDisk::new(alloc, Vec::new(alloc));
+    match start_whole(rt, alloc, 1, 4, 3, disk, AcceptAll, &Sequential) {
+        Ok(started) => Ok(numbers(started)),
+        Err((_, error)) => Err(Fail::from(error)),
+    }
+}
+
+#[test]
+fn a_whole_member_starts_in_the_first_view(rt: HostRuntime) -> Result<(), Fail> {
+    let alloc = rt.alloc();
+    assert_eq!(rt; numbers_at_start(&rt, alloc)?, (0, 1, 0, 1, 0));
     Ok(())
 }

@@ -6,7 +6,7 @@ use Rattle.cw_rules.specs.Rules.{Rules}
 use Rattle.node.proofs.Accepting.{came_nothing}
 use Rattle.node.proofs.Bridges.{as_cut, no_chunk}
 use Rattle.node.specs.Accepting.{is_new_row}
-use Rattle.node.specs.Holding.{Holding, came_of, rules_of}
+use Rattle.node.specs.Holding.{Holding, came_of}
 use Rattle.node.specs.Standing.{HasCome}
 use Rattle.node.proofs.holding.Holding.accept_shard.Goals as goal
 
@@ -18,7 +18,8 @@ returns-in-Chunked-clause-come g c =
     let m = c.args.commitment.now in
     let x = c.args.chunk.now in
     let cut =
-    sym (ap (λ (k : Holding g.row.D.Denot g.row.A.Denot). k.travel) c.self.view_is) ∙ c.in-Chunked.is in
+    sym (ap (λ (k : Holding g.row.D.Denot g.row.A.Denot). k.travel) c.self.view_is)
+    ∙ c.in-Chunked.is in
     subst
     (λ (r : Rules). OnOk c.accept_chunk.result
     (HasCome hash accepts (take_part (came_of h) (is_chunk_of r m x) (Row m x)) h
@@ -31,7 +32,8 @@ returns-in-Chunked-clause-new g c =
     let hash = g.H.Hasher.digest_of in
     let accepts = g.A.Application.accepts in
     let cut =
-    sym (ap (λ (k : Holding g.row.D.Denot g.row.A.Denot). k.travel) c.self.view_is) ∙ c.in-Chunked.is in
+    sym (ap (λ (k : Holding g.row.D.Denot g.row.A.Denot). k.travel) c.self.view_is)
+    ∙ c.in-Chunked.is in
     subst
     (λ (r : Rules). IfOk c.accept_chunk.result
     (λ new. new ≡ is_new_row r (came_of h) c.args.commitment.now c.args.chunk.now))
@@ -45,14 +47,10 @@ returns-in-Uncut-clause-come g c =
     let m = c.args.commitment.now in
     let x = c.args.chunk.now in
     let uncut =
-    sym (ap (λ (k : Holding g.row.D.Denot g.row.A.Denot). k.travel) c.self.view_is) ∙ c.in-Uncut.is in
-    subst
-    (λ (n : Holding g.row.D.Denot g.row.A.Denot). HasCome hash accepts
-    (take_part (came_of h) (is_chunk_of (rules_of hash accepts h) m x) (Row m x)) h n)
-    (sym c.self.view_is)
-    (subst
-    (λ (b : Bool). HasCome hash accepts (take_part (came_of h) b (Row m x)) h h)
-    (sym (no_chunk hash accepts h uncut m x)) (came_nothing hash accepts h c.requires))
+    sym (ap (λ (k : Holding g.row.D.Denot g.row.A.Denot). k.travel) c.self.view_is)
+    ∙ c.in-Uncut.is in
+    subst (λ (b : Bool). HasCome hash accepts (take_part (came_of h) b (Row m x)) h h)
+    (sym (no_chunk hash accepts h uncut m x)) (came_nothing hash accepts h c.requires)
 
 pub returns-in-Uncut-clause-new : goal.returns-in-Uncut-clause-new
 returns-in-Uncut-clause-new g c =
@@ -62,7 +60,8 @@ returns-in-Uncut-clause-new g c =
     let m = c.args.commitment.now in
     let x = c.args.chunk.now in
     let uncut =
-    sym (ap (λ (k : Holding g.row.D.Denot g.row.A.Denot). k.travel) c.self.view_is) ∙ c.in-Uncut.is in
+    sym (ap (λ (k : Holding g.row.D.Denot g.row.A.Denot). k.travel) c.self.view_is)
+    ∙ c.in-Uncut.is in
     sym
     (ap (λ (b : Bool). b && not (list_any (same_part (Row m x)) (came_of h).parts))
     (no_chunk hash accepts h uncut m x))

@@ -44,8 +44,8 @@ returns-in-Ok-clause-ready g c =
     }) in
     subst (λ (k : Holding g.row.D.Denot g.row.A.Denot). IsReady hash accepts k) (sym is) (record {
       stands =
-          stands_begun hash accepts setup.travel setup.id setup.committees setup.backlog setup.app t log
-          c.requires.epochs c.requires.backlog c.requires.running
+          stands_begun hash accepts setup.travel setup.id setup.committees setup.backlog setup.app
+          t log c.requires.epochs c.requires.backlog c.requires.running
           (λ u s stands note. c.standing_is_kept.ensures.note hash u r s stands note)
           (c.standing_is_kept.ensures.start hash r setup.id t.given refl refl refl)
           (c.shards_stand.ensures.start hash setup.committees setup.backlog (accepts setup.app));

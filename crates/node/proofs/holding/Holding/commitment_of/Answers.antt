@@ -12,7 +12,8 @@ returns-in-Chunked g c =
     let hash = g.H.Hasher.digest_of in
     let accepts = g.A.Application.accepts in
     let travel =
-    sym (ap (λ (k : Holding g.row.D.Denot g.row.A.Denot). k.travel) c.self.view_is) ∙ c.in-Chunked.is in
+    sym (ap (λ (k : Holding g.row.D.Denot g.row.A.Denot). k.travel) c.self.view_is)
+    ∙ c.in-Chunked.is in
     subst
     (λ (t : Travel). IfOk c.cut_commitment.result
     (λ m. m ≡ commit (ruled t hash h.epochs h.backlog (accepts h.app)) c.args.block.now))
@@ -24,7 +25,8 @@ returns-in-Uncut g c =
     let hash = g.H.Hasher.digest_of in
     let accepts = g.A.Application.accepts in
     let travel =
-    sym (ap (λ (k : Holding g.row.D.Denot g.row.A.Denot). k.travel) c.self.view_is) ∙ c.in-Uncut.is in
+    sym (ap (λ (k : Holding g.row.D.Denot g.row.A.Denot). k.travel) c.self.view_is)
+    ∙ c.in-Uncut.is in
     subst
     (λ (t : Travel). IfOk c.whole_commit.result
     (λ m. m ≡ commit (ruled t hash h.epochs h.backlog (accepts h.app)) c.args.block.now))

@@ -22,7 +22,7 @@ loop-proposal-preserved g c =
     c.in-Some-checked_add.ensures.1 ∙ add-one c.loop-proposal.index in
     c.loop-proposal.invariant
     ∙ (find_next ready (votable h.tally) c.loop-proposal.index c.in-Some.proposal at
-    (sym c.can_vote.ensures ∙ c.if-branch.false)
+    (sym c.can_vote.ensures ∙ c.if-can_vote.false)
     ∙ ap (λ n. find ready (drop n (votable h.tally))) (sym next))
 
 pub loop-proposal-smaller : goal.loop-proposal-smaller
@@ -43,8 +43,8 @@ loop-proposal-smaller g c =
     c.in-Some-checked_add.ensures.1 in
     omega (arith, below)
 
-pub returns-then-branch-clause-value : goal.returns-then-branch-clause-value
-returns-then-branch-clause-value g c =
+pub returns-then-can_vote-clause-value : goal.returns-then-can_vote-clause-value
+returns-then-can_vote-clause-value g c =
     let h = c.args.self.now in
     let hash = g.H.Hasher.digest_of in
     let r = rules_of hash g.A.Application.accepts h in
@@ -58,7 +58,7 @@ returns-then-branch-clause-value g c =
     sym
     (c.loop-proposal.invariant
     ∙ find_here ready (votable h.tally) c.loop-proposal.index c.in-Some.proposal at
-    (sym c.can_vote.ensures ∙ c.if-branch.true))
+    (sym c.can_vote.ensures ∙ c.if-can_vote.true))
 
 pub returns-clause-value : goal.returns-clause-value
 returns-clause-value g c =

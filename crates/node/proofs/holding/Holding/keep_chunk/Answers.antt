@@ -16,6 +16,7 @@ returns-in-Known-clause-come g c =
     let hash = g.H.Hasher.digest_of in
     let accepts = g.A.Application.accepts in
     let r = rules_of hash accepts h in
+    let s = cut_rules hash accepts h in
     let q = kept.rules_of hash h.shards.epochs in
     let m = c.args.commitment.now in
     let x = c.args.chunk in
@@ -33,9 +34,9 @@ returns-in-Known-clause-come g c =
     (λ (k : Holding g.row.D.Denot g.row.A.Denot). after (kept.rules_of hash k.shards.epochs)
     k.shards m x)
     e in
-    let known = c.shards_stand.ensures.known hash h.shards (cut_rules hash accepts h) (came_of h) c.requires.shards m x in
+    let known = c.shards_stand.ensures.known hash h.shards s (came_of h) c.requires.shards m x in
     let foreign =
-    c.shards_stand.ensures.foreign hash h.shards (cut_rules hash accepts h) (came_of h) c.requires.shards m x in
+    c.shards_stand.ensures.foreign hash h.shards s (came_of h) c.requires.shards m x in
     (row_none hash accepts h c.requires m x _ known foreign (inl told)
     (λ i. record (e i) { shards = t i })).0
 
@@ -45,6 +46,7 @@ returns-in-Known-clause-new g c =
     let hash = g.H.Hasher.digest_of in
     let accepts = g.A.Application.accepts in
     let r = rules_of hash accepts h in
+    let s = cut_rules hash accepts h in
     let q = kept.rules_of hash h.shards.epochs in
     let m = c.args.commitment.now in
     let x = c.args.chunk in
@@ -62,9 +64,9 @@ returns-in-Known-clause-new g c =
     (λ (k : Holding g.row.D.Denot g.row.A.Denot). after (kept.rules_of hash k.shards.epochs)
     k.shards m x)
     e in
-    let known = c.shards_stand.ensures.known hash h.shards (cut_rules hash accepts h) (came_of h) c.requires.shards m x in
+    let known = c.shards_stand.ensures.known hash h.shards s (came_of h) c.requires.shards m x in
     let foreign =
-    c.shards_stand.ensures.foreign hash h.shards (cut_rules hash accepts h) (came_of h) c.requires.shards m x in
+    c.shards_stand.ensures.foreign hash h.shards s (came_of h) c.requires.shards m x in
     (row_none hash accepts h c.requires m x _ known foreign (inl told)
     (λ i. record (e i) { shards = t i })).1
 
@@ -74,6 +76,7 @@ returns-in-Foreign-clause-come g c =
     let hash = g.H.Hasher.digest_of in
     let accepts = g.A.Application.accepts in
     let r = rules_of hash accepts h in
+    let s = cut_rules hash accepts h in
     let q = kept.rules_of hash h.shards.epochs in
     let m = c.args.commitment.now in
     let x = c.args.chunk in
@@ -91,9 +94,9 @@ returns-in-Foreign-clause-come g c =
     (λ (k : Holding g.row.D.Denot g.row.A.Denot). after (kept.rules_of hash k.shards.epochs)
     k.shards m x)
     e in
-    let known = c.shards_stand.ensures.known hash h.shards (cut_rules hash accepts h) (came_of h) c.requires.shards m x in
+    let known = c.shards_stand.ensures.known hash h.shards s (came_of h) c.requires.shards m x in
     let foreign =
-    c.shards_stand.ensures.foreign hash h.shards (cut_rules hash accepts h) (came_of h) c.requires.shards m x in
+    c.shards_stand.ensures.foreign hash h.shards s (came_of h) c.requires.shards m x in
     (row_none hash accepts h c.requires m x _ known foreign (inr told)
     (λ i. record (e i) { shards = t i })).0
 
@@ -103,6 +106,7 @@ returns-in_ok-add_row-in-Kept-clause-come g c =
     let hash = g.H.Hasher.digest_of in
     let accepts = g.A.Application.accepts in
     let r = rules_of hash accepts h in
+    let s = cut_rules hash accepts h in
     let q = kept.rules_of hash h.shards.epochs in
     let m = c.args.commitment.now in
     let x = c.args.chunk in
@@ -120,16 +124,16 @@ returns-in_ok-add_row-in-Kept-clause-come g c =
     (λ (k : Holding g.row.D.Denot g.row.A.Denot). after (kept.rules_of hash k.shards.epochs)
     k.shards m x)
     e in
-    let known = c.shards_stand.ensures.known hash h.shards (cut_rules hash accepts h) (came_of h) c.requires.shards m x in
+    let known = c.shards_stand.ensures.known hash h.shards s (came_of h) c.requires.shards m x in
     let foreign =
-    c.shards_stand.ensures.foreign hash h.shards (cut_rules hash accepts h) (came_of h) c.requires.shards m x in
+    c.shards_stand.ensures.foreign hash h.shards s (came_of h) c.requires.shards m x in
     let tally =
     row_stands hash h.tally r (with_came (state_of h) (take_part (came_of h) true (Row m x)))
     h.epochs h.id m x.index (sym c.requires.tally.epochs) c.requires.id
     (c.standing_is_kept.ensures.own_chunk hash h.tally r (state_of h) c.requires.tally m x)
     (c.standing_is_kept.ensures.other_chunk hash h.tally r (state_of h) c.requires.tally m
     x) in
-    let chunks = c.shards_stand.ensures.taken hash h.shards (cut_rules hash accepts h) (came_of h) c.requires.shards m x in
+    let chunks = c.shards_stand.ensures.taken hash h.shards s (came_of h) c.requires.shards m x in
     let row : Arrival = record { commitment = m; block = None } in
     (row_some hash accepts h c.requires m x c.add_row.new.self h.shown known foreign
     (λ k. let z : Known ≡ Kept = sym k ∙ told in cc)
@@ -151,6 +155,7 @@ returns-in_ok-add_row-in-Kept-clause-new g c =
     let hash = g.H.Hasher.digest_of in
     let accepts = g.A.Application.accepts in
     let r = rules_of hash accepts h in
+    let s = cut_rules hash accepts h in
     let q = kept.rules_of hash h.shards.epochs in
     let m = c.args.commitment.now in
     let x = c.args.chunk in
@@ -168,16 +173,16 @@ returns-in_ok-add_row-in-Kept-clause-new g c =
     (λ (k : Holding g.row.D.Denot g.row.A.Denot). after (kept.rules_of hash k.shards.epochs)
     k.shards m x)
     e in
-    let known = c.shards_stand.ensures.known hash h.shards (cut_rules hash accepts h) (came_of h) c.requires.shards m x in
+    let known = c.shards_stand.ensures.known hash h.shards s (came_of h) c.requires.shards m x in
     let foreign =
-    c.shards_stand.ensures.foreign hash h.shards (cut_rules hash accepts h) (came_of h) c.requires.shards m x in
+    c.shards_stand.ensures.foreign hash h.shards s (came_of h) c.requires.shards m x in
     let tally =
     row_stands hash h.tally r (with_came (state_of h) (take_part (came_of h) true (Row m x)))
     h.epochs h.id m x.index (sym c.requires.tally.epochs) c.requires.id
     (c.standing_is_kept.ensures.own_chunk hash h.tally r (state_of h) c.requires.tally m x)
     (c.standing_is_kept.ensures.other_chunk hash h.tally r (state_of h) c.requires.tally m
     x) in
-    let chunks = c.shards_stand.ensures.taken hash h.shards (cut_rules hash accepts h) (came_of h) c.requires.shards m x in
+    let chunks = c.shards_stand.ensures.taken hash h.shards s (came_of h) c.requires.shards m x in
     let row : Arrival = record { commitment = m; block = None } in
     (row_some hash accepts h c.requires m x c.add_row.new.self h.shown known foreign
     (λ k. let z : Known ≡ Kept = sym k ∙ told in cc)
@@ -199,6 +204,7 @@ returns-in_ok-add_row-in-Garbage-clause-come g c =
     let hash = g.H.Hasher.digest_of in
     let accepts = g.A.Application.accepts in
     let r = rules_of hash accepts h in
+    let s = cut_rules hash accepts h in
     let q = kept.rules_of hash h.shards.epochs in
     let m = c.args.commitment.now in
     let x = c.args.chunk in
@@ -216,16 +222,16 @@ returns-in_ok-add_row-in-Garbage-clause-come g c =
     (λ (k : Holding g.row.D.Denot g.row.A.Denot). after (kept.rules_of hash k.shards.epochs)
     k.shards m x)
     e in
-    let known = c.shards_stand.ensures.known hash h.shards (cut_rules hash accepts h) (came_of h) c.requires.shards m x in
+    let known = c.shards_stand.ensures.known hash h.shards s (came_of h) c.requires.shards m x in
     let foreign =
-    c.shards_stand.ensures.foreign hash h.shards (cut_rules hash accepts h) (came_of h) c.requires.shards m x in
+    c.shards_stand.ensures.foreign hash h.shards s (came_of h) c.requires.shards m x in
     let tally =
     row_stands hash h.tally r (with_came (state_of h) (take_part (came_of h) true (Row m x)))
     h.epochs h.id m x.index (sym c.requires.tally.epochs) c.requires.id
     (c.standing_is_kept.ensures.own_chunk hash h.tally r (state_of h) c.requires.tally m x)
     (c.standing_is_kept.ensures.other_chunk hash h.tally r (state_of h) c.requires.tally m
     x) in
-    let chunks = c.shards_stand.ensures.taken hash h.shards (cut_rules hash accepts h) (came_of h) c.requires.shards m x in
+    let chunks = c.shards_stand.ensures.taken hash h.shards s (came_of h) c.requires.shards m x in
     let row : Arrival = record { commitment = m; block = None } in
     (row_some hash accepts h c.requires m x c.add_row-in-Garbage.new.self h.shown known foreign
     (λ k. let z : Known ≡ Garbage = sym k ∙ told in cc)
@@ -247,6 +253,7 @@ returns-in_ok-add_row-in-Garbage-clause-new g c =
     let hash = g.H.Hasher.digest_of in
     let accepts = g.A.Application.accepts in
     let r = rules_of hash accepts h in
+    let s = cut_rules hash accepts h in
     let q = kept.rules_of hash h.shards.epochs in
     let m = c.args.commitment.now in
     let x = c.args.chunk in
@@ -264,16 +271,16 @@ returns-in_ok-add_row-in-Garbage-clause-new g c =
     (λ (k : Holding g.row.D.Denot g.row.A.Denot). after (kept.rules_of hash k.shards.epochs)
     k.shards m x)
     e in
-    let known = c.shards_stand.ensures.known hash h.shards (cut_rules hash accepts h) (came_of h) c.requires.shards m x in
+    let known = c.shards_stand.ensures.known hash h.shards s (came_of h) c.requires.shards m x in
     let foreign =
-    c.shards_stand.ensures.foreign hash h.shards (cut_rules hash accepts h) (came_of h) c.requires.shards m x in
+    c.shards_stand.ensures.foreign hash h.shards s (came_of h) c.requires.shards m x in
     let tally =
     row_stands hash h.tally r (with_came (state_of h) (take_part (came_of h) true (Row m x)))
     h.epochs h.id m x.index (sym c.requires.tally.epochs) c.requires.id
     (c.standing_is_kept.ensures.own_chunk hash h.tally r (state_of h) c.requires.tally m x)
     (c.standing_is_kept.ensures.other_chunk hash h.tally r (state_of h) c.requires.tally m
     x) in
-    let chunks = c.shards_stand.ensures.taken hash h.shards (cut_rules hash accepts h) (came_of h) c.requires.shards m x in
+    let chunks = c.shards_stand.ensures.taken hash h.shards s (came_of h) c.requires.shards m x in
     let row : Arrival = record { commitment = m; block = None } in
     (row_some hash accepts h c.requires m x c.add_row-in-Garbage.new.self h.shown known foreign
     (λ k. let z : Known ≡ Garbage = sym k ∙ told in cc)
@@ -295,6 +302,7 @@ returns-in_ok-add_last_row-in-Held-clause-come g c =
     let hash = g.H.Hasher.digest_of in
     let accepts = g.A.Application.accepts in
     let r = rules_of hash accepts h in
+    let s = cut_rules hash accepts h in
     let q = kept.rules_of hash h.shards.epochs in
     let m = c.args.commitment.now in
     let x = c.args.chunk in
@@ -312,16 +320,16 @@ returns-in_ok-add_last_row-in-Held-clause-come g c =
     (λ (k : Holding g.row.D.Denot g.row.A.Denot). after (kept.rules_of hash k.shards.epochs)
     k.shards m x)
     e in
-    let known = c.shards_stand.ensures.known hash h.shards (cut_rules hash accepts h) (came_of h) c.requires.shards m x in
+    let known = c.shards_stand.ensures.known hash h.shards s (came_of h) c.requires.shards m x in
     let foreign =
-    c.shards_stand.ensures.foreign hash h.shards (cut_rules hash accepts h) (came_of h) c.requires.shards m x in
+    c.shards_stand.ensures.foreign hash h.shards s (came_of h) c.requires.shards m x in
     let tally =
     row_stands hash h.tally r (with_came (state_of h) (take_part (came_of h) true (Row m x)))
     h.epochs h.id m x.index (sym c.requires.tally.epochs) c.requires.id
     (c.standing_is_kept.ensures.own_chunk hash h.tally r (state_of h) c.requires.tally m x)
     (c.standing_is_kept.ensures.other_chunk hash h.tally r (state_of h) c.requires.tally m
     x) in
-    let chunks = c.shards_stand.ensures.taken hash h.shards (cut_rules hash accepts h) (came_of h) c.requires.shards m x in
+    let chunks = c.shards_stand.ensures.taken hash h.shards s (came_of h) c.requires.shards m x in
     let row : Arrival = record { commitment = m; block = None } in
     (row_some hash accepts h c.requires m x c.add_last_row.new.self
     (h.shown ++ record { commitment = m; block = c.in-Held.block } ∷ []) known foreign
@@ -346,6 +354,7 @@ returns-in_ok-add_last_row-in-Held-clause-new g c =
     let hash = g.H.Hasher.digest_of in
     let accepts = g.A.Application.accepts in
     let r = rules_of hash accepts h in
+    let s = cut_rules hash accepts h in
     let q = kept.rules_of hash h.shards.epochs in
     let m = c.args.commitment.now in
     let x = c.args.chunk in
@@ -363,16 +372,16 @@ returns-in_ok-add_last_row-in-Held-clause-new g c =
     (λ (k : Holding g.row.D.Denot g.row.A.Denot). after (kept.rules_of hash k.shards.epochs)
     k.shards m x)
     e in
-    let known = c.shards_stand.ensures.known hash h.shards (cut_rules hash accepts h) (came_of h) c.requires.shards m x in
+    let known = c.shards_stand.ensures.known hash h.shards s (came_of h) c.requires.shards m x in
     let foreign =
-    c.shards_stand.ensures.foreign hash h.shards (cut_rules hash accepts h) (came_of h) c.requires.shards m x in
+    c.shards_stand.ensures.foreign hash h.shards s (came_of h) c.requires.shards m x in
     let tally =
     row_stands hash h.tally r (with_came (state_of h) (take_part (came_of h) true (Row m x)))
     h.epochs h.id m x.index (sym c.requires.tally.epochs) c.requires.id
     (c.standing_is_kept.ensures.own_chunk hash h.tally r (state_of h) c.requires.tally m x)
     (c.standing_is_kept.ensures.other_chunk hash h.tally r (state_of h) c.requires.tally m
     x) in
-    let chunks = c.shards_stand.ensures.taken hash h.shards (cut_rules hash accepts h) (came_of h) c.requires.shards m x in
+    let chunks = c.shards_stand.ensures.taken hash h.shards s (came_of h) c.requires.shards m x in
     let row : Arrival = record { commitment = m; block = None } in
     (row_some hash accepts h c.requires m x c.add_last_row.new.self
     (h.shown ++ record { commitment = m; block = c.in-Held.block } ∷ []) known foreign

@@ -1,6 +1,5 @@
 use Rattle.std.proofs.Common.{◌≡◌, filter, take}
 use Rattle.std.specs.List.{filter_map}
-use Rattle.node.specs.Holding.{state_of}
 use Rattle.node.specs.Leading.{is_new, lead_at}
 use Rattle.node.specs.Store.{stored_notes}
 use Rattle.node.proofs.holding.Holding.newly.Given as goal

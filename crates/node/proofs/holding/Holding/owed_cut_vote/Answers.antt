@@ -1,4 +1,4 @@
-use Rattle.std.proofs.Common.{ℕ, refl, sym, ◌∙◌, ap, option_map}
+use Rattle.std.proofs.Common.{ℕ, sym, ◌∙◌, ap, option_map}
 use Rattle.std.specs.Option.{option_or}
 use Rattle.cw_types.specs.declared.note.Note.{Note}
 use Rattle.cw_rules.specs.Accepted.{first_some}

@@ -1,9 +1,8 @@
-use Rattle.std.proofs.Common.{◌≡◌, ◌∙◌, ◌||◌, ◌++◌, ◌∷◌, [], ℕ, List, ap, drop, filter, map, sym}
+use Rattle.std.proofs.Common.{◌∙◌, ◌||◌, ◌++◌, ◌∷◌, [], ℕ, List, ap, drop, filter, map}
 use Rattle.std.specs.List.{filter_map, list_any}
 use Rattle.cw_types.specs.Same.{same_commitment}
 use Rattle.cw_types.specs.declared.commitment.Commitment.{Commitment}
 use Rattle.cw_types.specs.declared.message.Message.{Message}
-use Rattle.cw_types.specs.declared.note.Note.{Note}
 use Rattle.cw_rules.specs.Held.{next}
 use Rattle.cw_rules.specs.Rules.{genesis_commitment}
 use Rattle.cw_rules.specs.Sends as rule

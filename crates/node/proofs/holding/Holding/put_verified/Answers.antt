@@ -11,7 +11,8 @@ returns-in-Chunked g c =
     let hash = g.H.Hasher.digest_of in
     let accepts = g.A.Application.accepts in
     let travel =
-    sym (ap (λ (k : Holding g.row.D.Denot g.row.A.Denot). k.travel) c.self.view_is) ∙ c.in-Chunked.is in
+    sym (ap (λ (k : Holding g.row.D.Denot g.row.A.Denot). k.travel) c.self.view_is)
+    ∙ c.in-Chunked.is in
     subst
     (λ (t : Travel). OnOk c.put_cut.result
     (c.put_cut.new.out.items
@@ -25,7 +26,8 @@ returns-in-Uncut g c =
     let hash = g.H.Hasher.digest_of in
     let accepts = g.A.Application.accepts in
     let travel =
-    sym (ap (λ (k : Holding g.row.D.Denot g.row.A.Denot). k.travel) c.self.view_is) ∙ c.in-Uncut.is in
+    sym (ap (λ (k : Holding g.row.D.Denot g.row.A.Denot). k.travel) c.self.view_is)
+    ∙ c.in-Uncut.is in
     subst
     (λ (t : Travel). OnOk c.put_whole.result
     (c.put_whole.new.out.items

@@ -1,4 +1,4 @@
-use Rattle.std.proofs.Common.{◌≡◌, sym, ◌∙◌, ap}
+use Rattle.std.proofs.Common.{sym, ◌∙◌, ap}
 use Rattle.cw_rules.specs.Held.{shown_by}
 use Rattle.cw_rules.specs.declared.travel.Travel.{Travel}
 use Rattle.node.specs.Holding.{Holding, came_of, rules_of}
@@ -10,7 +10,8 @@ returns-in-Chunked g c =
     let hash = g.H.Hasher.digest_of in
     let accepts = g.A.Application.accepts in
     let travel =
-    sym (ap (λ (k : Holding g.row.D.Denot g.row.A.Denot). k.travel) c.self.view_is) ∙ c.in-Chunked.is in
+    sym (ap (λ (k : Holding g.row.D.Denot g.row.A.Denot). k.travel) c.self.view_is)
+    ∙ c.in-Chunked.is in
     c.shown_cut.ensures
     ∙ ap
     (λ (t : Travel). shown_by t (rules_of hash accepts h) (came_of h) c.args.commitment.now)
@@ -22,7 +23,8 @@ returns-in-Uncut g c =
     let hash = g.H.Hasher.digest_of in
     let accepts = g.A.Application.accepts in
     let travel =
-    sym (ap (λ (k : Holding g.row.D.Denot g.row.A.Denot). k.travel) c.self.view_is) ∙ c.in-Uncut.is in
+    sym (ap (λ (k : Holding g.row.D.Denot g.row.A.Denot). k.travel) c.self.view_is)
+    ∙ c.in-Uncut.is in
     c.shown_whole.ensures
     ∙ ap
     (λ (t : Travel). shown_by t (rules_of hash accepts h) (came_of h) c.args.commitment.now)

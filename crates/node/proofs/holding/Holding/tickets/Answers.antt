@@ -26,8 +26,8 @@ returns-clause-ok g c =
     { tickets = unserved (coded hash (s.epochs i) (s.backlog i) (λ b a. true)) all after })
     ∙ (λ i. record now.store {
       tickets =
-          any_unserved now.travel hash now.epochs now.backlog (g.A.Application.accepts now.app) all after
-          i;
+          any_unserved now.travel hash now.epochs now.backlog (g.A.Application.accepts now.app)
+          all after i;
     }))) in
     let l =
     c.in_ok-served.ensures.log ∙ ap (λ (k : Holding g.row.D.Denot g.row.A.Denot). k.log) e in
@@ -53,6 +53,7 @@ returns-clause-out g c =
     ∙ ((λ i. filter_map (served (coded hash (s.epochs i) (s.backlog i) (λ b a. true)) all)
     after.waiting)
     ∙ (λ i. filter_map
-    (λ x. any_served now.travel hash now.epochs now.backlog (g.A.Application.accepts now.app) all x i)
+    (λ x. any_served now.travel hash now.epochs now.backlog (g.A.Application.accepts now.app)
+    all x i)
     after.waiting)))) in
     c.in_ok-put_served.ensures ∙ (λ i. a i ++ b i)

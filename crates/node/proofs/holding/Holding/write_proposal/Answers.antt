@@ -1,11 +1,11 @@
-use Rattle.std.proofs.Common.{◌∙◌, ap, subst, ◌++◌, ◌∷◌, [], List, if◌then◌else◌, append_assoc}
+use Rattle.std.proofs.Common.{◌∙◌, subst, ◌++◌, ◌∷◌, [], List, if◌then◌else◌, append_assoc}
 use Rattle.cw_types.specs.declared.commitment.Commitment.{Commitment}
 use Rattle.cw_types.specs.declared.note.Note.{Note}
 use Rattle.cw_types.specs.declared.vote.Vote.TheVariants.{Notarize}
 use Rattle.cw_rules.specs.Notes.{has_block}
 use Rattle.cw_rules.specs.Rules.{commit}
 use Rattle.node.proofs.Noting.{noted_on}
-use Rattle.node.specs.Holding.{Holding, rules_of}
+use Rattle.node.specs.Holding.{rules_of}
 use Rattle.node.specs.Noting.{HasNoted}
 use Rattle.node.specs.Store.{stored_notes}
 use Rattle.node.proofs.holding.Holding.write_proposal.Goals as goal
@@ -35,11 +35,7 @@ returns-clause-ok g c =
     ∷ [] in
     l in
     let m = c.in_ok-commitment.commitment in
-    let same =
-    c.in_ok-commitment.ensures
-    ∙ ap
-    (λ (k : Holding g.row.D.Denot g.row.A.Denot). commit (rules_of hash accepts k) c.args.block)
-    c.self.view_is in
+    let same = c.in_ok-commitment.ensures in
     let all =
     noted_on hash accepts h c.write.new.self c.write-2.new.self (block m ++ verified m) (vote m)
     (noted_on hash accepts h c.write_block.new.self c.write.new.self (block m) (verified m)

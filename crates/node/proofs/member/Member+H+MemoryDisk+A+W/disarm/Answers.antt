@@ -1,12 +1,20 @@
-use Rattle.std.proofs.Common.{None}
+use Rattle.std.proofs.Common.{◌∙◌, None}
 use Rattle.node_disk.specs.Memory.{is_stopped}
-use Rattle.node.proofs.Working.{awake_logged}
+use Rattle.node.proofs.Working.{awake_logged, travel_logged}
 use Rattle.node.proofs.member.Member+H+MemoryDisk+A+W.disarm.Goals as goal
 
 pub invariant_of-self : goal.invariant_of-self
-invariant_of-self g c = λ works.
+invariant_of-self g c =
     let h = c.self.inside.holding in
     let disk = h.log.disk in
-    awake_logged g.H.Hasher.digest_of g.A.Application.accepts (is_stopped disk) h c.disarm.new.self c.self.inside.leads.led.entries
-    (record h.log { disk = record disk { stop = None } }) c.disarm.ensures.dropped
-    c.disarm.ensures.stopped (c.self.invariant works)
+    let log = record h.log { disk = record disk { stop = None } } in
+    record {
+      0 =
+          travel_logged (is_stopped disk) h c.disarm.new.self log c.disarm.ensures.dropped
+          c.disarm.ensures.stopped
+          ∙ c.self.invariant.0;
+      1 = λ works.
+          awake_logged g.H.Hasher.digest_of g.A.Application.accepts (is_stopped disk) h
+          c.disarm.new.self c.self.inside.leads.led.entries log c.disarm.ensures.dropped
+          c.disarm.ensures.stopped (c.self.invariant.1 works);
+    }
