@@ -153,10 +153,6 @@ error_line (HashClash earlier later) =
     line (codes "error 6 HashClash " ++ encode_lower earlier ++ codes " " ++ encode_lower later)
 error_line NoMemory = []
 
--- the answer where the words are neither none nor `storm` and a number
-abbrev pub usage_line : List ℕ
-usage_line = line (codes "usage: hail_run [storm N]")
-
 -- the answer to an input above 16,777,216 bytes
 abbrev pub too_long_line : List ℕ
 too_long_line = line (codes "error TooLong")

@@ -7,7 +7,7 @@ use Rattle.hail_script.specs.Pieces.{number}
 use Rattle.hail_report.specs.declared.exit.Exit.{Exit}
 use Rattle.hail_world.specs.Headline as world
 use Rattle.hail_report.specs.Exits.{UsageOf}
-use Rattle.hail_report.specs.Text.{report_text, summary_text, usage_line}
+use Rattle.hail_report.specs.Text.{line, report_text, summary_text}
 use Rattle.hailstorm.specs.Reports.{Report}
 
 -- `storm` and a number
@@ -21,6 +21,10 @@ abbrev pub words_ask : List (List ℕ) → Option (Option ℕ)
 words_ask [] = Some None
 words_ask (word ∷ field ∷ []) = asked_storm word field
 words_ask _ = None
+
+-- the answer where the words are neither none nor `storm` and a number
+abbrev pub usage_line : List ℕ
+usage_line = line (codes "usage: hail_run [storm N]")
 
 -- the text of a report: whole, or its summary under a storm's number
 abbrev pub text_of : (List ℕ → Digest32) → Option ℕ → Reported → List ℕ
