@@ -4,7 +4,7 @@
 #![tactic(auto)]
 
 use cw_base::{NoGate, Sha256, StdSink, StdSource, Threads};
-use hailstorm::words_of;
+use hail_report::words_of;
 pub use run_light::light_program;
 use std::io;
 use std::process::ExitCode;

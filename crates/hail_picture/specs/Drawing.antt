@@ -4,13 +4,15 @@ use Rattle.cw_base.specs.declared.hash.Digest32.{Digest32}
 use Rattle.cw_types.specs.Encoding.{block_bytes}
 use Rattle.cw_rules.specs.Report.{Entry, Report as Reported}
 use Rattle.cw_rules.specs.World.{Line}
+use Rattle.cw_rules.specs.declared.travel.Travel.TheVariants as travel
 use Rattle.hail_script.specs.Grammar.{marks, script_of}
 use Rattle.hail_script.specs.Scenario.{Scenario}
 use Rattle.run_picture.specs.Picture.{picture}
 use Rattle.run_picture.specs.Steps.{Step}
 use Rattle.run_picture.specs.Told.{said_of}
-use Rattle.hailstorm.specs.Reports.{Report}
-use Rattle.hailstorm.specs.Reports.{IsReport, shown_report}
+use Rattle.node.specs.declared.way.Chunked.{Chunked}
+use Rattle.hail_world.specs.declared.report.Report.{Report}
+use Rattle.hail_world.specs.Reports.{IsReport, shown_report}
 use Rattle.hail_report.specs.Text.{line}
 
 -- what a line did, by its entry
@@ -36,9 +38,9 @@ picture_of hash s r =
     (map (λ b. hash (block_bytes b)) r.chain)
 
 -- the text spells a script, this is the report of its run, and its picture is due
-pub record IsDrawn {H : Type 0} (hash : List ℕ → Digest32) (text : List ℕ) (report : Report H)
-    (due : List ℕ) : Type 0 where
-  pub reported : IsReport hash text report
+pub record IsDrawn {H : Type 0} (hash : List ℕ → Digest32) (text : List ℕ)
+    (report : Report H Chunked) (due : List ℕ) : Type 0 where
+  pub reported : IsReport travel.Chunked hash text report
   pub script : Scenario
   pub in_grammar : script_of text ≡ Ok script
   pub drawn : due ≡ picture_of hash script (shown_report report)

@@ -3,21 +3,23 @@
 ghost use Rattle.std.specs.Prelude.{◌≡◌, IfOk, map};
 ghost use Rattle.cw_types.specs.Encoding.{block_bytes};
 ghost use Rattle.hail_script.specs.Events.{line_of};
-ghost use Rattle.hailstorm.specs.Reports.{shown_report};
+ghost use Rattle.hail_world.specs.Reports.{shown_report};
 ghost use Rattle.run_picture.specs.Told as told;
 ghost use Rattle.hail_picture.specs.Drawing as spec;
 
 use cw_base::{Digest32, Hasher, Items, NoMemory};
 use cw_types::{ChainBlock, Handed};
+use hail_report::{Entry, Sent};
 use hail_script::EventLine;
-use hailstorm::{Entry, Ran, Sent};
+use hail_world::Ran;
+use node::Chunked;
 use run_picture::{Said, Step, picture, says_of};
 use std::alloc::Global;
 
 /// The picture of a run.
 pub(crate) fn picture_of<H: Hasher<Digest = Digest32>>(
     alloc: Global,
-    ran: &Ran<H>,
+    ran: &Ran<H, Chunked>,
 ) -> Result<Vec<u8>, NoMemory>
     ensures { IfOk result
         (λ text. text.items

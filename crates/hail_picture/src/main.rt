@@ -7,7 +7,7 @@ mod program;
 
 use crate::program::picture_program;
 use cw_base::{NoGate, Sha256, StdSink, StdSource, Threads};
-use hailstorm::words_of;
+use hail_report::words_of;
 use std::io;
 use std::process::ExitCode;
 

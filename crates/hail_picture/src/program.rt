@@ -1,13 +1,16 @@
 //! The program: from the bytes of a script to the picture of its run.
 
 ghost use Rattle.std.specs.Prelude.{◌≡◌, ◌≢◌, List, Option, Some, length, ℕ};
+ghost use Rattle.cw_rules.specs.declared.travel.Travel.TheVariants as travel;
 ghost use Rattle.hail_report.specs.Exits.{HasFault, IsSilent, UsageOf};
-ghost use Rattle.hailstorm.specs.Programs.{AnswersBy, WasRun};
+ghost use Rattle.hail_world.specs.Programs.{AnswersBy, WasRun};
 ghost use Rattle.hail_picture.specs.Drawing.{IsDrawn, usage_line};
 
 use crate::drawing::picture_of;
 use cw_base::{Digest32, Hasher, NoMemory, Sink, Source, Strategy};
-use hailstorm::{Exit, Ran, Report, end_early, finish, run_source};
+use hail_report::{Exit, end_early, finish};
+use hail_world::{Ran, Report, run_source};
+use node::Chunked;
 use std::alloc::Global;
 use std::thread::Threads;
 
@@ -29,7 +32,7 @@ pub fn picture_program<
     input: &mut I,
     output: &mut O,
     strategy: &S,
-) -> Exit<Report<H>>
+) -> Exit<Report<H, Chunked>>
     // With words nothing is read, and the usage is written.
     ensures usage { length words.now ≢ 0
         → (input.new ≡ input.old)
@@ -37,8 +40,8 @@ pub fn picture_program<
 
     // Without words each answer has its meaning for the bytes that the source had left.
     ensures answer { (text : List ℕ) → length words.now ≡ 0 → I.left input.old ≡ Some text
-        → AnswersBy H.digest_of (IsDrawn H.digest_of) text (I.left input.new) (O.held output.old)
-        (O.held output.new) result }
+        → AnswersBy travel.Chunked H.digest_of (IsDrawn H.digest_of) text (I.left input.new)
+        (O.held output.old) (O.held output.new) result }
 
     // A fault is told only where the source or the sink has failed in this call.
     ensures fault { HasFault (I.faults input.old) (I.faults input.new) (O.faults output.old)
@@ -62,15 +65,15 @@ fn run_input<H: Hasher<Digest = Digest32>, R: Threads + Sync, I: Source, O: Sink
     input: &mut I,
     output: &mut O,
     strategy: &S,
-) -> Exit<Report<H>>
+) -> Exit<Report<H, Chunked>>
     ensures answer { (text : List ℕ) → I.left input.old ≡ Some text
-        → AnswersBy H.digest_of (IsDrawn H.digest_of) text (I.left input.new) (O.held output.old)
-        (O.held output.new) result }
+        → AnswersBy travel.Chunked H.digest_of (IsDrawn H.digest_of) text (I.left input.new)
+        (O.held output.old) (O.held output.new) result }
     ensures fault { HasFault (I.faults input.old) (I.faults input.new) (O.faults output.old)
         (O.faults output.new) result }
     ensures silent { IsSilent (O.held output.old) (O.held output.new) result }
 {
-    match run_source::<H, R, I, S>(rt, alloc, input, strategy) {
+    match run_source::<H, Chunked, R, I, S>(rt, alloc, input, strategy) {
         Ok(ran) => write_run(alloc, ran, output),
         Err(early) => end_early(alloc, output, early),
     }
@@ -79,11 +82,12 @@ fn run_input<H: Hasher<Digest = Digest32>, R: Threads + Sync, I: Source, O: Sink
 // Writes the picture of a run.
 fn write_run<H: Hasher<Digest = Digest32>, O: Sink>(
     alloc: Global,
-    ran: Ran<H>,
+    ran: Ran<H, Chunked>,
     output: &mut O,
-) -> Exit<Report<H>>
-    ensures answer { (text : List ℕ) (rest : Option (List ℕ)) → WasRun H.digest_of text rest ran
-        → AnswersBy H.digest_of (IsDrawn H.digest_of) text rest (O.held output.old)
+) -> Exit<Report<H, Chunked>>
+    ensures answer { (text : List ℕ) (rest : Option (List ℕ))
+        → WasRun travel.Chunked H.digest_of text rest ran
+        → AnswersBy travel.Chunked H.digest_of (IsDrawn H.digest_of) text rest (O.held output.old)
         (O.held output.new) result }
     ensures fault { (reads later : ℕ)
         → HasFault reads later (O.faults output.old) (O.faults output.new) result }

@@ -13,12 +13,14 @@ use Rattle.cw_types.specs.declared.message.Message.TheVariants.{Shard}
 use Rattle.cw_rules.specs.Report.{Entry, Report as Reported}
 use Rattle.cw_rules.specs.Rules.{commit}
 use Rattle.cw_rules.specs.World.{Sent}
+use Rattle.cw_rules.specs.declared.travel.Travel.TheVariants as travel
 use Rattle.hail_script.specs.Grammar.{script_of}
 use Rattle.hail_script.specs.Pieces.{number}
 use Rattle.hail_script.specs.Scenario.{Scenario}
-use Rattle.hailstorm.specs.Reports.{IsReport, IsRun, shown_report}
+use Rattle.hail_world.specs.Reports.{IsReport, IsRun, shown_report}
 use Rattle.hail_report.specs.Text.{line}
-use Rattle.hailstorm.specs.Reports.{Report}
+use Rattle.node.specs.declared.way.Chunked.{Chunked}
+use Rattle.hail_world.specs.declared.report.Report.{Report}
 use Rattle.shards.specs.Kept.{rules_of}
 
 -- the limit, where the one word is a number
@@ -77,10 +79,10 @@ usage_line = line (codes "usage: hail_archive")
 -- What is handed back and written where all goes well: the report of the script's run, the archive
 -- that its messages fill, and the lines of what that archive gives back.
 pub record IsDone {H : Type 0} (hash : List ℕ → Digest32) (limit : ℕ) (text : List ℕ)
-    (done : Report H × Archived) (due : List ℕ) : Type 0 where
+    (done : Report H Chunked × Archived) (due : List ℕ) : Type 0 where
   pub script : Scenario
   pub spells : script_of text ≡ Ok script
   pub run : IsRun hash script done.0
-  pub report : IsReport hash text done.0
+  pub report : IsReport travel.Chunked hash text done.0
   pub archive : done.1 ≡ filled hash limit (shown_report done.0)
   pub lines : due ≡ archive_text hash script.committees done.1 done.0.chain

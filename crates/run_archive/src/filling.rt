@@ -3,13 +3,15 @@
 ghost use Rattle.std.specs.Prelude.{◌≡◌, IfOk, OnOk};
 ghost use Rattle.std.specs.List.{fold};
 ghost use Rattle.cw_archive.specs.Archived.{after_put};
-ghost use Rattle.hailstorm.specs.Reports.{shown_report};
+ghost use Rattle.hail_world.specs.Reports.{shown_report};
 ghost use Rattle.run_archive.specs.Program as spec;
 
 use cw_archive::Archive;
 use cw_base::{Digest32, Hasher, NoMemory, Strategy};
 use cw_types::Message;
-use hailstorm::{Entry, Report, Sent};
+use hail_report::{Entry, Sent};
+use hail_world::Report;
+use node::Chunked;
 use std::alloc::Global;
 use std::thread::Threads;
 
@@ -19,7 +21,7 @@ pub(crate) fn filled<H: Hasher<Digest = Digest32>, R: Threads + Sync, S: Strateg
     rt: &R,
     alloc: Global,
     limit: u64,
-    report: &Report<H>,
+    report: &Report<H, Chunked>,
     strategy: &S,
 ) -> Result<Archive<H>, NoMemory>
     ensures { IfOk result

@@ -1,9 +1,10 @@
 //! The program: from the bytes that come in to the bytes that go out.
 
 ghost use Rattle.std.specs.Prelude.{◌≡◌, IfOk, List, None, Option, Some, map, string_bytes, ℕ};
-ghost use Rattle.hailstorm.specs.Reports.{shown_report};
+ghost use Rattle.cw_rules.specs.declared.travel.Travel.TheVariants as travel;
+ghost use Rattle.hail_world.specs.Reports.{shown_report};
 ghost use Rattle.hail_report.specs.Exits.{HasFault, HasRun, IsSilent, UsageOf};
-ghost use Rattle.hailstorm.specs.Programs.{AnswersBy, WasRun};
+ghost use Rattle.hail_world.specs.Programs.{AnswersBy, WasRun};
 ghost use Rattle.run_archive.specs.Program as spec;
 ghost use Rattle.run_archive.specs.Program.{IsDone, usage_line};
 
@@ -11,8 +12,10 @@ use crate::filling::filled;
 use crate::text::archive_text;
 use cw_archive::Archive;
 use cw_base::{Digest32, Hasher, NoMemory, Sink, Source, Strategy};
+use hail_report::{Exit, end_early, finish};
 use hail_script::number_of;
-use hailstorm::{Exit, Ran, Report, end_early, finish, run_source};
+use hail_world::{Ran, Report, run_source};
+use node::Chunked;
 use std::alloc::Global;
 use std::thread::Threads;
 
@@ -35,7 +38,7 @@ pub fn archive_program<
     input: &mut I,
     output: &mut O,
     strategy: &S,
-) -> Exit<(Report<H>, Archive<H>)>
+) -> Exit<(Report<H, Chunked>, Archive<H>)>
     // With other words than one number nothing is read, and the usage is written.
     ensures usage { spec.limit_of (map string_bytes words.now) ≡ None
         → (input.new ≡ input.old)
@@ -44,7 +47,7 @@ pub fn archive_program<
     // With a limit each answer has its meaning for the bytes that the source had left.
     ensures answer { (limit : ℕ) (text : List ℕ)
         → spec.limit_of (map string_bytes words.now) ≡ Some limit → I.left input.old ≡ Some text
-        → AnswersBy H.digest_of (IsDone H.digest_of limit) text (I.left input.new)
+        → AnswersBy travel.Chunked H.digest_of (IsDone H.digest_of limit) text (I.left input.new)
         (O.held output.old) (O.held output.new) result }
 
     // Whether or not the source tells its bytes: the usage is the answer to other words alone.
@@ -87,9 +90,9 @@ fn run_input<H: Hasher<Digest = Digest32>, R: Threads + Sync, I: Source, O: Sink
     input: &mut I,
     output: &mut O,
     strategy: &S,
-) -> Exit<(Report<H>, Archive<H>)>
+) -> Exit<(Report<H, Chunked>, Archive<H>)>
     ensures answer { (text : List ℕ) → I.left input.old ≡ Some text
-        → AnswersBy H.digest_of (IsDone H.digest_of limit) text (I.left input.new)
+        → AnswersBy travel.Chunked H.digest_of (IsDone H.digest_of limit) text (I.left input.new)
         (O.held output.old) (O.held output.new) result }
     ensures run { HasRun (IsDone H.digest_of limit) (O.held output.old) (O.held output.new)
         result }
@@ -97,7 +100,7 @@ fn run_input<H: Hasher<Digest = Digest32>, R: Threads + Sync, I: Source, O: Sink
         (O.faults output.old) (O.faults output.new) result }
     ensures silent { IsSilent (O.held output.old) (O.held output.new) result }
 {
-    match run_source::<H, R, I, S>(rt, alloc, input, strategy) {
+    match run_source::<H, Chunked, R, I, S>(rt, alloc, input, strategy) {
         Ok(ran) => write_run(rt, alloc, limit, ran, output, strategy),
         Err(early) => end_early(alloc, output, early),
     }
@@ -108,12 +111,13 @@ fn write_run<H: Hasher<Digest = Digest32>, R: Threads + Sync, O: Sink, S: Strate
     rt: &R,
     alloc: Global,
     limit: u64,
-    ran: Ran<H>,
+    ran: Ran<H, Chunked>,
     output: &mut O,
     strategy: &S,
-) -> Exit<(Report<H>, Archive<H>)>
-    ensures answer { (text : List ℕ) (rest : Option (List ℕ)) → WasRun H.digest_of text rest ran
-        → AnswersBy H.digest_of (IsDone H.digest_of limit) text rest
+) -> Exit<(Report<H, Chunked>, Archive<H>)>
+    ensures answer { (text : List ℕ) (rest : Option (List ℕ))
+        → WasRun travel.Chunked H.digest_of text rest ran
+        → AnswersBy travel.Chunked H.digest_of (IsDone H.digest_of limit) text rest
         (O.held output.old) (O.held output.new) result }
     ensures fault { (reads later : ℕ)
         → HasFault reads later (O.faults output.old) (O.faults output.new) result }
@@ -129,16 +133,16 @@ fn write_run<H: Hasher<Digest = Digest32>, R: Threads + Sync, O: Sink, S: Strate
 fn write_archive<H: Hasher<Digest = Digest32>, R: Threads + Sync, O: Sink, S: Strategy>(
     rt: &R,
     alloc: Global,
-    ran: Ran<H>,
+    ran: Ran<H, Chunked>,
     archive: Archive<H>,
     output: &mut O,
     strategy: &S,
-) -> Exit<(Report<H>, Archive<H>)>
+) -> Exit<(Report<H, Chunked>, Archive<H>)>
     // whatever the limit for which what the run sent fills this archive
     ensures answer { (limit : ℕ) (text : List ℕ) (rest : Option (List ℕ))
         → archive ≡ spec.filled H.digest_of limit (shown_report ran.report)
-        → WasRun H.digest_of text rest ran
-        → AnswersBy H.digest_of (IsDone H.digest_of limit) text rest
+        → WasRun travel.Chunked H.digest_of text rest ran
+        → AnswersBy travel.Chunked H.digest_of (IsDone H.digest_of limit) text rest
         (O.held output.old) (O.held output.new) result }
     ensures fault { (reads later : ℕ)
         → HasFault reads later (O.faults output.old) (O.faults output.new) result }
@@ -154,7 +158,7 @@ fn write_archive<H: Hasher<Digest = Digest32>, R: Threads + Sync, O: Sink, S: St
 fn text_of<H: Hasher<Digest = Digest32>, R: Threads + Sync, S: Strategy>(
     rt: &R,
     alloc: Global,
-    ran: &Ran<H>,
+    ran: &Ran<H, Chunked>,
     archive: &Archive<H>,
     strategy: &S,
 ) -> Result<Vec<u8>, NoMemory>

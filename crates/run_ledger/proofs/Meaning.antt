@@ -6,9 +6,11 @@ use Rattle.cw_base.specs.declared.hash.Digest32.{Digest32}
 use Rattle.node_disk.specs.Memory.{MemoryState}
 use Rattle.cw_ledger.specs.Ledger.{Ledger}
 use Rattle.cw_rules.specs.Report.{Acked}
-use Rattle.hailstorm.specs.Reports.{Report}
+use Rattle.node.specs.declared.way.Chunked.{Chunked}
+use Rattle.cw_rules.specs.declared.travel.Travel.TheVariants as travel
+use Rattle.hail_world.specs.declared.report.Report.{Report}
 use Rattle.hail_world.specs.Places.{rules_of}
-use Rattle.hailstorm.specs.Reports.{IsReport, shown_report}
+use Rattle.hail_world.specs.Reports.{IsReport, shown_report}
 use Rattle.run_ledger.specs.Giving.{payloads_of, payloads_of_all}
 use Rattle.run_ledger.specs.Ledgers.{AreDone, NeverFails, members_of}
 use Rattle.run_ledger.specs.Text.{ledger_text}
@@ -24,7 +26,7 @@ all_push xs ys x all one is = subst (AllByRecursion NeverFails) (sym is) (push x
     push [] all = (one, tt)
     push (y ∷ xs) all = (all.0, push xs all.1)
 
-module _ {H : Type 0} (report : Report H) (replicas : List (Ledger MemoryState))
+module _ {H : Type 0} (report : Report H Chunked) (replicas : List (Ledger MemoryState))
     (given : map (λ r. r.payloads) replicas ≡ payloads_of_all (shown_report report)) where
   -- there is a replica for each honest member
   as_many : length report.acked ≡ length replicas
@@ -44,7 +46,8 @@ module _ {H : Type 0} (report : Report H) (replicas : List (Ledger MemoryState))
         ∙ sym (ap (λ (l : List (Ledger MemoryState)). length l) replicas_are)
 
     -- these are the replicas of the run of a text, and what is due is their text
-    pub is_done : (hash : List ℕ → Digest32) (text due : List ℕ) → IsReport hash text report
+    pub is_done : (hash : List ℕ → Digest32) (text due : List ℕ)
+        → IsReport travel.Chunked hash text report
         → AllByRecursion NeverFails replicas
         → due ≡ ledger_text (map (λ a. a.member) acked) (map (λ r. r.payloads) shown)
         → AreDone hash text (report, replicas) due

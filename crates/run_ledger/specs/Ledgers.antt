@@ -8,8 +8,10 @@ use Rattle.cw_rules.specs.Reached.{In}
 use Rattle.cw_rules.specs.Report.{Entry, Report as Reported}
 use Rattle.node_disk.specs.Memory.{MemoryState, is_calm}
 use Rattle.cw_ledger.specs.Ledger.{Ledger}
-use Rattle.hailstorm.specs.Reports.{Report}
-use Rattle.hailstorm.specs.Reports.{IsReport, shown_report}
+use Rattle.node.specs.declared.way.Chunked.{Chunked}
+use Rattle.cw_rules.specs.declared.travel.Travel.TheVariants as travel
+use Rattle.hail_world.specs.declared.report.Report.{Report}
+use Rattle.hail_world.specs.Reports.{IsReport, shown_report}
 use Rattle.run_ledger.specs.Text.{ledger_text}
 
 -- the entry is of the member
@@ -54,8 +56,8 @@ NeverFails r = (r.failed ≡ false) × (is_calm r.disk ≡ true)
 -- What is handed back and written of a script of this text: the report of its run, the replica of
 -- each honest member, none of which has failed, and the lines of these.
 pub record AreDone {H : Type 0} (hash : List ℕ → Digest32) (text : List ℕ)
-    (done : Report H × List (Ledger MemoryState)) (due : List ℕ) : Type 0 where
-  pub report : IsReport hash text done.0
+    (done : Report H Chunked × List (Ledger MemoryState)) (due : List ℕ) : Type 0 where
+  pub report : IsReport travel.Chunked hash text done.0
   pub ledgers : AreLedgers (shown_report done.0) (members_of (shown_report done.0)) done.1
   pub whole : AllByRecursion NeverFails done.1
   pub lines : due ≡ ledger_text (members_of (shown_report done.0)) (map (λ r. r.payloads) done.1)

@@ -4,12 +4,14 @@ ghost use Rattle.std.specs.Prelude.{◌≡◌, [], IfOk, OnOk, map};
 ghost use Rattle.std.specs.List.{AllByRecursion};
 ghost use Rattle.run_ledger.specs.Giving.{given_all, given_one, payloads_of, payloads_of_all};
 ghost use Rattle.run_ledger.specs.Ledgers.{NeverFails, handed_in_entries};
-ghost use Rattle.hailstorm.specs.Reports.{shown_report};
+ghost use Rattle.hail_world.specs.Reports.{shown_report};
 
 use cw_base::{Digest32, Hasher, Items, NoMemory};
 use cw_ledger::Replica;
 use cw_types::{ChainBlock, Handed};
-use hailstorm::{Entry, Report};
+use hail_report::Entry;
+use hail_world::Report;
+use node::Chunked;
 use node_disk::{MemoryDisk, StoreError};
 use std::alloc::Global;
 
@@ -18,7 +20,7 @@ use std::alloc::Global;
 #[tactic(auto, using(crate::proofs::Meaning::all_push))]
 pub(crate) fn replicas_of<H: Hasher<Digest = Digest32>>(
     alloc: Global,
-    report: &Report<H>,
+    report: &Report<H, Chunked>,
 ) -> Result<Items<Replica<MemoryDisk>>, NoMemory>
     ensures given { IfOk result (λ replicas. map (λ r. r.payloads) replicas
         ≡ payloads_of_all (shown_report report.now)) }
@@ -34,7 +36,7 @@ pub(crate) fn replicas_of<H: Hasher<Digest = Digest32>>(
 // The replica of a member.
 fn replica_of<H: Hasher<Digest = Digest32>>(
     alloc: Global,
-    report: &Report<H>,
+    report: &Report<H, Chunked>,
     member: u16,
 ) -> Result<Replica<MemoryDisk>, NoMemory>
     ensures given { IfOk result (λ replica. replica.payloads

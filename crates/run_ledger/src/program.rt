@@ -2,9 +2,10 @@
 
 ghost use Rattle.std.specs.Prelude.{◌≡◌, ◌≢◌, List, Option, Some, length, map, ℕ};
 ghost use Rattle.std.specs.List.{AllByRecursion};
+ghost use Rattle.cw_rules.specs.declared.travel.Travel.TheVariants as travel;
 ghost use Rattle.hail_report.specs.Exits.{HasFault, HasRun, IsSilent, UsageOf};
-ghost use Rattle.hailstorm.specs.Programs.{AnswersBy, WasRun};
-ghost use Rattle.hailstorm.specs.Reports.{shown_report};
+ghost use Rattle.hail_world.specs.Programs.{AnswersBy, WasRun};
+ghost use Rattle.hail_world.specs.Reports.{shown_report};
 ghost use Rattle.run_ledger.specs.Giving.{payloads_of_all};
 ghost use Rattle.run_ledger.specs.Ledgers.{AreDone, NeverFails};
 ghost use Rattle.run_ledger.specs.Text.{usage_line};
@@ -13,7 +14,9 @@ use crate::giving::replicas_of;
 use crate::text::ledger_text;
 use cw_base::{Digest32, Hasher, Items, NoMemory, Sink, Source, Strategy};
 use cw_ledger::Replica;
-use hailstorm::{Exit, Ran, Report, end_early, finish, run_source};
+use hail_report::{Exit, end_early, finish};
+use hail_world::{Ran, Report, run_source};
+use node::Chunked;
 use node_disk::MemoryDisk;
 use std::alloc::Global;
 use std::thread::Threads;
@@ -37,7 +40,7 @@ pub fn ledger_program<
     input: &mut I,
     output: &mut O,
     strategy: &S,
-) -> Exit<(Report<H>, Items<Replica<MemoryDisk>>)>
+) -> Exit<(Report<H, Chunked>, Items<Replica<MemoryDisk>>)>
     // With words nothing is read, and the usage is written.
     ensures usage { length words.now ≢ 0
         → (input.new ≡ input.old)
@@ -45,8 +48,8 @@ pub fn ledger_program<
 
     // Without words each answer has its meaning for the bytes that the source had left.
     ensures answer { (text : List ℕ) → length words.now ≡ 0 → I.left input.old ≡ Some text
-        → AnswersBy H.digest_of (AreDone H.digest_of) text (I.left input.new) (O.held output.old)
-        (O.held output.new) result }
+        → AnswersBy travel.Chunked H.digest_of (AreDone H.digest_of) text (I.left input.new)
+        (O.held output.old) (O.held output.new) result }
 
     // Whether or not the source tells its bytes: the usage is the answer to words alone.
     ensures usage_only { result ≡ Exit.Usage → length words.now ≢ 0 }
@@ -78,16 +81,16 @@ fn run_input<H: Hasher<Digest = Digest32>, R: Threads + Sync, I: Source, O: Sink
     input: &mut I,
     output: &mut O,
     strategy: &S,
-) -> Exit<(Report<H>, Items<Replica<MemoryDisk>>)>
+) -> Exit<(Report<H, Chunked>, Items<Replica<MemoryDisk>>)>
     ensures answer { (text : List ℕ) → I.left input.old ≡ Some text
-        → AnswersBy H.digest_of (AreDone H.digest_of) text (I.left input.new) (O.held output.old)
-        (O.held output.new) result }
+        → AnswersBy travel.Chunked H.digest_of (AreDone H.digest_of) text (I.left input.new)
+        (O.held output.old) (O.held output.new) result }
     ensures run { HasRun (AreDone H.digest_of) (O.held output.old) (O.held output.new) result }
     ensures fault { HasFault (I.faults input.old) (I.faults input.new) (O.faults output.old)
         (O.faults output.new) result }
     ensures silent { IsSilent (O.held output.old) (O.held output.new) result }
 {
-    match run_source::<H, R, I, S>(rt, alloc, input, strategy) {
+    match run_source::<H, Chunked, R, I, S>(rt, alloc, input, strategy) {
         Ok(ran) => write_run(alloc, ran, output),
         Err(early) => end_early(alloc, output, early),
     }
@@ -96,11 +99,12 @@ fn run_input<H: Hasher<Digest = Digest32>, R: Threads + Sync, I: Source, O: Sink
 // Gives the replicas their blocks, and writes what they came to.
 fn write_run<H: Hasher<Digest = Digest32>, O: Sink>(
     alloc: Global,
-    ran: Ran<H>,
+    ran: Ran<H, Chunked>,
     output: &mut O,
-) -> Exit<(Report<H>, Items<Replica<MemoryDisk>>)>
-    ensures answer { (text : List ℕ) (rest : Option (List ℕ)) → WasRun H.digest_of text rest ran
-        → AnswersBy H.digest_of (AreDone H.digest_of) text rest (O.held output.old)
+) -> Exit<(Report<H, Chunked>, Items<Replica<MemoryDisk>>)>
+    ensures answer { (text : List ℕ) (rest : Option (List ℕ))
+        → WasRun travel.Chunked H.digest_of text rest ran
+        → AnswersBy travel.Chunked H.digest_of (AreDone H.digest_of) text rest (O.held output.old)
         (O.held output.new) result }
     ensures fault { (reads later : ℕ)
         → HasFault reads later (O.faults output.old) (O.faults output.new) result }
@@ -115,14 +119,15 @@ fn write_run<H: Hasher<Digest = Digest32>, O: Sink>(
 // Writes what the replicas of a run came to.
 fn write_replicas<H: Hasher<Digest = Digest32>, O: Sink>(
     alloc: Global,
-    ran: Ran<H>,
+    ran: Ran<H, Chunked>,
     replicas: Items<Replica<MemoryDisk>>,
     output: &mut O,
-) -> Exit<(Report<H>, Items<Replica<MemoryDisk>>)>
+) -> Exit<(Report<H, Chunked>, Items<Replica<MemoryDisk>>)>
     requires given { map (λ r. r.payloads) replicas ≡ payloads_of_all (shown_report ran.report) }
     requires works { AllByRecursion NeverFails replicas }
-    ensures answer { (text : List ℕ) (rest : Option (List ℕ)) → WasRun H.digest_of text rest ran
-        → AnswersBy H.digest_of (AreDone H.digest_of) text rest (O.held output.old)
+    ensures answer { (text : List ℕ) (rest : Option (List ℕ))
+        → WasRun travel.Chunked H.digest_of text rest ran
+        → AnswersBy travel.Chunked H.digest_of (AreDone H.digest_of) text rest (O.held output.old)
         (O.held output.new) result }
     ensures fault { (reads later : ℕ)
         → HasFault reads later (O.faults output.old) (O.faults output.new) result }

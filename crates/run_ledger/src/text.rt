@@ -6,7 +6,7 @@ ghost use Rattle.run_ledger.specs.Text as spec;
 
 use cw_base::NoMemory;
 use cw_ledger::{Holding, Replica};
-use hailstorm::Acked;
+use hail_report::Acked;
 use node_disk::MemoryDisk;
 use std::alloc::Global;
 

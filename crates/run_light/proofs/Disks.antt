@@ -5,7 +5,7 @@ use Rattle.cw_types.specs.declared.vote.Vote.{Vote}
 use Rattle.cw_rules.specs.Rules.{Rules}
 use Rattle.cw_rules.specs.Step.{Member, member_notes}
 use Rattle.marshal.specs.Stored.{joined_notes, read_notes}
-use Rattle.hailstorm.specs.Reports.{HoldNotes}
+use Rattle.hail_world.specs.Reports.{HoldNotes}
 use Rattle.run_light.specs.Finding.{found_at}
 use Rattle.run_light.specs.declared.search.Shown.{Shown}
 

@@ -34,7 +34,7 @@ use Rattle.cw_light.specs.declared.check.Answer.{Answer}
 use Rattle.cw_light.specs.declared.check.Answer.TheVariants.{BadSigners, Broken, EmptyPath, NotFinal, Yes}
 use Rattle.cw_light.proofs.Believed.{AreTwo, believed, known_under}
 use Rattle.cw_rules.proofs.Blocks.{first_in}
-use Rattle.hailstorm.specs.Reports.{honest}
+use Rattle.hail_world.specs.Reports.{honest}
 use Rattle.run_light.specs.Finding.{found_at, found_in, path_to, path_within, shown_by, shown_of}
 use Rattle.run_light.specs.declared.search.Shown.{Shown}
 use Rattle.run_light.proofs.Paths.{parent_low}

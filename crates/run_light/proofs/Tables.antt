@@ -10,10 +10,11 @@ use Rattle.cw_rules.specs.Step.{Member, Stepped, start}
 use Rattle.cw_rules.specs.World.{Cut, Do, Faulty, Line, Restart, Sent, World, done_by, faults, happens, opening, run, sent_now, signed, with_done}
 use Rattle.hail_script.specs.Grammar.{is_faulty_in, marks}
 use Rattle.hail_script.specs.Scenario.{Scenario}
-use Rattle.hailstorm.specs.Reports.{Report}
+use Rattle.node.specs.declared.way.Chunked.{Chunked}
+use Rattle.hail_world.specs.declared.report.Report.{Report}
 use Rattle.hail_world.specs.Places.{marked, rules_of, table}
 use Rattle.hail_report.specs.Pool.{sent_in}
-use Rattle.hailstorm.specs.Reports.{IsRun}
+use Rattle.hail_world.specs.Reports.{IsRun}
 use Rattle.cw_rules.proofs.Changes.{flags_kept}
 use Rattle.cw_light.proofs.Moments.{ends_run}
 use Rattle.hail_world.proofs.Playing.{flags_signed}
@@ -78,7 +79,7 @@ flags_open r lines total e =
         ap (λ (b : Bool). b ∷ map (is_faulty_in lines) is) (one i)
         ∙ ap (λ (l : List Bool). is_none (seat i) ∷ l) (all is)
 
-pub table_is : {H : Type 0} (hash : List ℕ → Digest32) (s : Scenario) (report : Report H)
+pub table_is : {H : Type 0} (hash : List ℕ → Digest32) (s : Scenario) (report : Report H Chunked)
     (x : IsRun hash s report) (faulty : List Bool)
     → faulty ≡ marks s.lines s.committees.total
     → table faulty (sent_in report.steps) ≡ signed x.world

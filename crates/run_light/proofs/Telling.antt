@@ -10,22 +10,25 @@ use Rattle.cw_light.specs.Believing.{IsLinkAt}
 use Rattle.cw_light.specs.Checking.{answer}
 use Rattle.cw_light.specs.declared.check.Answer.TheVariants.{Yes}
 use Rattle.cw_rules_coded.specs.Coded.{coded}
+use Rattle.cw_rules.specs.declared.travel.Travel.TheVariants as travel
 use Rattle.hail_script.specs.Grammar.{marks}
 use Rattle.hail_script.specs.Scenario.{Scenario}
-use Rattle.hailstorm.specs.Programs.{Ran}
-use Rattle.hailstorm.specs.Reports.{Report}
+use Rattle.hail_world.specs.declared.report.Ran.{Ran}
+use Rattle.node.specs.declared.way.Chunked.{Chunked}
+use Rattle.hail_world.specs.declared.report.Report.{Report}
 use Rattle.hail_world.specs.Places.{rules_of, table}
 use Rattle.hail_report.specs.Pool.{sent_in}
-use Rattle.hailstorm.specs.Programs.{WasRun}
-use Rattle.hailstorm.specs.Reports.{IsRun, honest}
+use Rattle.hail_world.specs.Programs.{WasRun}
+use Rattle.hail_world.specs.Reports.{IsRun, honest}
 use Rattle.run_light.specs.Finding.{found_in}
 use Rattle.run_light.specs.Telling.{IsToldRun, Tells, TellsOf, none_line, yes_line}
 use Rattle.run_light.specs.declared.search.Shown.{Shown}
 use Rattle.run_light.proofs.Showing.{found_told}
 use Rattle.run_light.proofs.Tables.{table_is}
 
-module _ {H : Type 0} (hash : List ℕ → Digest32) (height : ℕ) (s : Scenario) (report : Report H)
-    (x : IsRun hash s report) (cluster : IsCluster (rules_of hash s) s.lines) where
+module _ {H : Type 0} (hash : List ℕ → Digest32) (height : ℕ) (s : Scenario)
+    (report : Report H Chunked) (x : IsRun hash s report)
+    (cluster : IsCluster (rules_of hash s) s.lines) where
   abbrev found : Option Shown
   found = found_in (rules_of hash s) (signed x.world) height (honest x.world)
 
@@ -80,8 +83,8 @@ module _ {H : Type 0} (hash : List ℕ → Digest32) (height : ℕ) (s : Scenari
 
 -- so for a text that was read
 pub told_run : {H : Type 0} (hash : List ℕ → Digest32) (height : ℕ) (text : List ℕ)
-    (rest : Option (List ℕ)) (ran : Ran H) (due : List ℕ)
-    → WasRun hash text rest ran
+    (rest : Option (List ℕ)) (ran : Ran H Chunked) (due : List ℕ)
+    → WasRun travel.Chunked hash text rest ran
     → ((x : IsRun hash ran.script ran.report) → TellsOf hash height ran.script ran.report x due)
     → IsToldRun hash height text ran.report due
 told_run hash height text rest ran due h all =

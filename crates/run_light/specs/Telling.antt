@@ -6,11 +6,13 @@ use Rattle.cw_types.specs.Block.{Block}
 use Rattle.cw_rules.specs.Rules.{Rules}
 use Rattle.cw_rules.specs.World.{signed}
 use Rattle.cw_light.specs.Believing.{IsLinkAt}
+use Rattle.cw_rules.specs.declared.travel.Travel.TheVariants as travel
 use Rattle.hail_script.specs.Pieces.{number}
 use Rattle.hail_script.specs.Scenario.{Scenario}
-use Rattle.hailstorm.specs.Reports.{Report}
+use Rattle.node.specs.declared.way.Chunked.{Chunked}
+use Rattle.hail_world.specs.declared.report.Report.{Report}
 use Rattle.hail_world.specs.Places.{rules_of}
-use Rattle.hailstorm.specs.Reports.{IsReport, IsRun, honest}
+use Rattle.hail_world.specs.Reports.{IsReport, IsRun, honest}
 use Rattle.hail_report.specs.Text.{digest_text, line}
 use Rattle.run_light.specs.Finding.{found_in}
 use Rattle.run_light.specs.declared.search.Shown.{Shown}
@@ -42,7 +44,7 @@ Tells r links height (Some shown) due =
 -- the line of the first finalization on the disks of a run's honest members, by number, that shows
 -- the height, by the votes that were signed in its world
 abbrev pub TellsOf : {H : Type 0} (hash : List ℕ → Digest32) (height : ℕ) (s : Scenario)
-    (report : Report H)
+    (report : Report H Chunked)
     → IsRun hash s report → List ℕ → Type 0
 TellsOf hash height s report run due =
     Tells (rules_of hash s) report.chain height
@@ -50,6 +52,6 @@ TellsOf hash height s report run due =
 
 -- the text spells a script that is run, this is the report of its run, and that line is due
 pub record IsToldRun {H : Type 0} (hash : List ℕ → Digest32) (height : ℕ) (text : List ℕ)
-    (report : Report H) (due : List ℕ) : Type 0 where
-  pub reported : IsReport hash text report
+    (report : Report H Chunked) (due : List ℕ) : Type 0 where
+  pub reported : IsReport travel.Chunked hash text report
   pub told : TellsOf hash height reported.script report reported.run due

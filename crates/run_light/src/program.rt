@@ -1,9 +1,10 @@
 //! The program: from the bytes of a script to the line of what is shown.
 
 ghost use Rattle.std.specs.Prelude.{◌≡◌, List, ℕ, None, Option, Some, IfOk, map, string_bytes};
+ghost use Rattle.cw_rules.specs.declared.travel.Travel.TheVariants as travel;
 ghost use Rattle.hail_report.specs.Exits.{HasFault, HasRun, IsSilent, UsageOf};
-ghost use Rattle.hailstorm.specs.Programs.{AnswersBy, WasRun};
-ghost use Rattle.hailstorm.specs.Reports.{IsRun};
+ghost use Rattle.hail_world.specs.Programs.{AnswersBy, WasRun};
+ghost use Rattle.hail_world.specs.Reports.{IsRun};
 ghost use Rattle.run_light.specs.Telling.{IsToldRun, asked_height, TellsOf, usage_line};
 
 use crate::search::found_in;
@@ -11,8 +12,10 @@ use crate::table::Table;
 use crate::text::{none_text, yes_text};
 use crate::told::told_of;
 use cw_base::{Digest32, Hasher, NoMemory, Sink, Source, Strategy};
+use hail_report::{Exit, end_early, finish};
 use hail_script::{Script, number_of};
-use hailstorm::{Exit, Ran, Report, end_early, finish, run_source};
+use hail_world::{Ran, Report, run_source};
+use node::Chunked;
 use std::alloc::Global;
 use std::thread::Threads;
 
@@ -38,7 +41,7 @@ pub fn light_program<
     input: &mut I,
     output: &mut O,
     strategy: &S,
-) -> Exit<Report<H>>
+) -> Exit<Report<H, Chunked>>
     // With other words nothing is read, and the usage is written.
     ensures usage { asked_height (map string_bytes words.now) ≡ None
         → (input.new ≡ input.old)
@@ -47,8 +50,8 @@ pub fn light_program<
     // With a height each answer has its meaning for the bytes that the source had left.
     ensures answer { (text : List ℕ) (height : ℕ)
         → asked_height (map string_bytes words.now) ≡ Some height → I.left input.old ≡ Some text
-        → AnswersBy H.digest_of (IsToldRun H.digest_of height) text (I.left input.new)
-        (O.held output.old) (O.held output.new) result }
+        → AnswersBy travel.Chunked H.digest_of (IsToldRun H.digest_of height) text
+        (I.left input.new) (O.held output.old) (O.held output.new) result }
 
     // Whether or not the source tells its bytes: the usage is the answer to other words alone.
     ensures usage_only { result ≡ Exit.Usage → asked_height (map string_bytes words.now) ≡ None }
@@ -90,17 +93,17 @@ fn run_input<H: Hasher<Digest = Digest32>, R: Threads + Sync, I: Source, O: Sink
     input: &mut I,
     output: &mut O,
     strategy: &S,
-) -> Exit<Report<H>>
+) -> Exit<Report<H, Chunked>>
     ensures answer { (text : List ℕ) → I.left input.old ≡ Some text
-        → AnswersBy H.digest_of (IsToldRun H.digest_of height) text (I.left input.new)
-        (O.held output.old) (O.held output.new) result }
+        → AnswersBy travel.Chunked H.digest_of (IsToldRun H.digest_of height) text
+        (I.left input.new) (O.held output.old) (O.held output.new) result }
     ensures run { HasRun (IsToldRun H.digest_of height) (O.held output.old) (O.held output.new)
         result }
     ensures fault { HasFault (I.faults input.old) (I.faults input.new)
         (O.faults output.old) (O.faults output.new) result }
     ensures silent { IsSilent (O.held output.old) (O.held output.new) result }
 {
-    match run_source::<H, R, I, S>(rt, alloc, input, strategy) {
+    match run_source::<H, Chunked, R, I, S>(rt, alloc, input, strategy) {
         Ok(ran) => write_light(rt, alloc, height, ran, output, strategy),
         Err(early) => end_early(alloc, output, early),
     }
@@ -111,13 +114,14 @@ fn write_light<H: Hasher<Digest = Digest32>, R: Threads + Sync, O: Sink, S: Stra
     rt: &R,
     alloc: Global,
     height: u64,
-    ran: Ran<H>,
+    ran: Ran<H, Chunked>,
     output: &mut O,
     strategy: &S,
-) -> Exit<Report<H>>
+) -> Exit<Report<H, Chunked>>
     requires { IsRun H.digest_of ran.script ran.report }
-    ensures answer { (text : List ℕ) (rest : Option (List ℕ)) → WasRun H.digest_of text rest ran
-        → AnswersBy H.digest_of (IsToldRun H.digest_of height) text rest
+    ensures answer { (text : List ℕ) (rest : Option (List ℕ))
+        → WasRun travel.Chunked H.digest_of text rest ran
+        → AnswersBy travel.Chunked H.digest_of (IsToldRun H.digest_of height) text rest
         (O.held output.old) (O.held output.new) result }
     ensures fault { (reads later : ℕ)
         → HasFault reads later (O.faults output.old) (O.faults output.new) result }
@@ -135,7 +139,7 @@ fn light_text<H: Hasher<Digest = Digest32>, R: Threads + Sync, S: Strategy>(
     alloc: Global,
     height: u64,
     script: &Script,
-    report: &Report<H>,
+    report: &Report<H, Chunked>,
     strategy: &S,
 ) -> Result<Vec<u8>, NoMemory>
     requires { IsRun H.digest_of script.now report.now }

@@ -9,7 +9,7 @@ ghost use Rattle.cw_rules.specs.Held as rule;
 ghost use Rattle.cw_rules.specs.Step.{Member};
 ghost use Rattle.cw_rules_coded.specs.Coded.{coded};
 ghost use Rattle.marshal.specs.Stored.{read_notes};
-ghost use Rattle.hailstorm.specs.Reports.{HoldNotes};
+ghost use Rattle.hail_world.specs.Reports.{HoldNotes};
 ghost use Rattle.run_light.specs.Finding as spec;
 
 use cw_base::{Digest32, Hasher, Items, NoMemory};

@@ -7,7 +7,7 @@ ghost use Rattle.hail_world.specs.Places.{marked, table};
 ghost use Rattle.hail_report.specs.Pool.{sent_in};
 
 use cw_types::{Message, Verifier, Vote};
-use hailstorm::{Entry, Sent};
+use hail_report::{Entry, Sent};
 
 /// The table of votes of a run: a faulty member signed all, an honest one those that it sent.
 #[derive(Drop)]

@@ -1,6 +1,6 @@
 use Rattle.std.proofs.Common.{◌≡◌, map, take}
 use Rattle.std.specs.List.{AllByRecursion}
-use Rattle.hailstorm.specs.Reports.{shown_report}
+use Rattle.hail_world.specs.Reports.{shown_report}
 use Rattle.run_ledger.specs.Giving.{payloads_of}
 use Rattle.run_ledger.specs.Ledgers.{NeverFails}
 use Rattle.run_ledger.proofs.giving.replicas_of.Given as goal

@@ -1,7 +1,8 @@
 use Rattle.std.proofs.Common.{◌≡◌, ◌∙◌, ℕ, refl, subst}
 use Rattle.std.proofs.lemmas.Option.{same_Some}
+use Rattle.cw_rules.specs.declared.travel.Travel.TheVariants as travel
 use Rattle.hail_report.specs.Exits.{HasRun}
-use Rattle.hailstorm.specs.Programs.{AnswersBy}
+use Rattle.hail_world.specs.Programs.{AnswersBy}
 use Rattle.hail_world.proofs.Framing.{usage_answers, usage_fault, usage_silent}
 use Rattle.hail_world.proofs.Answering.{no_usage}
 use Rattle.run_light.specs.Telling.{IsToldRun, usage_line}
@@ -12,7 +13,8 @@ returns-in-Some-clause-answer g c = λ text height asked left.
     let same : c.in-Some.height ≡ height =
     same_Some c.in-Some.height height (c.in-Some.ensures ∙ asked) in
     subst
-    (λ (n : ℕ). AnswersBy g.H.Hasher.digest_of (IsToldRun g.H.Hasher.digest_of n) text
+    (λ (n : ℕ). AnswersBy travel.Chunked g.H.Hasher.digest_of
+    (IsToldRun g.H.Hasher.digest_of n) text
     (g.I.Source.left c.run_input.new.input) (g.O.Sink.held c.args.output.now)
     (g.O.Sink.held c.run_input.new.output) c.run_input.result)
     same

@@ -3,7 +3,7 @@ use Rattle.std.proofs.lemmas.Result.{IfOk-weaker}
 use Rattle.cw_base.specs.declared.hash.Digest32.{Digest32}
 use Rattle.hail_script.specs.Scenario.{Scenario}
 use Rattle.hail_world.specs.Places.{rules_of}
-use Rattle.hailstorm.specs.Reports.{HoldNotes, honest}
+use Rattle.hail_world.specs.Reports.{HoldNotes, honest}
 use Rattle.run_light.specs.Telling.{TellsOf, none_line, yes_line}
 use Rattle.run_light.proofs.Telling.{answer_is, found_is, tells_none, tells_some, told_yes}
 use Rattle.run_light.proofs.program.light_text.Goals as goal

@@ -3,7 +3,7 @@ use Rattle.cw_types.specs.Block.{Block}
 use Rattle.cw_rules.specs.Accepted.{first_some}
 use Rattle.cw_rules.specs.Step.{Member, member_notes}
 use Rattle.cw_rules_coded.specs.Coded.{coded}
-use Rattle.hailstorm.specs.Reports.{HoldNotes}
+use Rattle.hail_world.specs.Reports.{HoldNotes}
 use Rattle.run_light.specs.Finding.{found_at, found_in}
 use Rattle.run_light.proofs.search.found_in.Given as goal
 
