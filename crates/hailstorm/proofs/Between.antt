@@ -23,8 +23,8 @@ use Rattle.hail_world.specs.Runs.{GoesBy, opened}
 use Rattle.hail_world.specs.Seats.{Seat}
 use Rattle.hailstorm.specs.Turns.{IsBetween, IsOver, IsTurnBy, IsTurnOf, IsTurning, Turning, between, told_order}
 use Rattle.hail_world.proofs.Known.{count_lines}
-use Rattle.hail_world.proofs.Laned.{TellsApart, count_rows, lanes_clashed, lanes_reported}
-use Rattle.hail_world.proofs.Merging.{fewer_left, left_more}
+use Rattle.hailstorm.proofs.Laned.{TellsApart, count_rows, lanes_clashed, lanes_reported}
+use Rattle.hailstorm.proofs.Merging.{fewer_left, left_more}
 
 pub rows_many : (x : Laned) (es : List EventLine) → map line_of es ≡ x.script.lines
     → length (rows x) ≡ length es
