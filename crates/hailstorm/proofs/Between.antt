@@ -15,7 +15,7 @@ use Rattle.hail_script.specs.Events.{line_of}
 use Rattle.hail_script.specs.Lanes.{Laned, laned_of, lanes, rows}
 use Rattle.hail_world.specs.declared.blocks.KnownBlocks.{KnownBlocks}
 use Rattle.hail_world.specs.declared.place.Place.{Place}
-use Rattle.hail_world.specs.declared.report.Report.{Report}
+use Rattle.hailstorm.specs.Reports.{Report}
 use Rattle.hail_world.specs.Played.{IsReportOf, lines_of}
 use Rattle.hailstorm.specs.Lanes.{IsLanesCause, IsLanesReport, lane_at, left, played, without_next}
 use Rattle.hail_world.specs.Places.{SitAs, WorkBy, rules_of}
