@@ -12,7 +12,7 @@ use Rattle.hail_script.specs.Grammar.{is_faulty_in, marks}
 use Rattle.hail_script.specs.Scenario.{Scenario}
 use Rattle.node.specs.declared.way.Chunked.{Chunked}
 use Rattle.hail_world.specs.declared.report.Report.{Report}
-use Rattle.hail_world.specs.Places.{marked, rules_of, table}
+use Rattle.hail_world.specs.Places.{rules_of, table}
 use Rattle.hail_report.specs.Pool.{sent_in}
 use Rattle.hail_world.specs.Reports.{IsRun}
 use Rattle.cw_rules.proofs.Changes.{flags_kept}

@@ -9,7 +9,7 @@ use Rattle.cw_rules.specs.World.{signed}
 use Rattle.cw_light.specs.Believing.{IsLinkAt}
 use Rattle.cw_light.specs.Checking.{answer}
 use Rattle.cw_light.specs.declared.check.Answer.TheVariants.{Yes}
-use Rattle.cw_rules_coded.specs.Coded.{coded}
+use Rattle.cw_rules_coded.specs.Coded.{coded, ruled}
 use Rattle.cw_rules.specs.declared.travel.Travel.TheVariants as travel
 use Rattle.hail_script.specs.Grammar.{marks}
 use Rattle.hail_script.specs.Scenario.{Scenario}
@@ -63,8 +63,8 @@ module _ {H : Type 0} (hash : List ℕ → Digest32) (height : ℕ) (s : Scenari
 
   -- the same, by what the program has of the committees, the marks and the entries
   module _ (committees : Epochs) (faulty : List Bool) (steps : List Entry)
-      (ec : committees ≡ s.committees) (ef : faulty ≡ marks s.lines s.committees.total)
-      (es : steps ≡ report.steps) where
+      (way : travel.Chunked ≡ s.travel) (ec : committees ≡ s.committees)
+      (ef : faulty ≡ marks s.lines s.committees.total) (es : steps ≡ report.steps) where
     sign : table faulty (sent_in steps) ≡ signed x.world
     sign = ap (λ (l : List Entry). table faulty (sent_in l)) es ∙ table_is hash s report x faulty ef
 
@@ -72,14 +72,15 @@ module _ {H : Type 0} (hash : List ℕ → Digest32) (height : ℕ) (s : Scenari
         (table faulty (sent_in steps)) height (honest x.world)
         ≡ found
     found_is =
-        λ i. found_in (coded hash (ec i) s.backlog (λ b a. true)) (sign i) height (honest x.world)
+        λ i. found_in (ruled (way i) hash (ec i) s.backlog (λ b a. true)) (sign i) height
+        (honest x.world)
 
     pub answer_is : (shown : Shown)
         → answer (coded hash committees s.backlog (λ b a. true)) (table faulty (sent_in steps))
         shown.cert shown.path
         ≡ answer (rules_of hash s) (signed x.world) shown.cert shown.path
     answer_is shown =
-        λ i. answer (coded hash (ec i) s.backlog (λ b a. true)) (sign i) shown.cert shown.path
+        λ i. answer (ruled (way i) hash (ec i) s.backlog (λ b a. true)) (sign i) shown.cert shown.path
 
 -- so for a text that was read
 pub told_run : {H : Type 0} (hash : List ℕ → Digest32) (height : ℕ) (text : List ℕ)

@@ -13,7 +13,7 @@ use crate::text::{none_text, yes_text};
 use crate::told::told_of;
 use cw_base::{Digest32, Hasher, NoMemory, Sink, Source, Strategy};
 use hail_report::{Exit, end_early, finish};
-use hail_script::{Script, number_of};
+use hail_script::{Script, number_of, script_laws};
 use hail_world::{Ran, Report, run_source};
 use node::Chunked;
 use std::alloc::Global;
@@ -103,6 +103,7 @@ fn run_input<H: Hasher<Digest = Digest32>, R: Threads + Sync, I: Source, O: Sink
         (O.faults output.old) (O.faults output.new) result }
     ensures silent { IsSilent (O.held output.old) (O.held output.new) result }
 {
+    script_laws();
     match run_source::<H, Chunked, R, I, S>(rt, alloc, input, strategy) {
         Ok(ran) => write_light(rt, alloc, height, ran, output, strategy),
         Err(early) => end_early(alloc, output, early),
@@ -118,7 +119,8 @@ fn write_light<H: Hasher<Digest = Digest32>, R: Threads + Sync, O: Sink, S: Stra
     output: &mut O,
     strategy: &S,
 ) -> Exit<Report<H, Chunked>>
-    requires { IsRun H.digest_of ran.script ran.report }
+    requires run { IsRun H.digest_of ran.script ran.report }
+    requires way { ran.script.travel ≡ travel.Chunked }
     ensures answer { (text : List ℕ) (rest : Option (List ℕ))
         → WasRun travel.Chunked H.digest_of text rest ran
         → AnswersBy travel.Chunked H.digest_of (IsToldRun H.digest_of height) text rest
@@ -142,7 +144,8 @@ fn light_text<H: Hasher<Digest = Digest32>, R: Threads + Sync, S: Strategy>(
     report: &Report<H, Chunked>,
     strategy: &S,
 ) -> Result<Vec<u8>, NoMemory>
-    requires { IsRun H.digest_of script.now report.now }
+    requires run { IsRun H.digest_of script.now report.now }
+    requires way { script.now.travel ≡ travel.Chunked }
     ensures { (run : IsRun H.digest_of script.now report.now)
         → IfOk result (λ text. TellsOf H.digest_of height script.now report.now run text.items) }
 {

@@ -21,7 +21,7 @@ returns-in-None g c = λ run.
     let found =
     sym
     (found_is hash height s report run cluster c.in_ok-committees.committees
-    c.deref.result.now c.as_slice-steps.result.now c.in_ok-committees.ensures
+    c.deref.result.now c.as_slice-steps.result.now (sym c.requires.way) c.in_ok-committees.ensures
     (c.deref.ensures.value ∙ c.in_ok-faulty.ensures) c.as_slice-steps.ensures)
     ∙ (sym (c.in_ok-found.ensures s.backlog (λ b a. true) (honest run.world) holds)
     ∙ c.in-None.is) in
@@ -35,7 +35,7 @@ told_of-requires-after_bounds g c κs within =
     let s : Scenario = c.args.script.now in
     let report = c.args.report.now in
     let height : ℕ = c.args.height in
-    let run = c.requires in
+    let run = c.requires.run in
     let cluster = c.is_cluster.ensures (rules_of hash s) refl in
     let holds =
     subst (λ (disks : List (List ℕ)). HoldNotes (honest run.world) disks)
@@ -44,8 +44,8 @@ told_of-requires-after_bounds g c κs within =
     let found =
     sym
     (found_is hash height s report run cluster c.in_ok-committees.committees
-    c.deref.result.now c.as_slice-steps.result.now c.in_ok-committees.ensures marks
-    c.as_slice-steps.ensures)
+    c.deref.result.now c.as_slice-steps.result.now (sym c.requires.way)
+    c.in_ok-committees.ensures marks c.as_slice-steps.ensures)
     ∙ (sym (c.in_ok-found.ensures s.backlog (λ b a. true) (honest run.world) holds)
     ∙ c.in-Some.is) in
     let (d, told, link) = told_yes hash height s report run cluster c.in-Some.shown found in (
@@ -54,8 +54,8 @@ told_of-requires-after_bounds g c κs within =
       height,
       d,
       answer_is hash height s report run cluster c.in_ok-committees.committees c.deref.result.now
-          c.as_slice-steps.result.now c.in_ok-committees.ensures marks c.as_slice-steps.ensures
-          c.in-Some.shown
+          c.as_slice-steps.result.now (sym c.requires.way) c.in_ok-committees.ensures marks
+          c.as_slice-steps.ensures c.in-Some.shown
           ∙ told,
     )
 
@@ -73,14 +73,14 @@ returns g c = λ run.
     let found =
     sym
     (found_is hash height s report run cluster c.in_ok-committees.committees
-    c.deref.result.now c.as_slice-steps.result.now c.in_ok-committees.ensures marks
-    c.as_slice-steps.ensures)
+    c.deref.result.now c.as_slice-steps.result.now (sym c.requires.way)
+    c.in_ok-committees.ensures marks c.as_slice-steps.ensures)
     ∙ (sym (c.in_ok-found.ensures s.backlog (λ b a. true) (honest run.world) holds)
     ∙ c.in-Some.is) in
     let same =
     answer_is hash height s report run cluster c.in_ok-committees.committees c.deref.result.now
-    c.as_slice-steps.result.now c.in_ok-committees.ensures marks c.as_slice-steps.ensures
-    c.in-Some.shown in
+    c.as_slice-steps.result.now (sym c.requires.way) c.in_ok-committees.ensures marks
+    c.as_slice-steps.ensures c.in-Some.shown in
     IfOk-weaker c.yes_text.result
     (λ text. text.items ≡ yes_line c.in_ok-told-in-Some.told.0 c.in_ok-told-in-Some.told.1)
     (λ text. TellsOf hash height s report run text.items)

@@ -9,6 +9,11 @@ returns-in-Ok-clause-answer g c =
     λ text left. c.write_light.ensures.answer text (g.I.Source.left c.run_source.new.input)
     (c.in-Ok.ensures.ok text left)
 
+pub write_light-requires-clause-way : goal.write_light-requires-clause-way
+write_light-requires-clause-way g c κs within =
+    let (text, read) = c.in-Ok.ensures.read in
+    c.script_laws.ensures.travels Chunked text c.in-Ok.ran.script read.spells
+
 pub returns-in-Ok-clause-fault : goal.returns-in-Ok-clause-fault
 returns-in-Ok-clause-fault g c =
     c.write_light.ensures.fault (g.I.Source.faults c.args.input.now)
