@@ -4,7 +4,7 @@ use super::play::{first_changed, first_wrong, found_after};
 use super::scenes::{whole_as_genesis, whole_blocks};
 use cw_base::{Sequential, SumHasher};
 use cw_types::{AcceptAll, StepOut, genesis_commitment};
-use node_disk::{Disk, MemoryDisk};
+use node_disk::MemoryDisk;
 use std::alloc::Global;
 use std::test::Fail;
 use std::thread::Threads;
@@ -130,8 +130,9 @@ fn no_block_is_shown_as_genesis(rt: HostRuntime) -> Result<(), Fail> {
 }
 
 // The epoch, the view and the notes of a member that started, and how much it hands out and sends.
-fn numbers<D: Disk>(
-    (node, out): (WholeNode<SumHasher, D, AcceptAll>, StepOut),
+fn numbers(
+    node: &WholeNode<SumHasher, MemoryDisk, AcceptAll>,
+    out: &StepOut,
 ) -> (u64, u64, usize, usize, usize) {
     let notes = node.notes().len();
     (
@@ -150,7 +151,12 @@ fn numbers_at_start<R: Threads + Sync>(
 ) -> Result<(u64, u64, usize, usize, usize), Fail> {
     let disk = MemoryDisk::new(alloc, Vec::new(alloc));
     match start_whole(rt, alloc, 1, 4, 3, disk, AcceptAll, &Sequential) {
-        Ok(started) => Ok(numbers(started)),
+        Ok((node, out)) => {
+            let numbers = numbers(&node, &out);
+            drop(node);
+            drop(out);
+            Ok(numbers)
+        }
         Err((_, error)) => Err(Fail::from(error)),
     }
 }
