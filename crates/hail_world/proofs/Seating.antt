@@ -34,7 +34,7 @@ started travel hash id epochs backlog app frames disk new out way is starts work
     let by : rules_by hash new ≡ ruled travel hash epochs backlog (λ b a. true) =
     rw (way, is.committees, is.pending) refl in
     let all : stepped new.member out ≡ start (ruled travel hash epochs backlog (λ b a. true)) id
-        frames =
+    frames =
     starts ∙ ap (λ (r : Rules). start r id new.member.frames) by
     ∙ ap (λ (f : List (List Note)). start (ruled travel hash epochs backlog (λ b a. true)) id f)
     same in
