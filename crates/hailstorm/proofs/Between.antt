@@ -15,7 +15,7 @@ use Rattle.hail_script.specs.Events.{line_of}
 use Rattle.hail_script.specs.Lanes.{Laned, laned_of, lanes, rows}
 use Rattle.hail_world.specs.declared.blocks.KnownBlocks.{KnownBlocks}
 use Rattle.hail_world.specs.declared.place.Place.{Place}
-use Rattle.hail_world.specs.declared.report.Report.{Report}
+use Rattle.hailstorm.specs.Reports.{Report}
 use Rattle.hail_world.specs.Played.{IsReportOf, lines_of}
 use Rattle.hailstorm.specs.Lanes.{IsLanesCause, IsLanesReport, lane_at, left, played, without_next}
 use Rattle.hail_world.specs.Places.{SitAs, WorkBy, rules_of}
@@ -23,8 +23,8 @@ use Rattle.hail_world.specs.Runs.{GoesBy, opened}
 use Rattle.hail_world.specs.Seats.{Seat}
 use Rattle.hailstorm.specs.Turns.{IsBetween, IsOver, IsTurnBy, IsTurnOf, IsTurning, Turning, between, told_order}
 use Rattle.hail_world.proofs.Known.{count_lines}
-use Rattle.hail_world.proofs.Laned.{TellsApart, count_rows, lanes_clashed, lanes_reported}
-use Rattle.hail_world.proofs.Merging.{fewer_left, left_more}
+use Rattle.hailstorm.proofs.Laned.{TellsApart, count_rows, lanes_clashed, lanes_reported}
+use Rattle.hailstorm.proofs.Merging.{fewer_left, left_more}
 
 pub rows_many : (x : Laned) (es : List EventLine) → map line_of es ≡ x.script.lines
     → length (rows x) ≡ length es

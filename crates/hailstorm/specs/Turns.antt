@@ -1,26 +1,19 @@
 -- A cluster whose lanes have turns.
-use Rattle.std.specs.Prelude.{[], ℕ, ◌++◌, ◌+◌, ◌∷◌, ◌≡◌, ◌⊎◌, ◌≤◌, Bool, Err, List, None, Ok, Option, Result, Some, drop, filter_map, flat_map, is_none, length, map, take}
-use Rattle.std.specs.List.{enumerate_from}
+use Rattle.std.specs.Prelude.{[], ℕ, ◌++◌, ◌+◌, ◌∷◌, ◌≡◌, ◌⊎◌, ◌≤◌, Bool, Err, List, None, Ok, Option, Result, Some, drop, length, map, take}
 use Rattle.cw_base.specs.declared.hash.Digest32.{Digest32}
 use Rattle.cw_rules.specs.Chains.{Clashes, Ends, outcome}
-use Rattle.cw_rules.specs.Reached.{IsCluster}
-use Rattle.cw_rules.specs.Report.{Entry, acked_at, entry_of, highest, opening_entries}
-use Rattle.cw_rules.specs.Rules.{Rules}
-use Rattle.cw_rules.specs.World.{Line, World, happens, opening, run}
+use Rattle.cw_rules.specs.Report.{Entry, entry_of, opening_entries}
+use Rattle.cw_rules.specs.World.{Line, run}
 use Rattle.hail_script.specs.declared.error.RunError.{RunError}
 use Rattle.hail_script.specs.declared.error.RunError.TheVariants as error
 use Rattle.hail_script.specs.Lanes.{Laned, lanes, rows}
 use Rattle.hail_world.specs.declared.blocks.KnownBlocks.{KnownBlocks}
 use Rattle.hail_world.specs.declared.place.Place.{Place}
-use Rattle.hail_world.specs.declared.report.Report.{Report}
-use Rattle.hail_world.specs.Known.{Knows}
-use Rattle.hail_world.specs.Played.{lines_of}
-use Rattle.hailstorm.specs.Lanes.{but_last, lane_at, left, played, turns_of}
-use Rattle.hail_world.specs.Places.{SitAs, WorkBy, rules_of}
-use Rattle.hail_report.specs.Pool.{sent_in}
-use Rattle.hail_world.specs.Reports.{AreNodesOf, HoldNotes, honest, honest_at}
-use Rattle.hail_world.specs.Runs.{chain_from, opened}
+use Rattle.hail_world.specs.Places.{WorkBy, rules_of}
+use Rattle.hail_world.specs.Played.{HavePlayed, lines_of}
+use Rattle.hail_world.specs.Runs.{opened}
 use Rattle.hail_world.specs.Seats.{Seat}
+use Rattle.hailstorm.specs.Lanes.{but_last, lane_at, left, played, turns_of}
 
 -- ---- a cluster between two turns
 

@@ -10,26 +10,30 @@ ghost use Rattle.node.specs.State.{IsAtWork, IsNodeOf, rules_of, stepped};
 
 use cw_base::{Digest32, Hasher, NoMemory, Strategy};
 use cw_types::{Application, Committees, StepOut};
+pub use node::whole_commit;
 use node::{Member, NodeError, Uncut};
 use node_disk::{Disk, StoreError};
 use std::alloc::Global;
 use std::thread::Threads;
 
-pub use node::whole_commit;
-
 /// A member of a cluster in which blocks travel whole: a block goes to all in one message, is named
-/// by [`whole_commit`], and is voted for where it was shown or is held. In all else it is a
-/// [`Node`](node::Node), with the same calls. [`start_whole`] starts it among the members of one
-/// epoch; its own start asks for no such committees, and keeps its contract over any.
+/// by [`whole_commit`], and is voted for where it came or is held. In all else it is a
+/// [`Node`](node::Node), and has the same calls with the same contracts and refusals: `start`,
+/// `step`, `marshal`, `view`, `epoch`, `into_disk`.
+///
+/// [`start_whole`] starts it among the members of one epoch. Its own `start` asks for no such
+/// committees: what it promises holds over any, by the rules of epochs.
 ///
 /// ```text
-/// let (mut member, out) = start_whole::<Sha256, _, _, _, _>(&rt, alloc, 1, 4, 3, disk, app, &Sequential)?;
+/// let started = start_whole(&rt, alloc, 1, 4, 3, disk, app, &Sequential);
+/// let (mut member, out) = started.map_err(|(_disk, error)| error)?;
 /// let out = member.step(&rt, alloc, &event, &verifier, &Sequential)?;
 /// ```
 pub type WholeNode<H, D, A> = Member<H, D, A, Uncut>;
 
-/// Starts member `id` of `n` on a disk, in one epoch without end, as [`Member::start`] does, and
-/// refuses as it does: it hands the disk back, `Foreign` where its bytes aren't frames of notes,
+/// Starts member `id` of the members 0 to `n - 1` on a disk, in one epoch without end
+/// ([`Committees::single`]). At most `backlog` blocks wait for their acknowledgement. Refused, as
+/// [`Member::start`] is, it hands the disk back: `Foreign` where its bytes aren't frames of notes,
 /// `Disk` where the disk failed, else for want of memory.
 pub fn start_whole<
     H: Hasher<Digest = Digest32>,
@@ -73,8 +77,8 @@ pub fn start_whole<
     WholeNode::<H, D, A>::start(rt, alloc, id, committees, backlog, disk, app, strategy)
 }
 
-/// A law, of every member to which blocks come whole: the rules that its steps go by are those of
-/// blocks that travel whole.
+/// A law, which takes no work: the rules by which contracts say what a whole member does are those
+/// of blocks that travel whole, whatever its committees.
 pub fn goes_by_uncut<H: Hasher<Digest = Digest32>, D: Disk, A: Application + Drop>(
     node: &WholeNode<H, D, A>,
 )

@@ -101,7 +101,11 @@ fn own_event(call: Call) -> Result<NodeCall, Fail> {
 }
 
 /// The event that the member takes.
-pub(crate) fn event_of<W: Way>(alloc: Global, scene: &Scene<W>, call: NodeCall) -> Result<Event, Fail> {
+pub(crate) fn event_of<W: Way>(
+    alloc: Global,
+    scene: &Scene<W>,
+    call: NodeCall,
+) -> Result<Event, Fail> {
     match call {
         NodeCall::Propose(place) => {
             let payload = scene.block(place)?.block.payload().copy(alloc)?;
@@ -149,11 +153,21 @@ fn message_of<W: Way>(alloc: Global, scene: &Scene<W>, call: NodeCall) -> Result
     }
 }
 
-fn finalization<W: Way>(alloc: Global, scene: &Scene<W>, place: usize, view: u64) -> Result<Cert, Fail> {
+fn finalization<W: Way>(
+    alloc: Global,
+    scene: &Scene<W>,
+    place: usize,
+    view: u64,
+) -> Result<Cert, Fail> {
     certificate(alloc, Vote::Finalize(scene.proposal(place, view)?))
 }
 
-fn shard<W: Way>(alloc: Global, scene: &Scene<W>, place: usize, index: usize) -> Result<Message, Fail> {
+fn shard<W: Way>(
+    alloc: Global,
+    scene: &Scene<W>,
+    place: usize,
+    index: usize,
+) -> Result<Message, Fail> {
     let made = scene.block(place)?;
     match made.chunks.get(index) {
         Some(chunk) => Ok(Message::Shard(made.cut, chunk.copy(alloc)?)),

@@ -9,7 +9,11 @@ use std::alloc::Global;
 use std::test::Fail;
 
 /// The text of what a step gives. Blocks are named by their places in a list.
-pub(crate) fn text_of<W: Way>(alloc: Global, scene: &Scene<W>, out: &StepOut) -> Result<String, Fail> {
+pub(crate) fn text_of<W: Way>(
+    alloc: Global,
+    scene: &Scene<W>,
+    out: &StepOut,
+) -> Result<String, Fail> {
     let text = with_sent(alloc, scene, out.sent.as_slice())?;
     let text = with_handed(alloc, scene, text, out.handed.as_slice())?;
     with_tickets(alloc, scene, text, out.tickets.as_slice())
@@ -65,7 +69,11 @@ fn handed_text<W: Way>(alloc: Global, scene: &Scene<W>, handed: &Handed) -> Resu
     Ok(format!(in alloc; "hand {place}")?)
 }
 
-fn ticket_text<W: Way>(alloc: Global, scene: &Scene<W>, ticket: &TicketOut) -> Result<String, Fail> {
+fn ticket_text<W: Way>(
+    alloc: Global,
+    scene: &Scene<W>,
+    ticket: &TicketOut,
+) -> Result<String, Fail> {
     let number = ticket.number;
     match ticket.commitment {
         None => Ok(format!(in alloc; "ticket {number}")?),
@@ -84,7 +92,11 @@ fn sent_text<W: Way>(alloc: Global, scene: &Scene<W>, out: &Out) -> Result<Strin
     }
 }
 
-fn message_text<W: Way>(alloc: Global, scene: &Scene<W>, message: &Message) -> Result<String, Fail> {
+fn message_text<W: Way>(
+    alloc: Global,
+    scene: &Scene<W>,
+    message: &Message,
+) -> Result<String, Fail> {
     match message {
         Message::Shard(commitment, chunk) => shard_text(alloc, scene, commitment, chunk),
         Message::Vote(signer, vote) => {
@@ -136,7 +148,11 @@ fn vote_text<W: Way>(alloc: Global, scene: &Scene<W>, vote: &Vote) -> Result<Str
 }
 
 // The block, the epoch and the view, and the view that it stands over.
-fn proposal_text<W: Way>(alloc: Global, scene: &Scene<W>, proposal: &Proposal) -> Result<String, Fail> {
+fn proposal_text<W: Way>(
+    alloc: Global,
+    scene: &Scene<W>,
+    proposal: &Proposal,
+) -> Result<String, Fail> {
     let place = scene.named(&proposal.payload)?;
     let Proposal {
         epoch,

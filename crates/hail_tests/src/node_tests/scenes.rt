@@ -17,8 +17,8 @@ pub(crate) fn whole_blocks<R: Threads + Sync>(rt: &R, alloc: Global) -> Result<S
     of_two_blocks(rt, alloc, Committees::single(alloc, 4)?, (0, 2, 2))
 }
 
-/// The same members, and a whole block of view 62 which has the commitment of the first block, since
-/// under this hash their bytes add up alike.
+/// The same members, and a whole block of view 62 which has the commitment of the first block,
+/// since under this hash their bytes add up alike.
 pub(crate) fn whole_as_genesis<R: Threads + Sync>(
     rt: &R,
     alloc: Global,
@@ -40,10 +40,7 @@ pub(crate) fn short_epochs<R: Threads + Sync>(
 
 /// Epochs of one height each, the first of members 0 to 3, the others of members 1 to 4, and a
 /// block of each of the first two. Member 2 leads the first view of the second.
-pub(crate) fn two_epochs<R: Threads + Sync>(
-    rt: &R,
-    alloc: Global,
-) -> Result<Scene<Chunked>, Fail> {
+pub(crate) fn two_epochs<R: Threads + Sync>(rt: &R, alloc: Global) -> Result<Scene<Chunked>, Fail> {
     let mut lists = Vec::new(alloc);
     lists.push([0u16, 1, 2, 3].to_vec(alloc)?)?;
     lists.push([1u16, 2, 3, 4].to_vec(alloc)?)?;

@@ -122,7 +122,10 @@ fn no_block_is_shown_as_genesis(rt: HostRuntime) -> Result<(), Fail> {
     let alloc = rt.alloc();
     let scene = whole_as_genesis(&rt, alloc)?;
     assert!(rt; scene.block(1)?.commitment == genesis_commitment::<SumHasher>());
-    assert_eq!(rt; first_wrong(&rt, alloc, &scene, 0, ("", 0), AS_GENESIS)?, None);
+    assert_eq!(rt;
+        first_wrong(&rt, alloc, &scene, 0, ("", 0), AS_GENESIS)?,
+        None
+    );
     Ok(())
 }
 
@@ -131,7 +134,13 @@ fn numbers<D: Disk>(
     (node, out): (WholeNode<SumHasher, D, AcceptAll>, StepOut),
 ) -> (u64, u64, usize, usize, usize) {
     let notes = node.notes().len();
-    (node.epoch(), node.view(), notes, out.handed.len(), out.sent.len())
+    (
+        node.epoch(),
+        node.view(),
+        notes,
+        out.handed.len(),
+        out.sent.len(),
+    )
 }
 
 // The same of member 1 of four, which starts on an empty disk.

@@ -25,7 +25,7 @@ returns-in-Ok-clause-ok g c = λ text spells.
     ends_reported hash i.script i.order i.stopped i.opening i.cursors.items i.pool i.places.items
     i.known i.faulty.items c.self.invariant text c.in-Ok.report
     (subst (λ (t : Turning). laned_of text ≡ Ok t.laned) (sym c.self.view_is) spells) c.in-None.is
-    nothing c.in-Ok.ensures
+    nothing (rw c.into_entries.ensures at c.in-Ok.ensures)
     ((rw c.script.ensures at c.is_cluster.ensures) (rules_of hash i.script.script) refl)
     (omega (arith, backlog, c.backlog-backlog.ensures.bound)) c.report_laws.ensures
 
