@@ -176,9 +176,10 @@ module _ (P : Line → Type 0) where
   all_merged lanes [] p = (tt, p)
   all_merged lanes (k ∷ order) p =
       let next = all_next lanes k p in
-      let more = all_merged (without_next lanes k) order next.1 in
-      (all_joined (take 1 (lane_at lanes k)) (merged (without_next lanes k) order) next.0 more.0,
-      more.1)
+      let more = all_merged (without_next lanes k) order next.1 in (
+        all_joined (take 1 (lane_at lanes k)) (merged (without_next lanes k) order) next.0 more.0,
+        more.1,
+      )
 
   all_rows : (a : List (ℕ × Line)) → AllByRecursion P (lines_of a) → AllByRecursion Holds a
   all_rows [] p = tt

@@ -15,8 +15,11 @@ returns-in-Err-open-clause-err g c =
     let x = c.in-Ok.script in
     let s = x.script in
     let few : s.committees.total ≤ 65535 =
-    omega (arith, few_members s (subst IsRunnable c.script-2.ensures
-    c.lines-lines.ensures.runnable)) in
+    omega (
+      arith,
+      few_members s (subst IsRunnable c.script-2.ensures
+          c.lines-lines.ensures.runnable),
+    ) in
     opening_clashed hash c.args.text.now x c.in-Err-open.error
     c.in-Ok.ensures.ok c.in-Err-open.ensures.err c.clash_laws.ensures.blocks
     (tells_apart hash x (c.ruled_tells.ensures s.travel s.committees s.backlog (λ b a. true) few)

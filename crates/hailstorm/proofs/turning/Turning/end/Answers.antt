@@ -36,8 +36,11 @@ returns-clause-err g c = λ text spells.
     let s = i.script.script in
     let laned = subst (λ (t : Turning). laned_of text ≡ Ok t.laned) (sym c.self.view_is) spells in
     let few : s.committees.total ≤ 65535 =
-    omega (arith, few_members s (subst IsRunnable c.script-3.ensures
-    c.lines-lines.ensures.runnable)) in
+    omega (
+      arith,
+      few_members s (subst IsRunnable c.script-3.ensures
+          c.lines-lines.ensures.runnable),
+    ) in
     rw c.order_beside.ensures
     (over_cause hash text i.script i.order c.in-Some.error laned
     (over_of hash i.script i.order i.stopped i.opening i.cursors.items i.pool i.places.items

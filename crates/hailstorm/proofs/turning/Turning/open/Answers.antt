@@ -65,7 +65,7 @@ invariant_of-result g c =
     ∙ ap (λ (s : Scenario). s.committees.total) c.script-plain.ensures in (
       rw c.script-plain.ensures at c.in_ok-opening.ensures.opening,
       same_between hash x [] c.new-2.result c.in_ok-before.cursors.items
-      c.in_ok-before.cursors.items
+          c.in_ok-before.cursors.items
           c.in-Ok.pool new _ c.play_before.new.known c.deref-2.result.now
           c.in_ok-faulty.faulty.items
           (sym c.new-2.ensures) refl (sym back) c.deref-2.ensures.value
