@@ -54,15 +54,15 @@ notes: 0
 block 1: all vote 0 notarize 1 in 0/1 over 0
 notes: 2";
 
-// The block came, but not its proposal by the leader of the view: members 0 and 2 aren't that, and
-// view 2 isn't the member's.
+// The blocks came. Member 2 doesn't lead view 1, and view 2, which it leads, isn't the member's until
+// view 1 is over.
 const UNASKED: &str = "block 1:
 block 2:
 notarize 2 2 2:
 notarize 2 1 1:
 notes: 2
 notarize 1 1 1: all vote 0 notarize 1 in 0/1 over 0; all cert notarize 1 in 0/1 over 0 by \
-    [0, 1, 2]; all vote 0 finalize 1 in 0/1 over 0";
+    [0, 1, 2]; all vote 0 notarize 2 in 0/2 over 1; all vote 0 finalize 1 in 0/1 over 0";
 
 #[test]
 fn a_block_that_was_never_seen_gets_no_vote(rt: HostRuntime) -> Result<(), Fail> {
