@@ -54,8 +54,8 @@ notes: 0
 block 1: all vote 0 notarize 1 in 0/1 over 0
 notes: 2";
 
-// The blocks came. Member 2 doesn't lead view 1, and view 2, which it leads, isn't the member's until
-// view 1 is over.
+// The blocks came. Member 2 doesn't lead view 1, and view 2, which it leads, isn't the member's
+// until view 1 is over.
 const UNASKED: &str = "block 1:
 block 2:
 notarize 2 2 2:
