@@ -1,10 +1,11 @@
 pub mod Agreeing
 pub mod BestParent
+pub mod BlockHeights
 pub mod Candidates
 pub mod Certified
 pub mod FirstCerts
 pub mod Formed
-pub mod Heights
+pub mod HeldHeights
 pub mod InSets
 pub mod Kept
 pub mod Keys

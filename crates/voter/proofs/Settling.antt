@@ -15,8 +15,8 @@ use Rattle.cw_types.specs.declared.vote.Proposal.{Proposal}
 use Rattle.cw_types.specs.declared.vote.Vote.{Vote}
 use Rattle.cw_types.specs.declared.vote.Vote.TheVariants.{Finalize, Notarize, Nullify}
 use Rattle.cw_rules.specs.Accepted.{first_some}
-use Rattle.cw_rules.specs.Notes.{ended, ended_by, ends_in, entered, entry, epoch_of, greatest, settler, settling}
-use Rattle.voter.specs.Facts.{HasEnded, HasSettled, IsEndThere, ended_at, ending, ending_vote, entered_with, greatest_ended, settled_at, settled_by, settles}
+use Rattle.cw_rules.specs.Notes.{ended, ended_by, ends_in, entry, greatest, settler, settling}
+use Rattle.voter.specs.Facts.{HasEnded, HasSettled, IsEndThere, ended_at, ending, ending_vote, greatest_ended, settled_at, settled_by, settles}
 use Rattle.voter.specs.Keys.{in_view, same_key}
 use Rattle.voter.specs.declared.key.VoteKey.{VoteKey}
 use Rattle.voter.proofs.Saying.{PutFirst, first_put, same_view, some_there}
@@ -30,7 +30,7 @@ or_more : {X : Type 0} (x y z : Option X)
 or_more None y z = refl
 or_more (Some v) y z = refl
 
-first_more : {X Y : Type 0} (f : X → Option Y) (xs : List X) (x : X)
+pub first_more : {X Y : Type 0} (f : X → Option Y) (xs : List X) (x : X)
     → first_some f (xs ++ x ∷ []) ≡ option_or (first_some f xs) (f x)
 first_more f [] x = or_none (f x)
 first_more f (y ∷ ys) x =
@@ -302,20 +302,23 @@ ended_same es notes note has none q =
     ap (λ (o : Option ℕ). greatest (cons_option o [])) is in
     has q ∙ omega arith
 
--- ---- the epoch
+-- ---- the epoch, and what is let go
 
-pub epoch_more : (epoch now : ℕ) (notes : List Note) (note : Note) → epoch ≡ epoch_of notes
-    → now ≡ entered_with epoch note → now ≡ epoch_of (notes ++ note ∷ [])
-epoch_more epoch now notes note is e =
+-- the greatest number that notes have, with one note more
+pub greatest_with : (has : Note → Option ℕ) (top now : ℕ) (notes : List Note) (note : Note)
+    → top ≡ greatest (filter_map has notes)
+    → now ≡ option_map_or (λ x. max top x) (has note) top
+    → now ≡ greatest (filter_map has (notes ++ note ∷ []))
+greatest_with has top now notes note is e =
     e
-    ∙ (by (entered note)
-    ∙ (ap (λ (n : ℕ). max n (greatest (cons_option (entered note) []))) is
+    ∙ (by (has note)
+    ∙ (ap (λ (n : ℕ). max n (greatest (cons_option (has note) []))) is
     ∙ sym
-    (ap greatest (filter_map-append entered notes (note ∷ []))
-    ∙ greatest_more (filter_map entered notes) (cons_option (entered note) []))))
+    (ap greatest (filter_map-append has notes (note ∷ []))
+    ∙ greatest_more (filter_map has notes) (cons_option (has note) []))))
   where
     by : (o : Option ℕ)
-        → option_map_or (λ x. max epoch x) o epoch ≡ max epoch (greatest (cons_option o []))
+        → option_map_or (λ x. max top x) o top ≡ max top (greatest (cons_option o []))
     by None = omega arith
     by (Some x) = omega arith
 

@@ -10,8 +10,11 @@ use Rattle.cw_types.specs.declared.vote.Proposal.{Proposal}
 use Rattle.cw_types.specs.declared.vote.Vote.{Vote}
 use Rattle.cw_types.specs.declared.vote.Vote.TheVariants.{Finalize, Notarize, Nullify}
 use Rattle.cw_rules.specs.Accepted.{first_some}
+use Rattle.cw_rules.specs.Held.{greatest_prune}
 use Rattle.cw_rules.specs.Notes.{ended, entered, epoch_of, greatest}
+use Rattle.voter.specs.Heights.{HasBlockHeights, IsBlockThere}
 use Rattle.voter.specs.Keys.{in_view, key_of, keyed, same_key}
+use Rattle.voter.specs.declared.facts.Facts.{Facts}
 use Rattle.voter.specs.declared.key.VoteKey.{VoteKey}
 
 -- what a vote of the member's own says of its view: that it voted there, or that it closed it
@@ -104,10 +107,17 @@ entered_with epoch note = option_map_or (λ e. max epoch e) (entered note) epoch
 
 -- ---- together
 
--- the maps say what the notes say
-pub record HaveFacts (notes : List Note) (said : List (VoteKey × Bool))
-    (settled : List (VoteKey × Commitment)) (ended : List (ℕ × ℕ)) (epoch : ℕ) : Type 0 where
-  pub saying : HasSaid notes said
-  pub settling : HasSettled notes settled
-  pub ending_views : HasEnded notes ended
-  pub entering : epoch ≡ epoch_of notes
+-- the maps and the numbers say what the notes say
+pub record HaveFacts (notes : List Note) (facts : Facts) : Type 0 where
+  pub saying : HasSaid notes facts.said.by_key.entries
+  pub settling : HasSettled notes facts.settled.by_key.entries
+  pub ending_views : HasEnded notes facts.ended.by_epoch.entries
+  pub entering : facts.epoch ≡ epoch_of notes
+  pub standing : HasBlockHeights notes facts.heights.above.entries
+  pub pruning : facts.prune ≡ greatest_prune notes
+
+-- the maps have the keys of what a note says
+pub record AreThere (note : Note) (facts : Facts) : Type 0 where
+  pub said : IsThere note facts.said.by_key.entries
+  pub ended : IsEndThere note facts.ended.by_epoch.entries
+  pub standing : IsBlockThere note facts.heights.above.entries

@@ -23,6 +23,7 @@ use Rattle.voter.specs.Known.{Known, is_own_at}
 use Rattle.voter.specs.Own.{HasOwn}
 use Rattle.voter.specs.Signing.{HaveSigners}
 use Rattle.voter.specs.Waiting.{AreWaiting}
+use Rattle.voter.specs.declared.facts.Facts.{Facts}
 use Rattle.voter.specs.declared.key.VoteKey.{VoteKey}
 use Rattle.voter.specs.declared.own.OwnChunk.{OwnChunk}
 
@@ -54,16 +55,15 @@ is_signed x (Many s) = are_signers x s.vote s.signers
 -- what a tally holds may be counted, its sets are those of the signers, its maps say what the notes
 -- say, and its lists have what isn't done
 pub record IsTally (epochs : Epochs) (id : ℕ) (notes : List Note) (ballots : List Ballot)
-    (came known : List (VoteKey × BTreeSet ℕ)) (said : List (VoteKey × Bool))
-    (settled : List (VoteKey × Commitment)) (ended : List (ℕ × ℕ)) (epoch : ℕ)
-    (first : List (VoteKey × ℕ)) (own : List OwnChunk) (own_keys : List (VoteKey × Bool))
+    (came known : List (VoteKey × BTreeSet ℕ)) (said : Facts) (first : List (VoteKey × ℕ))
+    (own : List OwnChunk) (own_keys : List (VoteKey × Bool))
     (votes_came votes_noted : List Vote) (proposals_came proposals_noted : List Proposal)
     : Type 0 where
   pub countable : IsTrue (list_all is_countable notes)
   pub formed : IsTrue (list_all is_formed ballots)
   pub signed : IsTrue (list_all (is_signed epochs) ballots)
   pub signers : HaveSigners epochs id notes ballots came known
-  pub facts : HaveFacts notes said settled ended epoch
+  pub facts : HaveFacts notes said
   pub places : HasFirst ballots first
   pub owned : HasOwn own own_keys
   pub waiting : AreWaiting epochs id notes ballots votes_came votes_noted proposals_came

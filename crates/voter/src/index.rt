@@ -36,9 +36,7 @@ impl Index {
     pub(crate) fn new(alloc: Global) -> Index
         ensures signers { (x : Epochs) (id : ℕ) → HaveSigners x id [] []
             result.came.by_vote.entries result.known.by_vote.entries }
-        ensures facts { HaveFacts [] result.facts.said.by_key.entries
-            result.facts.settled.by_key.entries result.facts.ended.by_epoch.entries
-            result.facts.epoch }
+        ensures facts { HaveFacts [] result.facts }
         ensures certs { HasFirst [] result.certs.first.entries }
         ensures own { HasOwn [] result.own.by_key.entries }
     {
@@ -105,21 +103,11 @@ impl Index {
             self.old.known.by_vote.entries
             → OnErr result (HaveSigners x id notes ballots self.new.came.by_vote.entries
             self.new.known.by_vote.entries) }
-        ensures facts { (x : Epochs) (notes : List NoteValue)
-            → HaveFacts notes self.old.facts.said.by_key.entries
-            self.old.facts.settled.by_key.entries self.old.facts.ended.by_epoch.entries
-            self.old.facts.epoch
+        ensures facts { (x : Epochs) (notes : List NoteValue) → HaveFacts notes self.old.facts
             → option_map (λ vote. vote.now) counted.entry ≡ counted_vote x id note.now
-            → OnOk result (HaveFacts (notes ++ note.now ∷ []) self.new.facts.said.by_key.entries
-            self.new.facts.settled.by_key.entries self.new.facts.ended.by_epoch.entries
-            self.new.facts.epoch) }
-        ensures refused { (notes : List NoteValue)
-            → HaveFacts notes self.old.facts.said.by_key.entries
-            self.old.facts.settled.by_key.entries self.old.facts.ended.by_epoch.entries
-            self.old.facts.epoch
-            → OnErr result (HaveFacts notes self.new.facts.said.by_key.entries
-            self.new.facts.settled.by_key.entries self.new.facts.ended.by_epoch.entries
-            self.new.facts.epoch) }
+            → OnOk result (HaveFacts (notes ++ note.now ∷ []) self.new.facts) }
+        ensures refused { (notes : List NoteValue) → HaveFacts notes self.old.facts
+            → OnErr result (HaveFacts notes self.new.facts) }
         ensures certs { self.new.certs ≡ self.old.certs }
         ensures own { self.new.own ≡ self.old.own }
     {

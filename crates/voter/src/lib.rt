@@ -2,10 +2,9 @@
 //!
 //! Each call is a function of what the tally was told. `tally_stands` and `parent_stands` say how
 //! its answers are those of the cluster rules. Who signed a vote, which certificates and chunks
-//! came and what notes say of votes, proposals, views and epochs are looked up by key. What is owed
-//! is searched for among the votes without a noted certificate and the proposals that aren't done
-//! alone. So a call costs the same however much came, was noted and is done. Only for a proposal
-//! that is the last block of its epoch again are the notes searched.
+//! came and what notes say of votes, proposals, views, epochs and heights are looked up by key.
+//! What is owed is searched for among the votes without a noted certificate and the proposals that
+//! aren't done alone. So a call costs the same however much came, was noted and is done.
 #![tactic(auto)]
 
 mod ballot;
@@ -13,6 +12,7 @@ mod cert_places;
 mod certs;
 mod ended;
 mod facts;
+mod heights;
 mod index;
 mod key;
 mod laws;

@@ -28,9 +28,9 @@ impl<H> Tally<H> {
         self.nth_uncertified(index)
     }
 
-    /// The proposal at this place, counted from 0, among those of the leader of the member's view in
-    /// which it hasn't voted, where each view between their parent's and their own is nullified: a
-    /// vote for one of these asks no more than its payload. Each once, in the order in which what
+    /// The proposal at this place, counted from 0, among those of the leader of the member's view
+    /// in which it hasn't voted, where each view between their parent's and their own is nullified:
+    /// a vote for one of these asks no more than its payload. Each once, in the order in which what
     /// came and then the notes first name them. None past the last. A vote to notarize each can be
     /// noted. Takes no memory.
     pub fn votable(&self, index: usize) -> Option<Proposal>

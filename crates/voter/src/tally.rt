@@ -65,8 +65,7 @@ impl<H> Model for Tally<H> {
 
     ghost invariant = { λ t. IsTally t.committees t.id t.notes t.ballots
         t.index.came.by_vote.entries t.index.known.by_vote.entries
-        t.index.facts.said.by_key.entries t.index.facts.settled.by_key.entries
-        t.index.facts.ended.by_epoch.entries t.index.facts.epoch t.index.certs.first.entries
+        t.index.facts t.index.certs.first.entries
         t.own t.index.own.by_key.entries
         t.waiting.votes_came.items t.waiting.votes_noted.items t.waiting.came.items
         t.waiting.noted.items };

@@ -1,13 +1,11 @@
 //! The vote that a member owes.
 
-ghost use Rattle.std.specs.Prelude.{◌≡◌, ◌==◌, ◌&&◌, ◌<◌, ◌-◌, ◌^◌, IfSome, IsTrue, None, Some};
-ghost use Rattle.std.specs.Prelude.{false, find, if◌then◌else◌, nat_lt, not, option_and_then};
-ghost use Rattle.std.specs.Prelude.{option_map};
+ghost use Rattle.std.specs.Prelude.{◌≡◌, ◌==◌, ◌&&◌, ◌<◌, ◌-◌, ◌^◌, IfSome, IsTrue};
+ghost use Rattle.std.specs.Prelude.{false, find, not, option_map};
 ghost use Rattle.std.specs.List.{list_any};
 ghost use Rattle.std.specs.Option.{option_map_or};
 ghost use Rattle.cw_base.specs.Config.{same_counts};
-ghost use Rattle.cw_rules.specs.Accepted.{first_some};
-ghost use Rattle.cw_rules.specs.Held.{greatest_prune, held, noted_block_of};
+ghost use Rattle.cw_rules.specs.Held.{held};
 ghost use Rattle.cw_rules.specs.Notes as notes_rule;
 ghost use Rattle.cw_rules.specs.Owed as rule;
 ghost use Rattle.cw_types.specs.Commit.{genesis_commitment};
@@ -15,12 +13,13 @@ ghost use Rattle.cw_types.specs.Epochs.{config_in, is_last, is_member, leader, p
 ghost use Rattle.cw_types.specs.declared.note.Note.{Note};
 ghost use Rattle.cw_types.specs.declared.vote.Vote.{Vote};
 ghost use Rattle.note_scans.specs.Countable.{is_countable};
+ghost use Rattle.voter.specs.Heights.{kept_height};
 ghost use Rattle.voter.specs.Known.{is_own_at, state_of, vote_rules};
 ghost use Rattle.voter.specs.Owing as owing;
 
 use crate::tally::Tally;
 use cw_base::{Config, Digest32, Hasher};
-use cw_types::{ChainBlock, Commitment, Context, Proposal, Vote, genesis_commitment, leader};
+use cw_types::{Commitment, Context, Proposal, Vote, genesis_commitment, leader};
 
 impl<H> Tally<H> {
     // Whether it is a member of the epoch.
@@ -37,8 +36,8 @@ impl<H> Tally<H> {
         self.index.facts.said.has_voted(epoch, view)
     }
 
-    /// Whether a vote of the member's own is noted that nullifies a view of an epoch or finalizes in
-    /// it. Takes no memory.
+    /// Whether a vote of the member's own is noted that nullifies a view of an epoch or finalizes
+    /// in it. Takes no memory.
     pub fn has_closed(&self, epoch: u64, view: u64) -> bool
         ensures { result ≡ rule.has_closed self.now.notes epoch view }
     {
@@ -74,15 +73,12 @@ impl<H> Tally<H> {
         }
     }
 
-    // The first noted block under a commitment, unless that was pruned.
-    fn kept_block(&self, commitment: &Commitment) -> Option<&ChainBlock>
-        ensures { option_map (λ b. b.now) result
-            ≡ option_and_then
-            (λ b. if nat_lt 0 b.height && nat_lt b.height (greatest_prune self.now.notes)
-            then None else Some b)
-            (first_some (noted_block_of commitment.now) self.now.notes) }
+    // The height of the first noted block under a commitment, unless that block was pruned.
+    fn kept_height(&self, commitment: &Commitment) -> Option<u64>
+        ensures value { result ≡ kept_height self.now.notes commitment.now }
+        ensures bound { IfSome result (λ height. height < 2 ^ 64 - 1) }
     {
-        note_scans::kept_block(self.notes.as_slice(), commitment)
+        self.index.facts.kept_height(commitment)
     }
 
     // Whether the proposal is certified, in a view that the member hasn't closed.
@@ -125,10 +121,7 @@ impl<H: Hasher<Digest = Digest32>> Tally<H> {
         if commitment.is_same(&genesis_commitment::<H>()) {
             return Some(0);
         }
-        match self.kept_block(commitment) {
-            Some(block) => Some(block.height()),
-            None => None,
-        }
+        self.kept_height(commitment)
     }
 
     // Whether the payload is one for the proposal over that parent.

@@ -29,11 +29,8 @@ invariant_of-result g c =
           (subst (λ (bs : List Ballot). HaveSigners x c.args.id [] bs came known)
           (sym c.new-2.ensures) (c.new-4.ensures.signers x c.args.id));
       facts =
-          subst
-          (λ (ns : List Note). HaveFacts ns c.new-4.result.facts.said.by_key.entries
-          c.new-4.result.facts.settled.by_key.entries
-          c.new-4.result.facts.ended.by_epoch.entries c.new-4.result.facts.epoch)
-          (sym c.new.ensures) c.new-4.ensures.facts;
+          subst (λ (ns : List Note). HaveFacts ns c.new-4.result.facts) (sym c.new.ensures)
+          c.new-4.ensures.facts;
       places =
           subst (λ (bs : List Ballot). HasFirst bs c.new-4.result.certs.first.entries)
           (sym c.new-2.ensures) c.new-4.ensures.certs;

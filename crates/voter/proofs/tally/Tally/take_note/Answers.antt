@@ -21,13 +21,10 @@ invariant_of-self-in-Err g c =
     let ballots = c.self.inside.ballots in
     let came = c.take_note.new.self.came.by_vote.entries in
     let known = c.take_note.new.self.known.by_vote.entries in
-    let said = c.take_note.new.self.facts.said.by_key.entries in
     let places =
     subst (λ (f : Certs). HasFirst ballots f.first.entries) (sym c.take_note.ensures.certs)
     c.self.invariant.places in
-    let settled = c.take_note.new.self.facts.settled.by_key.entries in
-    let ended = c.take_note.new.self.facts.ended.by_epoch.entries in
-    let epoch = c.take_note.new.self.facts.epoch in
+    let facts = c.take_note.new.self.facts in
     let back : c.truncate.new.self ≡ notes =
     taken_back notes c.push.new.self c.truncate.new.self c.in_ok-copy.copy c.len-len.result
     c.in_ok-push.ensures.ok c.len-len.ensures c.truncate.ensures in
@@ -41,7 +38,7 @@ invariant_of-self-in-Err g c =
           subst (λ (ns : List Note). HaveSigners x id ns ballots came known) (sym back)
           (c.in-Err.ensures.err x notes ballots c.self.invariant.signers);
       facts =
-          subst (λ (ns : List Note). HaveFacts ns said settled ended epoch) (sym back)
+          subst (λ (ns : List Note). HaveFacts ns facts) (sym back)
           (c.in-Err.ensures.refused notes c.self.invariant.facts);
       places = places;
       owned =
@@ -64,13 +61,10 @@ invariant_of-self-2 g c =
     let ballots = c.self.inside.ballots in
     let came = c.take_note.new.self.came.by_vote.entries in
     let known = c.take_note.new.self.known.by_vote.entries in
-    let said = c.take_note.new.self.facts.said.by_key.entries in
     let places =
     subst (λ (f : Certs). HasFirst ballots f.first.entries) (sym c.take_note.ensures.certs)
     c.self.invariant.places in
-    let settled = c.take_note.new.self.facts.settled.by_key.entries in
-    let ended = c.take_note.new.self.facts.ended.by_epoch.entries in
-    let epoch = c.take_note.new.self.facts.epoch in
+    let facts = c.take_note.new.self.facts in
     let more : c.push.new.self ≡ notes ++ c.args.note.now ∷ [] =
     c.in_ok-push.ensures.ok ∙ ap (λ (n : Note). notes ++ n ∷ []) c.in_ok-copy.ensures in
     let counted =
@@ -86,7 +80,7 @@ invariant_of-self-2 g c =
           subst (λ (ns : List Note). HaveSigners x id ns ballots came known) (sym more)
           (c.in_default.ensures.ok x notes ballots c.self.invariant.signers counted);
       facts =
-          subst (λ (ns : List Note). HaveFacts ns said settled ended epoch) (sym more)
+          subst (λ (ns : List Note). HaveFacts ns facts) (sym more)
           (c.in_default.ensures.facts x notes c.self.invariant.facts counted);
       places = places;
       owned =

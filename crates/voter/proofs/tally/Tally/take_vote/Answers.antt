@@ -26,10 +26,8 @@ invariant_of-self-in-Err g c =
     let came = c.take_vote.new.self.came.by_vote.entries in
     let known = c.take_vote.new.self.known.by_vote.entries in
     let facts =
-    subst
-    (λ (f : Facts). HaveFacts notes f.said.by_key.entries f.settled.by_key.entries
-    f.ended.by_epoch.entries f.epoch)
-    (sym c.take_vote.ensures.facts) c.self.invariant.facts in
+    subst (λ (f : Facts). HaveFacts notes f) (sym c.take_vote.ensures.facts)
+    c.self.invariant.facts in
     let back : c.truncate.new.self ≡ ballots =
     taken_back ballots c.push.new.self c.truncate.new.self c.single.result c.len-len.result
     c.in_ok-push.ensures.ok c.len-len.ensures c.truncate.ensures in
@@ -75,10 +73,8 @@ invariant_of-self-2 g c =
     let came = c.take_vote.new.self.came.by_vote.entries in
     let known = c.take_vote.new.self.known.by_vote.entries in
     let facts =
-    subst
-    (λ (f : Facts). HaveFacts notes f.said.by_key.entries f.settled.by_key.entries
-    f.ended.by_epoch.entries f.epoch)
-    (sym c.take_vote.ensures.facts) c.self.invariant.facts in
+    subst (λ (f : Facts). HaveFacts notes f) (sym c.take_vote.ensures.facts)
+    c.self.invariant.facts in
     let more : c.push.new.self ≡ ballots ++ Single c.args.signer c.args.vote.now ∷ [] =
     c.in_ok-push.ensures.ok ∙ ap (λ (b : Ballot). ballots ++ b ∷ []) c.single.ensures in
     record {
