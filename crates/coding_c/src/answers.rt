@@ -16,7 +16,7 @@ use cw_coding::{CheckedChunk, Chunk, ReedSolomon, Scheme, encodings_decode};
 use std::alloc::Global;
 use std::num::NonZeroU16;
 
-// Bytes of a caller's.
+/// Bytes of a caller's.
 #[repr(C)]
 pub struct Span<'a> {
     pub bytes: &'a [u8],
