@@ -1,14 +1,58 @@
 //! Cuts a text into chunks, loses some of them, and restores it from the others; then it shows what
-//! is refused.
+//! is refused. That what is restored is the text is proved: it is the contract of `restored`.
 #![tactic(auto)]
 
-use anyhow::{Context, Result};
-use cw_base::{Config, Sequential, Sha256};
-use cw_coding::{ReedSolomon, Scheme};
+ghost use Rattle.std.specs.Prelude.{◌≡◌, IfOk, map};
+ghost use Rattle.use_coding.specs.Checked.{checked_of};
+
+use anyhow::{Context, Result, ensure};
+use cw_base::{Config, Digest32, Sequential, Sha256};
+use cw_coding::{CheckedChunk, Chunk, ReedSolomon, Scheme, encodings_decode};
+use std::alloc::Global;
+use std::thread::Threads;
 
 type Code = ReedSolomon<Sha256>;
 
 const TEXT: &[u8] = b"Any four of these seven chunks give this text back.";
+
+// Each chunk is checked at its index, under the root.
+fn all_checked(
+    alloc: Global,
+    config: &Config,
+    root: &Digest32,
+    chunks: &[Chunk<Digest32>],
+) -> Result<Vec<CheckedChunk<Sha256>>>
+    ensures { IfOk result (λ all. all.items ≡ map (checked_of root.now) chunks.now) }
+{
+    let mut all = Vec::new(alloc);
+    for chunk in chunks {
+        let one = Code::check(alloc, config, root, chunk.index(), chunk, &Sequential)?;
+        all.push(one)?;
+    }
+    Ok(all)
+}
+
+// Cuts a text, loses so many chunks, and restores it from the others: the rows are rebuilt, and
+// their root is compared before the text is handed out. `encodings_decode` is the law by which this
+// is the text.
+fn restored<R: Threads + Sync>(
+    rt: &R,
+    alloc: Global,
+    config: &Config,
+    text: &[u8],
+    lost: usize,
+) -> Result<Vec<u8>>
+    ensures { IfOk result (λ back. back.items ≡ text.now) }
+{
+    encodings_decode::<Sha256>();
+    let (root, chunks) = Code::encode(rt, alloc, config, text, &Sequential)?;
+    let needed = config.minimum();
+    ensure!(lost <= chunks.len(), "{needed} chunks are needed");
+    let (_, left) = chunks.split_at(lost);
+    let checked = all_checked(alloc, config, &root, left)?;
+    let back = Code::decode(rt, alloc, config, &root, checked.iter(), &Sequential)?;
+    Ok(back)
+}
 
 fn main(rt: HostRuntime) -> Result<()> {
     let alloc = rt.alloc();
@@ -22,22 +66,14 @@ fn main(rt: HostRuntime) -> Result<()> {
     let alone = Code::commitment(&rt, alloc, &config, TEXT, &Sequential)?;
     println!(rt; "the root alone: {alone}")?;
 
-    // Lose the first three. Each that comes is checked at its index, under the root.
-    let mut checked = Vec::new(alloc);
-    for chunk in chunks.iter().skip(3) {
-        let one = Code::check(alloc, &config, &root, chunk.index(), chunk, &Sequential)?;
-        checked.push(one)?;
-    }
-
-    // Restore: the rows are rebuilt, and their root is compared before the text is handed out.
-    let back = Code::decode(&rt, alloc, &config, &root, checked.iter(), &Sequential)?;
+    // Three are lost, and the others give the text back. Three chunks are not enough.
+    let back = restored(&rt, alloc, &config, TEXT, 3)?;
     println!(rt; "restored: {}", back.as_slice() == TEXT)?;
-
-    // Three chunks are not enough, and no chunk stands at another's index.
-    let few = checked.iter().skip(1);
-    if let Err(error) = Code::decode(&rt, alloc, &config, &root, few, &Sequential) {
+    if let Err(error) = restored(&rt, alloc, &config, TEXT, 4) {
         println!(rt; "of three chunks: {error}")?;
     }
+
+    // No chunk stands at another's index.
     let fourth = chunks.get(3).context("the chunk of index 3")?;
     if let Err(error) = Code::check(alloc, &config, &root, 2, fourth, &Sequential) {
         println!(rt; "chunk 3 as chunk 2: {error}")?;
