@@ -76,6 +76,8 @@ impl Source for MemorySource {
         ensures count { IfOk result
             (λ n. n ≡ min (min self.old.piece (length room.old)) (length self.old.left)) }
         ensures given { IfOk result (λ n. take n room.new ≡ take n self.old.left) }
+        ensures behind { IfOk result (λ n. drop n room.new ≡ drop n room.old) }
+        ensures untouched { OnErr result (room.new ≡ room.old) }
         ensures ok { IfOk result
             (λ n. self.new
             ≡ record self.old { left = drop n self.old.left; calls = counted self.old.calls }) }
