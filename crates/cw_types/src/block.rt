@@ -261,8 +261,8 @@ impl ChainBlock {
         read_block(alloc, None, reader)
     }
 
-    /// The same, of a reader that stands in a text whose bytes are shared: the block's payload keeps
-    /// a part of that text, so none of its bytes is copied.
+    /// The same, of a reader that stands in a text whose bytes are shared: the block's payload
+    /// keeps a part of that text, so none of its bytes is copied.
     pub fn read_shared(
         alloc: Global,
         text: &Bytes,

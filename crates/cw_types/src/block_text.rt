@@ -19,8 +19,8 @@ impl ChainBlock {
         of_text(alloc, None, bytes)
     }
 
-    /// The same, of bytes that are shared: the block's payload keeps a part of them, so none of them
-    /// is copied.
+    /// The same, of bytes that are shared: the block's payload keeps a part of them, so none of
+    /// them is copied.
     pub fn of_shared(alloc: Global, text: &Bytes) -> Result<Option<ChainBlock>, NoMemory>
         ensures value { IfOk result (λ block. block ≡ block_in text.now) }
         ensures bytes { IfOk result

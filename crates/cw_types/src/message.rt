@@ -121,8 +121,8 @@ impl Message {
         read_all(alloc, None, reader)
     }
 
-    /// The same, of a reader that stands in a text whose bytes are shared: a block's payload keeps a
-    /// part of that text, so none of its bytes is copied.
+    /// The same, of a reader that stands in a text whose bytes are shared: a block's payload keeps
+    /// a part of that text, so none of its bytes is copied.
     pub fn read_shared(
         alloc: Global,
         text: &Bytes,

@@ -123,8 +123,8 @@ impl Note {
         read_note(alloc, None, reader)
     }
 
-    /// The same, of a reader that stands in a text whose bytes are shared: a block's payload keeps a
-    /// part of that text, so none of its bytes is copied.
+    /// The same, of a reader that stands in a text whose bytes are shared: a block's payload keeps
+    /// a part of that text, so none of its bytes is copied.
     pub fn read_shared(alloc: Global, text: &Bytes, reader: &mut Reader) -> Result<Note, CodecError>
         requires { IsEnd text.now reader.old }
         ensures value { Gives (λ note. note) result reader.new (note_at reader.old) }

@@ -15,9 +15,9 @@ use std::marker::Model;
 
 /// What a block carries: at most 1,048,576 bytes.
 ///
-/// One that was read, or copied, shares its bytes with its copies. One that was made of a `Vec`
-/// keeps that `Vec`, so that making it takes no memory; its bytes are copied once for each copy,
-/// and from then on shared.
+/// One that was read, or copied, shares its bytes with its copies, and one that was read of shared
+/// bytes keeps a part of them. One that was made of a `Vec` keeps that `Vec`, so that making it
+/// takes no memory; its bytes are copied once for each copy, and from then on shared.
 #[derive(Drop)]
 pub struct Payload {
     form: Form,
@@ -142,8 +142,8 @@ impl fmt::Debug for Payload {
     }
 }
 
-// A payload behind the number of its bytes. Where the reader stands in a shared text, it keeps a part
-// of that text; else it takes memory for a copy.
+// A payload behind the number of its bytes. Where the reader stands in a shared text, it keeps a
+// part of that text; else it takes memory for a copy.
 #[tactic(auto, using(cw_base::proofs::Ends::end_of_end), unfolding(crate::specs::Reading::payload_at))]
 pub(crate) fn read_payload(
     alloc: Global,

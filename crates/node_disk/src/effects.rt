@@ -13,8 +13,8 @@ use crate::DiskError;
 use crate::record::{Action, Call, Outcome, Pending, Stop};
 use std::alloc::{AllocError, Global};
 
-// Makes room for more bytes: for an eighth of those that are there, where that is more, so that a disk
-// holds little more than its bytes however large it is.
+// Makes room for more bytes: for an eighth of those that are there, where that is more, so that a
+// disk holds little more than its bytes however large it is.
 fn make_room(bytes: &mut Vec<u8>, more: usize) -> Result<(), AllocError>
     ensures { bytes.new.items ≡ bytes.old.items }
 {
