@@ -34,7 +34,7 @@ const STORE: [(StoreError, &str); 4] = [
     (StoreError::NoMemory, "memory was refused"),
     (
         StoreError::Foreign(7),
-        "not a file of this log: the frame at byte 7 is open and cut",
+        "not a file of this log: the frame at byte 7 is cut or no record",
     ),
 ];
 

@@ -165,21 +165,6 @@ place_below p xs i h = go (cases_Bool (nat_lt (position_or_len p xs) (length xs)
         (cond-false (nat_lt (position_or_len p xs) (length xs)) (Some (position_or_len p xs))
         None f)
 
--- committees that cover this many heights are sound where each list is
-pub new_sound : (total span : ℕ) (lists : List (List ℕ)) → 1 ≤ span → 1 ≤ length lists
-    → length lists ≤ 64 → list_all (is_committee total) lists ≡ true
-    → is_sound (record { total = total; span = Some span; lists = lists }) ≡ true
-new_sound total span lists covers some few all =
-    and_from
-    (nat_lt 0 (length lists) && nat_le (length lists) 64 && list_all (is_committee total) lists)
-    (nat_lt 0 span)
-    (and_from (nat_lt 0 (length lists) && nat_le (length lists) 64)
-    (list_all (is_committee total) lists)
-    (and_from (nat_lt 0 (length lists)) (nat_le (length lists) 64) (lt-ltb 0 (length lists) some)
-    (le-leb (length lists) 64 few))
-    all)
-    (lt-ltb 0 span covers)
-
 -- the span of sound committees is above 0
 pub span_positive : (x : Epochs) (span : ℕ) → is_sound x ≡ true → x.span ≡ Some span → 1 ≤ span
 span_positive x span h e =

@@ -16,3 +16,4 @@ pub mod Cutting
 pub mod Committed
 pub mod Handoffs
 pub mod Ordered
+pub mod Parts

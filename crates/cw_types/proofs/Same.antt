@@ -137,11 +137,6 @@ same_cert-true a b h =
     let e1 = (bytes_eq-Decides a.signers b.signers).0 p.1 in
     λ i. record { vote = e0 i; signers = e1 i }
 
-pub same_cert_self : (a : Cert) → same_cert a a ≡ true
-unfolding same_cert
-same_cert_self a =
-    and_from _ _ (same_vote_self a.vote) ((bytes_eq-Decides a.signers a.signers).1 refl)
-
 pub same_block-true : (a b : Block) → same_block a b ≡ true → a ≡ b
 unfolding same_block
 same_block-true a b h =

@@ -1,6 +1,7 @@
 //! Blocks of the chain, and where they were proposed.
 
-ghost use Rattle.std.specs.Prelude.{◌≡◌, ◌-◌, ◌^◌, ◌<◌, ◌++◌, IfOk, OnOk, OnErr, take, length};
+ghost use Rattle.std.specs.Prelude.{◌≡◌, ◌-◌, ◌^◌, ◌<◌, ◌++◌, IfOk, IfSome, OnOk, OnErr, take};
+ghost use Rattle.std.specs.Prelude.{length};
 ghost use Rattle.cw_types.specs.Encoding.{context_bytes, block_bytes};
 ghost use Rattle.cw_types.specs.Same.{same_context, same_block};
 ghost use Rattle.cw_types.specs.Reading.{context_at, height_at, block_at};
@@ -9,6 +10,7 @@ ghost use Rattle.cw_base.specs.Reading.{IsRead, Gives};
 
 use crate::commitment::{Commitment, put_at, read_digest};
 use crate::payload::{Payload, read_payload};
+use bytes::Bytes;
 use cw_base::{
     CodecError, Digest32, Hasher, NoMemory, Reader, put_be16, put_be64, put_bytes, put_varint,
     undo_refused,
@@ -252,22 +254,49 @@ impl ChainBlock {
     ///
     /// Refused, the reader stands behind the parts that were taken, a refused value among them. For
     /// want of memory it is refused only where a whole block stands there, and all of it is taken.
-    #[tactic(auto, using(cw_base::proofs::Ends::end_of_end), unfolding(crate::specs::Reading::block_at))]
     pub fn read(alloc: Global, reader: &mut Reader) -> Result<ChainBlock, CodecError>
         ensures value { Gives (λ block. block) result reader.new (block_at reader.old) }
         ensures place { IsEnd reader.old reader.new }
     {
-        let context = Context::read(reader)?;
-        let parent = read_digest(reader)?;
-        let height = read_height(reader)?;
-        let payload = read_payload(alloc, reader)?;
-        Ok(ChainBlock {
-            context,
-            parent,
-            height,
-            payload,
-        })
+        read_block(alloc, None, reader)
     }
+
+    /// The same, of a reader that stands in a text whose bytes are shared: the block's payload
+    /// keeps a part of that text, so none of its bytes is copied.
+    pub fn read_shared(
+        alloc: Global,
+        text: &Bytes,
+        reader: &mut Reader,
+    ) -> Result<ChainBlock, CodecError>
+        requires { IsEnd text.now reader.old }
+        ensures value { Gives (λ block. block) result reader.new (block_at reader.old) }
+        ensures place { IsEnd reader.old reader.new }
+    {
+        read_block(alloc, Some(text), reader)
+    }
+}
+
+// A block at the front, of a shared text if there is one.
+#[tactic(auto, using(cw_base::proofs::Ends::end_of_end), unfolding(crate::specs::Reading::block_at))]
+pub(crate) fn read_block(
+    alloc: Global,
+    text: Option<&Bytes>,
+    reader: &mut Reader,
+) -> Result<ChainBlock, CodecError>
+    requires { IfSome text (λ text. IsEnd text.now reader.old) }
+    ensures value { Gives (λ block. block) result reader.new (block_at reader.old) }
+    ensures place { IsEnd reader.old reader.new }
+{
+    let context = Context::read(reader)?;
+    let parent = read_digest(reader)?;
+    let height = read_height(reader)?;
+    let payload = read_payload(alloc, text, reader)?;
+    Ok(ChainBlock {
+        context,
+        parent,
+        height,
+        payload,
+    })
 }
 
 // A height below 2^64 - 1.

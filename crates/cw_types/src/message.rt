@@ -1,6 +1,7 @@
 //! Messages between members.
 
-ghost use Rattle.std.specs.Prelude.{◌≡◌, [], ◌∷◌, ◌++◌, IfOk, IfErr, OnOk, OnErr, Ok, take, length};
+ghost use Rattle.std.specs.Prelude.{◌≡◌, [], ◌∷◌, ◌++◌, IfOk, IfErr, IfSome, OnOk, OnErr, Ok};
+ghost use Rattle.std.specs.Prelude.{take, length};
 ghost use Rattle.cw_base.specs.Bytes.{be16};
 ghost use Rattle.cw_base.specs.declared.reader.CodecError.TheVariants as codec;
 ghost use Rattle.cw_types.specs.Encoding.{message_bytes};
@@ -11,9 +12,10 @@ ghost use Rattle.cw_types.specs.declared.message.Message.TheVariants as messages
 ghost use Rattle.cw_base.specs.Ends.{IsEnd};
 ghost use Rattle.cw_base.specs.Reading.{IsRead, Gives};
 
-use crate::block::{ChainBlock, MAX_BLOCK};
+use crate::block::{ChainBlock, MAX_BLOCK, read_block};
 use crate::commitment::Commitment;
 use crate::vote::{Cert, Vote};
+use bytes::Bytes;
 use cw_base::{
     CodecError, Config, Digest32, Items, NoMemory, Reader, put_be16, put_be64, put_bytes, put_u8,
     undo_refused,
@@ -111,28 +113,58 @@ impl Message {
     /// The message that all bytes left are: those that don't read as a message to their end are
     /// junk. The reader is then at its end. The only refusal is `NoMemory`, which leaves it there
     /// too.
-    #[tactic(auto, using(cw_base::proofs::Ends::ends))]
     pub fn read(alloc: Global, reader: &mut Reader) -> Result<Message, CodecError>
         ensures value { Gives (λ message. message) result reader.new (message_at reader.old) }
         ensures place { IsEnd reader.old reader.new }
         ensures err { IfErr result (λ e. e ≡ codec.NoMemory) }
     {
-        let bytes = reader.rest();
-        let whole = read_alone(alloc, reader);
-        *reader = Reader::new(&[]);
-        match whole {
-            Ok(Some(message)) => Ok(message),
-            Ok(None) => junk_of(alloc, bytes),
-            Err(NoMemory) => Err(CodecError::NoMemory),
-        }
+        read_all(alloc, None, reader)
+    }
+
+    /// The same, of a reader that stands in a text whose bytes are shared: a block's payload keeps
+    /// a part of that text, so none of its bytes is copied.
+    pub fn read_shared(
+        alloc: Global,
+        text: &Bytes,
+        reader: &mut Reader,
+    ) -> Result<Message, CodecError>
+        requires { IsEnd text.now reader.old }
+        ensures value { Gives (λ message. message) result reader.new (message_at reader.old) }
+        ensures place { IsEnd reader.old reader.new }
+        ensures err { IfErr result (λ e. e ≡ codec.NoMemory) }
+    {
+        read_all(alloc, Some(text), reader)
+    }
+}
+
+// The message that all bytes left are, of a shared text if there is one.
+#[tactic(auto, using(cw_base::proofs::Ends::ends))]
+fn read_all(alloc: Global, text: Option<&Bytes>, reader: &mut Reader) -> Result<Message, CodecError>
+    requires { IfSome text (λ text. IsEnd text.now reader.old) }
+    ensures value { Gives (λ message. message) result reader.new (message_at reader.old) }
+    ensures place { IsEnd reader.old reader.new }
+    ensures err { IfErr result (λ e. e ≡ codec.NoMemory) }
+{
+    let bytes = reader.rest();
+    let whole = read_alone(alloc, text, reader);
+    *reader = Reader::new(&[]);
+    match whole {
+        Ok(Some(message)) => Ok(message),
+        Ok(None) => junk_of(alloc, bytes),
+        Err(NoMemory) => Err(CodecError::NoMemory),
     }
 }
 
 // The message that all bytes left are; none where they don't read as one to their end.
-fn read_alone(alloc: Global, reader: &mut Reader) -> Result<Option<Message>, NoMemory>
+fn read_alone(
+    alloc: Global,
+    text: Option<&Bytes>,
+    reader: &mut Reader,
+) -> Result<Option<Message>, NoMemory>
+    requires { IfSome text (λ text. IsEnd text.now reader.old) }
     ensures { IfOk result (λ message. message ≡ to_the_end (tagged_message_at reader.old)) }
 {
-    match read_tagged(alloc, reader) {
+    match read_tagged(alloc, text, reader) {
         Ok(message) => Ok(alone(message, reader.rest())),
         Err(CodecError::NoMemory) => Err(NoMemory),
         Err(_) => Ok(None),
@@ -167,7 +199,12 @@ fn put_from(out: &mut Vec<u8>, tag: u8, from: u16) -> Result<(), NoMemory>
 
 // A message at the front.
 #[tactic(auto, using(cw_base::proofs::Ends::end_of_end), unfolding(crate::specs::Reading::tagged_message_at))]
-fn read_tagged(alloc: Global, reader: &mut Reader) -> Result<Message, CodecError>
+fn read_tagged(
+    alloc: Global,
+    text: Option<&Bytes>,
+    reader: &mut Reader,
+) -> Result<Message, CodecError>
+    requires { IfSome text (λ text. IsEnd text.now reader.old) }
     ensures value { Gives (λ message. message) result reader.new (tagged_message_at reader.old) }
     ensures place { IsEnd reader.old reader.new }
 {
@@ -177,7 +214,7 @@ fn read_tagged(alloc: Global, reader: &mut Reader) -> Result<Message, CodecError
         2 => Ok(Message::Cert(Cert::read(alloc, reader)?)),
         3 => read_ask(reader),
         4 => read_ask_height(reader),
-        5 => Ok(Message::Block(ChainBlock::read(alloc, reader)?)),
+        5 => Ok(Message::Block(read_block(alloc, text, reader)?)),
         _ => Err(CodecError::Invalid),
     }
 }

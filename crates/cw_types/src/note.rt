@@ -1,6 +1,7 @@
 //! What a member writes down, and keeps its word by.
 
-ghost use Rattle.std.specs.Prelude.{◌≡◌, ◌∷◌, ◌++◌, ◌<◌, ◌≤◌, IfOk, OnOk, OnErr, take, length};
+ghost use Rattle.std.specs.Prelude.{◌≡◌, ◌∷◌, ◌++◌, ◌<◌, ◌≤◌, IfOk, IfSome, OnOk, OnErr, take};
+ghost use Rattle.std.specs.Prelude.{length};
 ghost use Rattle.cw_base.specs.Bytes.{be64};
 ghost use Rattle.cw_types.specs.Encoding.{epoch_tag_bytes, note_bytes};
 ghost use Rattle.cw_types.specs.Reading.{note_behind, block_note_at, certified_at, cert_note_at};
@@ -9,9 +10,10 @@ ghost use Rattle.cw_types.specs.Reading.{verified_at};
 ghost use Rattle.cw_base.specs.Ends.{IsEnd};
 ghost use Rattle.cw_base.specs.Reading.{IsRead, Gives};
 
-use crate::block::{ChainBlock, read_height};
+use crate::block::{ChainBlock, read_block, read_height};
 use crate::commitment::Commitment;
 use crate::vote::{Cert, Proposal, Vote, is_ordered, read_later_epoch, read_signed, well_formed};
+use bytes::Bytes;
 use cw_base::{CodecError, NoMemory, Reader, put_be64, put_u8, undo_refused};
 use std::alloc::Global;
 
@@ -114,22 +116,41 @@ impl Note {
     /// Refused, the reader stands behind the parts that were taken, a refused tag or value among
     /// them. For want of memory it is refused only where a whole note stands there, and all of it
     /// is taken.
-    #[tactic(auto, using(cw_base::proofs::Ends::end_of_end), unfolding(crate::specs::Reading::note_at))]
     pub fn read(alloc: Global, reader: &mut Reader) -> Result<Note, CodecError>
         ensures value { Gives (λ note. note) result reader.new (note_at reader.old) }
         ensures place { IsEnd reader.old reader.new }
     {
-        match reader.u8()? {
-            0 => read_block_note(alloc, reader),
-            1 => read_verified(reader, 0),
-            2 => read_certified(reader, 0),
-            3 => Ok(Note::Vote(read_formed_vote(reader)?)),
-            4 => read_cert_note(alloc, reader),
-            5 => Ok(Note::Ack(read_height(reader)?)),
-            6 => Ok(Note::Floor(read_height(reader)?)),
-            7 => Ok(Note::Prune(read_height(reader)?)),
-            tag => read_later_note(reader, tag),
-        }
+        read_note(alloc, None, reader)
+    }
+
+    /// The same, of a reader that stands in a text whose bytes are shared: a block's payload keeps
+    /// a part of that text, so none of its bytes is copied.
+    pub fn read_shared(alloc: Global, text: &Bytes, reader: &mut Reader) -> Result<Note, CodecError>
+        requires { IsEnd text.now reader.old }
+        ensures value { Gives (λ note. note) result reader.new (note_at reader.old) }
+        ensures place { IsEnd reader.old reader.new }
+    {
+        read_note(alloc, Some(text), reader)
+    }
+}
+
+// A note at the front, of a shared text if there is one.
+#[tactic(auto, using(cw_base::proofs::Ends::end_of_end), unfolding(crate::specs::Reading::note_at))]
+fn read_note(alloc: Global, text: Option<&Bytes>, reader: &mut Reader) -> Result<Note, CodecError>
+    requires { IfSome text (λ text. IsEnd text.now reader.old) }
+    ensures value { Gives (λ note. note) result reader.new (note_at reader.old) }
+    ensures place { IsEnd reader.old reader.new }
+{
+    match reader.u8()? {
+        0 => read_block_note(alloc, text, reader),
+        1 => read_verified(reader, 0),
+        2 => read_certified(reader, 0),
+        3 => Ok(Note::Vote(read_formed_vote(reader)?)),
+        4 => read_cert_note(alloc, reader),
+        5 => Ok(Note::Ack(read_height(reader)?)),
+        6 => Ok(Note::Floor(read_height(reader)?)),
+        7 => Ok(Note::Prune(read_height(reader)?)),
+        tag => read_later_note(reader, tag),
     }
 }
 
@@ -153,12 +174,17 @@ fn read_later_note(reader: &mut Reader, tag: u8) -> Result<Note, CodecError>
 
 // A block behind its commitment.
 #[tactic(auto, using(cw_base::proofs::Ends::end_of_end))]
-fn read_block_note(alloc: Global, reader: &mut Reader) -> Result<Note, CodecError>
+fn read_block_note(
+    alloc: Global,
+    text: Option<&Bytes>,
+    reader: &mut Reader,
+) -> Result<Note, CodecError>
+    requires { IfSome text (λ text. IsEnd text.now reader.old) }
     ensures value { Gives (λ note. note) result reader.new (block_note_at reader.old) }
     ensures place { IsEnd reader.old reader.new }
 {
     let commitment = Commitment::read(reader)?;
-    let block = ChainBlock::read(alloc, reader)?;
+    let block = read_block(alloc, text, reader)?;
     Ok(Note::Block(commitment, block))
 }
 

@@ -1,6 +1,7 @@
 //! What blocks carry.
 
-ghost use Rattle.std.specs.Prelude.{◌≡◌, ◌↔◌, ◌<◌, ◌≤◌, [], IsErr, IfOk, IfErr, length};
+ghost use Rattle.std.specs.Prelude.{◌≡◌, ◌↔◌, ◌<◌, ◌≤◌, ◌++◌, [], IsErr, IfOk, IfErr, IfSome};
+ghost use Rattle.std.specs.Prelude.{length};
 ghost use Rattle.cw_types.specs.Payload.{bytes_of_form};
 ghost use Rattle.cw_types.specs.Reading.{payload_at};
 ghost use Rattle.cw_base.specs.Ends.{IsEnd};
@@ -14,9 +15,9 @@ use std::marker::Model;
 
 /// What a block carries: at most 1,048,576 bytes.
 ///
-/// One that was read, or copied, shares its bytes with its copies. One that was made of a `Vec`
-/// keeps that `Vec`, so that making it takes no memory; its bytes are copied once for each copy,
-/// and from then on shared.
+/// One that was read, or copied, shares its bytes with its copies, and one that was read of shared
+/// bytes keeps a part of them. One that was made of a `Vec` keeps that `Vec`, so that making it
+/// takes no memory; its bytes are copied once for each copy, and from then on shared.
 #[derive(Drop)]
 pub struct Payload {
     form: Form,
@@ -141,9 +142,15 @@ impl fmt::Debug for Payload {
     }
 }
 
-// A payload behind the number of its bytes.
+// A payload behind the number of its bytes. Where the reader stands in a shared text, it keeps a
+// part of that text; else it takes memory for a copy.
 #[tactic(auto, using(cw_base::proofs::Ends::end_of_end), unfolding(crate::specs::Reading::payload_at))]
-pub(crate) fn read_payload(alloc: Global, reader: &mut Reader) -> Result<Payload, CodecError>
+pub(crate) fn read_payload(
+    alloc: Global,
+    text: Option<&Bytes>,
+    reader: &mut Reader,
+) -> Result<Payload, CodecError>
+    requires { IfSome text (λ text. IsEnd text.now reader.old) }
     ensures value { Gives (λ payload. payload) result reader.new (payload_at reader.old) }
     ensures place { IsEnd reader.old reader.new }
 {
@@ -156,6 +163,26 @@ pub(crate) fn read_payload(alloc: Global, reader: &mut Reader) -> Result<Payload
         Err(error) => return Err(error),
     };
     Ok(Payload {
-        form: Form::Shared(Bytes::copy_from_slice(alloc, bytes)?),
+        form: Form::Shared(shared_bytes(alloc, text, bytes, reader.rest())?),
     })
+}
+
+// Bytes to share: the part of a text that they are, where these are left behind them, or a copy.
+#[tactic(auto, using(crate::proofs::Parts::fits_before, crate::proofs::Parts::part_of_end))]
+fn shared_bytes(
+    alloc: Global,
+    text: Option<&Bytes>,
+    bytes: &[u8],
+    left: &[u8],
+) -> Result<Bytes, NoMemory>
+    requires { IfSome text (λ text. IsEnd text.now (bytes.now ++ left.now)) }
+    ensures { IfOk result (λ shared. shared ≡ bytes.now) }
+{
+    match text {
+        None => Ok(Bytes::copy_from_slice(alloc, bytes)?),
+        Some(text) => {
+            let end = text.len() - left.len();
+            Ok(text.slice(end - bytes.len()..end)?)
+        }
+    }
 }

@@ -84,10 +84,6 @@ pub refused_of : (is_record : ℕ → List ℕ → Bool) (frames : List (List �
     → refused_place is_record (read_log bytes) ≡ refused
 refused_of is_record frames bytes refused finds is = ap (refused_place is_record) finds ∙ is
 
-pub refused_cut : (is_record : ℕ → List ℕ → Bool) (bytes : List ℕ) (place : ℕ)
-    → read_log bytes ≡ Err place → refused_place is_record (read_log bytes) ≡ Some place
-refused_cut is_record bytes place cut = ap (refused_place is_record) cut
-
 -- where each frame is a record, only a cut one is refused
 pub cut_only : (bytes : List ℕ) (place : ℕ) → refused_place are_all (read_log bytes) ≡ Some place
     → read_log bytes ≡ Err place

@@ -13,6 +13,18 @@ use crate::DiskError;
 use crate::record::{Action, Call, Outcome, Pending, Stop};
 use std::alloc::{AllocError, Global};
 
+// Makes room for more bytes: for an eighth of those that are there, where that is more, so that a
+// disk holds little more than its bytes however large it is.
+fn make_room(bytes: &mut Vec<u8>, more: usize) -> Result<(), AllocError>
+    ensures { bytes.new.items ≡ bytes.old.items }
+{
+    let room = bytes.capacity() - bytes.len();
+    if room < more {
+        bytes.reserve_exact(more.max(bytes.len() / 8))?;
+    }
+    Ok(())
+}
+
 // Writes over what is there, and past the end.
 pub(crate) fn put_bytes(bytes: &mut Vec<u8>, place: u64, new: &[u8]) -> Result<(), AllocError>
     ensures ok { OnOk result (bytes.new.items ≡ put_at bytes.old.items place new.now) }
@@ -24,6 +36,7 @@ pub(crate) fn put_bytes(bytes: &mut Vec<u8>, place: u64, new: &[u8]) -> Result<(
     if new.len() <= room {
         bytes[at..at + new.len()].copy_from_slice(new);
     } else {
+        make_room(bytes, new.len() - room)?;
         bytes.extend_from_slice(&new[room..])?;
         bytes[at..len].copy_from_slice(&new[..room]);
     }

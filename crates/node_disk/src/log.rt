@@ -31,8 +31,8 @@ pub enum StoreError {
     #[error("memory was refused")]
     NoMemory,
     /// A start found an open gate byte at this place, in bytes from the start of the file, whose
-    /// frame is cut, and only whole frames before it.
-    #[error("not a file of this log: the frame at byte {0} is open and cut")]
+    /// frame is cut or is no record, and only whole frames before it.
+    #[error("not a file of this log: the frame at byte {0} is cut or no record")]
     Foreign(u64),
 }
 

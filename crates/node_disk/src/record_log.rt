@@ -261,7 +261,7 @@ fn found_bytes<D: Disk>(alloc: Global, disk: &mut D) -> Result<Vec<u8>, DiskErro
 fn bytes_of(alloc: Global, frame: &[u8]) -> Result<Vec<u8>, NoMemory>
     ensures { IfOk result (λ bytes. bytes.items ≡ body frame.now ++ 0 ∷ []) }
 {
-    let mut bytes = Vec::new(alloc);
+    let mut bytes = Vec::with_capacity(alloc, frame.len().saturating_add(9))?;
     put_be64(&mut bytes, frame.len() as u64)?;
     put_bytes(&mut bytes, frame)?;
     put_u8(&mut bytes, 0)?;

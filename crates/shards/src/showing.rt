@@ -18,6 +18,7 @@ use crate::checks::checked_all;
 use crate::index::KeptChunks;
 use crate::laws::coder_laws;
 use crate::verdict::Verdict;
+use bytes::Bytes;
 use cw_base::{Config, Digest32, Hasher, NoMemory, Strategy};
 use cw_coding::{Chunk, ReedSolomon, ReedSolomonError, Scheme, encodings_decode};
 use cw_types::{ChainBlock, Commitment, Committees};
@@ -98,12 +99,12 @@ fn has_parts(commitment: &Commitment, block: &Digest32, context: &Digest32, conf
         && config.is_same(&commitment.config)
 }
 
-// The block whose bytes the text is, where it is committed to so.
+// The block whose bytes the text is, where it is committed to so. Its payload keeps a part of them.
 fn block_of<H: Hasher<Digest = Digest32>>(
     alloc: Global,
     committees: &Committees,
     commitment: &Commitment,
-    text: &[u8],
+    text: &Bytes,
 ) -> Result<Option<ChainBlock>, NoMemory>
     requires some { 1 ≤ commitment.now.config.minimum }
     requires rooted { IsRooted H.digest_of commitment.now text.now }
@@ -111,9 +112,9 @@ fn block_of<H: Hasher<Digest = Digest32>>(
         ≡ option_and_then (if_committed (rules_of H.digest_of committees.now) commitment.now)
         (block_in text.now)) }
 {
-    match ChainBlock::of_bytes(alloc, text)? {
+    match ChainBlock::of_shared(alloc, text)? {
         Some(block) => {
-            if is_committed::<H>(committees, commitment, &block, text) {
+            if is_committed::<H>(committees, commitment, &block, text.as_slice()) {
                 Ok(Some(block))
             } else {
                 drop(block);
@@ -141,7 +142,7 @@ pub(crate) fn shown<H: Hasher<Digest = Digest32>, R: Threads + Sync, S: Strategy
 {
     coder_laws();
     match decoded::<H, R, S>(rt, alloc, commitment, chunks, strategy)? {
-        Some(text) => block_of::<H>(alloc, committees, commitment, &text),
+        Some(text) => block_of::<H>(alloc, committees, commitment, &Bytes::from_vec(text)?),
         None => Ok(None),
     }
 }

@@ -2,6 +2,7 @@
 
 use super::{first_block, is_junk};
 use crate::tables::case_in;
+use bytes::Bytes;
 use cw_base::{CodecError, Reader};
 use cw_types::{Cert, ChainBlock, Commitment, Context, Message, Note, Proposal, Vote};
 use std::alloc::Global;
@@ -179,9 +180,80 @@ fn values_are_refused_at_their_first_fault(rt: HostRuntime) -> Result<(), Fail> 
     Ok(())
 }
 
-// whether bytes are those of a block; none where they are no block's
+// reads a value of a format that has a payload, of a text that is shared
+#[tactic(auto, using(cw_base::proofs::Ends::end_itself))]
+fn shared_value_again(
+    alloc: Global,
+    format: &str,
+    text: &Bytes,
+    out: &mut Vec<u8>,
+) -> Result<usize, CodecError> {
+    let mut reader = Reader::new(text.as_slice());
+    match format {
+        "block" => ChainBlock::read_shared(alloc, text, &mut reader)?.write(out)?,
+        "note" => Note::read_shared(alloc, text, &mut reader)?.write(out)?,
+        _ => Message::read_shared(alloc, text, &mut reader)?.write(out)?,
+    }
+    Ok(reader.rest().len())
+}
+
+// the same of a text that is not
+fn lent_value_again(
+    alloc: Global,
+    format: &str,
+    text: &[u8],
+    out: &mut Vec<u8>,
+) -> Result<usize, CodecError> {
+    let mut reader = Reader::new(text);
+    match format {
+        "block" => ChainBlock::read(alloc, &mut reader)?.write(out)?,
+        "note" => Note::read(alloc, &mut reader)?.write(out)?,
+        _ => Message::read(alloc, &mut reader)?.write(out)?,
+    }
+    Ok(reader.rest().len())
+}
+
+// whether a text is read alike, shared and not
+fn is_alike(alloc: Global, format: &str, text: &[u8]) -> Result<bool, Fail> {
+    let shared = Bytes::copy_from_slice(alloc, text)?;
+    let (mut one, mut other) = (Vec::new(alloc), Vec::new(alloc));
+    let of_shared = shared_value_again(alloc, format, &shared, &mut one);
+    let of_lent = lent_value_again(alloc, format, text, &mut other);
+    Ok(of_shared == of_lent && one.as_slice() == other.as_slice())
+}
+
+// whether an example of a line, and each cut of it, is read alike; all count that have no payload
+fn line_is_alike(alloc: Global, line: &str) -> Result<bool, Fail> {
+    let case = case_in(alloc, line)?;
+    if !matches!(case.name, "block" | "note" | "message") {
+        return Ok(true);
+    }
+    for place in 0..=case.bytes.len() {
+        if !is_alike(alloc, case.name, &case.bytes[..place])? {
+            return Ok(false);
+        }
+    }
+    Ok(true)
+}
+
+#[test]
+fn a_shared_text_is_read_as_any_other(rt: HostRuntime) -> Result<(), Fail> {
+    for line in VALUES.lines() {
+        assert!(rt; line_is_alike(rt.alloc(), line)?, "{line}");
+    }
+    for line in REFUSALS.lines() {
+        assert!(rt; line_is_alike(rt.alloc(), line)?, "{line}");
+    }
+    Ok(())
+}
+
+// whether bytes are those of a block, shared or not; none where they are no block's
 fn is_block(alloc: Global, bytes: &[u8], block: &ChainBlock) -> Result<Option<bool>, Fail> {
-    match ChainBlock::of_bytes(alloc, bytes)? {
+    let found = ChainBlock::of_bytes(alloc, bytes)?;
+    if ChainBlock::of_shared(alloc, &Bytes::copy_from_slice(alloc, bytes)?)? != found {
+        return Err("shared bytes were read as another block's".into());
+    }
+    match found {
         Some(found) => Ok(Some(found == *block)),
         None => Ok(None),
     }

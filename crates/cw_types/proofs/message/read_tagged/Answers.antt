@@ -25,10 +25,10 @@ pub returns-in-4-clause-place : goal.returns-in-4-clause-place
 returns-in-4-clause-place c =
     end_of_end c.u8.ensures.place c.read_ask_height.ensures.place
 
-pub returns-in_err-read-in-5-clause-place : goal.returns-in_err-read-in-5-clause-place
-returns-in_err-read-in-5-clause-place c =
-    end_of_end c.u8.ensures.place c.read-in-5.ensures.place
+pub returns-in_err-read_block-in-5-clause-place : goal.returns-in_err-read_block-in-5-clause-place
+returns-in_err-read_block-in-5-clause-place c =
+    end_of_end c.u8.ensures.place c.read_block.ensures.place
 
-pub returns-in_ok-read-in-5-clause-place : goal.returns-in_ok-read-in-5-clause-place
-returns-in_ok-read-in-5-clause-place c =
-    end_of_end c.u8.ensures.place c.read-in-5.ensures.place
+pub returns-in_ok-read_block-in-5-clause-place : goal.returns-in_ok-read_block-in-5-clause-place
+returns-in_ok-read_block-in-5-clause-place c =
+    end_of_end c.u8.ensures.place c.read_block.ensures.place

@@ -1,5 +1,5 @@
 use Rattle.cw_base.proofs.Ends.{end_of_end}
-use Rattle.cw_types.proofs.block.ChainBlock.read.Goals as goal
+use Rattle.cw_types.proofs.block.read_block.Goals as goal
 
 pub returns-in_err-parent-clause-place : goal.returns-in_err-parent-clause-place
 returns-in_err-parent-clause-place c =

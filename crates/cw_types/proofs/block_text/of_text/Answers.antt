@@ -1,6 +1,6 @@
 use Rattle.std.proofs.Common.{arith}
 use Rattle.cw_types.proofs.FormatLaws.{read_bytes}
-use Rattle.cw_types.proofs.block.ChainBlock.of_bytes.Goals as goal
+use Rattle.cw_types.proofs.block_text.of_text.Goals as goal
 
 pub returns-clause-bytes : goal.returns-clause-bytes
 returns-clause-bytes c =

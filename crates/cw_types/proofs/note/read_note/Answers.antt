@@ -1,5 +1,5 @@
 use Rattle.cw_base.proofs.Ends.{end_of_end}
-use Rattle.cw_types.proofs.note.Note.read.Goals as goal
+use Rattle.cw_types.proofs.note.read_note.Goals as goal
 
 pub returns-in-0-clause-place : goal.returns-in-0-clause-place
 returns-in-0-clause-place c =
