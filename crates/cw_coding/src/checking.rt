@@ -83,10 +83,74 @@ impl<H: Hasher> CheckedChunk<H> {
     }
 }
 
-fn is_bad_width(width: usize) -> bool
-    ensures { IsTrue result ↔ IsBadWidth width }
+// What checking a chunk answers.
+pub(crate) fn check_chunk<H: Hasher>(
+    config: &Config,
+    commitment: &H::Digest,
+    index: u16,
+    shard: &Chunk<H::Digest>,
+) -> Result<CheckedChunk<H>, ReedSolomonError>
+    ensures { Checks H.digest_of H.Digest.content config.now commitment.now index shard.now result }
 {
-    width == 0 || width % 2 != 0
+    match stands::<H>(config, commitment, index, shard) {
+        Ok(digest) => match checked::<H>(commitment, index, shard, digest) {
+            Ok(chunk) => Ok(chunk),
+            Err(_) => Err(ReedSolomonError::NoMemory),
+        },
+        Err(error) => Err(error),
+    }
+}
+
+// What checking answers to each chunk at its index.
+pub(crate) fn check_all<H: Hasher, R: Threads + Sync, S: Strategy>(
+    rt: &R,
+    alloc: Global,
+    config: &Config,
+    commitment: &H::Digest,
+    indices: &[u16],
+    shards: &[Chunk<H::Digest>],
+    strategy: &S,
+) -> Result<Vec<Result<CheckedChunk<H>, ReedSolomonError>>, ReedSolomonError>
+    requires lengths { length indices.now ≡ length shards.now }
+    ensures each { IfOk result
+        (λ answers. AllCheck H.digest_of H.Digest.content config.now commitment.now indices.now
+        shards.now answers.items) }
+    ensures memory { IfErr result (λ e. e ≡ ReedSolomonError.NoMemory) }
+{
+    let stood = stand_all::<H, R, S>(rt, alloc, config, commitment, indices, shards, strategy)?;
+    let stood = stood.as_slice();
+    let mut answers = Vec::new(alloc);
+    for i in 0..shards.len() {
+        answers.push(answer::<H>(config, commitment, indices[i], &shards[i], stood[i])?)?;
+    }
+    Ok(answers)
+}
+
+// Whether each chunk stands at its index, by a strategy.
+fn stand_all<H: Hasher, R: Threads + Sync, S: Strategy>(
+    rt: &R,
+    alloc: Global,
+    config: &Config,
+    commitment: &H::Digest,
+    indices: &[u16],
+    shards: &[Chunk<H::Digest>],
+    strategy: &S,
+) -> Result<Vec<Result<H::Digest, ReedSolomonError>>, NoMemory>
+    requires lengths { length indices.now ≡ length shards.now }
+    ensures { IfOk result
+        (λ stood. AllStand H.digest_of H.Digest.content config.now commitment.now indices.now
+        shards.now stood.items) }
+{
+    let mut items = Vec::new(alloc);
+    for i in 0..shards.len() {
+        items.push((indices[i], &shards[i]))?;
+    }
+    let stand = |item: &(u16, &Chunk<H::Digest>)| -> Result<H::Digest, ReedSolomonError>
+        ensures { Stands H.digest_of H.Digest.content config.entry.now commitment.entry.now
+            item.now.0 item.now.1.now result }
+    { stands::<H>(config, commitment, item.0, item.1) };
+    let stood = strategy.map(rt, alloc, &items, &stand)?;
+    Ok(stood)
 }
 
 // The digest of a shard that stands under a commitment at an index, or why it doesn't stand there.
@@ -125,6 +189,31 @@ fn stands<H: Hasher>(
     Ok(digest)
 }
 
+fn is_bad_width(width: usize) -> bool
+    ensures { IsTrue result ↔ IsBadWidth width }
+{
+    width == 0 || width % 2 != 0
+}
+
+// The answer to a chunk that stands, or doesn't, as `stands` said.
+fn answer<H: Hasher>(
+    config: &Config,
+    commitment: &H::Digest,
+    index: u16,
+    shard: &Chunk<H::Digest>,
+    stood: Result<H::Digest, ReedSolomonError>,
+) -> Result<Result<CheckedChunk<H>, ReedSolomonError>, NoMemory>
+    requires { Stands H.digest_of H.Digest.content config.now commitment.now index shard.now stood }
+    ensures checks { IfOk result
+        (λ r. Checks H.digest_of H.Digest.content config.now commitment.now index shard.now r) }
+    ensures memory { IfOk result (λ r. r ≢ Err ReedSolomonError.NoMemory) }
+{
+    match stood {
+        Ok(digest) => Ok(Ok(checked::<H>(commitment, index, shard, digest)?)),
+        Err(error) => Ok(Err(error)),
+    }
+}
+
 // The chunk that was checked, which shares the bytes of the shard.
 fn checked<H: Hasher>(
     commitment: &H::Digest,
@@ -148,93 +237,4 @@ fn checked<H: Hasher>(
         digest,
         hasher: PhantomData,
     })
-}
-
-// What checking a chunk answers.
-pub(crate) fn check_chunk<H: Hasher>(
-    config: &Config,
-    commitment: &H::Digest,
-    index: u16,
-    shard: &Chunk<H::Digest>,
-) -> Result<CheckedChunk<H>, ReedSolomonError>
-    ensures { Checks H.digest_of H.Digest.content config.now commitment.now index shard.now result }
-{
-    match stands::<H>(config, commitment, index, shard) {
-        Ok(digest) => match checked::<H>(commitment, index, shard, digest) {
-            Ok(chunk) => Ok(chunk),
-            Err(_) => Err(ReedSolomonError::NoMemory),
-        },
-        Err(error) => Err(error),
-    }
-}
-
-// The answer to a chunk that stands, or doesn't, as `stands` said.
-fn answer<H: Hasher>(
-    config: &Config,
-    commitment: &H::Digest,
-    index: u16,
-    shard: &Chunk<H::Digest>,
-    stood: Result<H::Digest, ReedSolomonError>,
-) -> Result<Result<CheckedChunk<H>, ReedSolomonError>, NoMemory>
-    requires { Stands H.digest_of H.Digest.content config.now commitment.now index shard.now stood }
-    ensures checks { IfOk result
-        (λ r. Checks H.digest_of H.Digest.content config.now commitment.now index shard.now r) }
-    ensures memory { IfOk result (λ r. r ≢ Err ReedSolomonError.NoMemory) }
-{
-    match stood {
-        Ok(digest) => Ok(Ok(checked::<H>(commitment, index, shard, digest)?)),
-        Err(error) => Ok(Err(error)),
-    }
-}
-
-// Whether each chunk stands at its index, by a strategy.
-fn stand_all<H: Hasher, R: Threads + Sync, S: Strategy>(
-    rt: &R,
-    alloc: Global,
-    config: &Config,
-    commitment: &H::Digest,
-    indices: &[u16],
-    shards: &[Chunk<H::Digest>],
-    strategy: &S,
-) -> Result<Vec<Result<H::Digest, ReedSolomonError>>, NoMemory>
-    requires lengths { length indices.now ≡ length shards.now }
-    ensures { IfOk result
-        (λ stood. AllStand H.digest_of H.Digest.content config.now commitment.now indices.now
-        shards.now stood.items) }
-{
-    let mut items = Vec::new(alloc);
-    for i in 0..shards.len() {
-        items.push((indices[i], &shards[i]))?;
-    }
-    let stand = |item: &(u16, &Chunk<H::Digest>)| -> Result<H::Digest, ReedSolomonError>
-        ensures { Stands H.digest_of H.Digest.content config.entry.now commitment.entry.now
-            item.now.0 item.now.1.now result }
-    { stands::<H>(config, commitment, item.0, item.1) };
-    let stood = strategy.map(rt, alloc, &items, &stand)?;
-    Ok(stood)
-}
-
-// What checking answers to each chunk at its index.
-pub(crate) fn check_all<H: Hasher, R: Threads + Sync, S: Strategy>(
-    rt: &R,
-    alloc: Global,
-    config: &Config,
-    commitment: &H::Digest,
-    indices: &[u16],
-    shards: &[Chunk<H::Digest>],
-    strategy: &S,
-) -> Result<Vec<Result<CheckedChunk<H>, ReedSolomonError>>, ReedSolomonError>
-    requires lengths { length indices.now ≡ length shards.now }
-    ensures each { IfOk result
-        (λ answers. AllCheck H.digest_of H.Digest.content config.now commitment.now indices.now
-        shards.now answers.items) }
-    ensures memory { IfErr result (λ e. e ≡ ReedSolomonError.NoMemory) }
-{
-    let stood = stand_all::<H, R, S>(rt, alloc, config, commitment, indices, shards, strategy)?;
-    let stood = stood.as_slice();
-    let mut answers = Vec::new(alloc);
-    for i in 0..shards.len() {
-        answers.push(answer::<H>(config, commitment, indices[i], &shards[i], stood[i])?)?;
-    }
-    Ok(answers)
 }

@@ -33,30 +33,79 @@ pub(crate) fn gathered<'a, H: Hasher + 'a, I: Iterator<Item = &'a CheckedChunk<H
     Ok(chunks)
 }
 
-// Why a chunk is refused, whatever stands before it.
-fn stray<H: Hasher>(
-    total: u32,
+// The width of chunks that can be decoded.
+pub(crate) fn decodable<H: Hasher>(
+    alloc: Global,
+    config: &Config,
     root: &H::Digest,
-    width: usize,
-    chunk: &CheckedChunk<H>,
-) -> Result<(), ReedSolomonError>
+    shards: &[CheckedChunk<H>],
+) -> Result<usize, ReedSolomonError>
     ensures { MatchResult result
-        (λ _. (chunk.now.root ≡ root.now) × (length chunk.now.shard ≡ width)
-        × (chunk.now.index < total))
-        (λ e. (before : List (Checked H.Digest)) →
-        IsMisfit total root.now width before chunk.now e) }
+        (λ w. (w ≡ width_of shards.now) × AreDecodable config.now root.now shards.now)
+        (λ e. (e ≡ ReedSolomonError.NoMemory)
+        ⊎ IsChunkRefusal config.now root.now shards.now e) }
 {
-    if !chunk.root().is_same(root) {
-        return Err(ReedSolomonError::CommitmentMismatch);
+    let total = config.total_shards();
+    if total > 65535 {
+        return Err(ReedSolomonError::TooManyTotalShards(total));
     }
-    if chunk.shard().len() != width {
-        return Err(ReedSolomonError::Inconsistent);
+    let Some(width) = first_width::<H>(shards) else {
+        return Err(ReedSolomonError::NotEnoughChunks);
+    };
+    if !is_width(total, width) {
+        return Err(ReedSolomonError::ReedSolomon(RsError::InvalidShardSize { shard_bytes: width }));
     }
-    let index = chunk.index();
-    if u32::from(index) >= total {
-        return Err(ReedSolomonError::InvalidIndex(index));
+    if let Err(error) = fitting::<H>(alloc, total, root, width, shards) {
+        return Err(error);
     }
-    Ok(())
+    if shards.len() < usize::from(config.minimum()) {
+        return Err(ReedSolomonError::NotEnoughChunks);
+    }
+    Ok(width)
+}
+
+// Chunks of one width in the order in which they are used.
+#[derive(Drop)]
+pub(crate) struct Given {
+    pub(crate) width: usize,
+    pub(crate) indices: Vec<u16>,
+    pub(crate) rows: Vec<u8>,
+    pub(crate) compared: usize,
+}
+
+pub(crate) fn ordered<H: Hasher>(
+    alloc: Global,
+    k: u16,
+    width: usize,
+    shards: &[CheckedChunk<H>],
+) -> Result<Given, NoMemory>
+    ensures width { IfOk result (λ given. given.width ≡ width) }
+    ensures indices { IfOk result
+        (λ given. given.indices.items ≡ indices_of (in_order k shards.now)) }
+    ensures rows { IfOk result
+        (λ given. given.rows.items ≡ flat_map (λ c. c.shard) (in_order k shards.now)) }
+    ensures compared { IfOk result (λ given. given.compared ≡ compared k shards.now) }
+{
+    let mut indices = Vec::new(alloc);
+    let mut rows = Vec::new(alloc);
+    put_originals::<H>(k, &mut indices, &mut rows, shards)?;
+    let compared = compared_of(indices.len(), shards.len(), k);
+    put_recoveries::<H>(k, &mut indices, &mut rows, shards)?;
+    Ok(Given {
+        width,
+        indices,
+        rows,
+        compared,
+    })
+}
+
+// The width of the first chunk.
+fn first_width<H: Hasher>(shards: &[CheckedChunk<H>]) -> Option<usize>
+    ensures { MatchOption result (length shards.now ≡ 0)
+        (λ width. (0 < length shards.now) × (width ≡ width_of shards.now)) }
+{
+    let first = shards.first()?;
+    Some(first.shard().len())
 }
 
 // Whether shards can have this width.
@@ -96,62 +145,28 @@ fn fitting<H: Hasher>(
     Ok(())
 }
 
-// The width of the first chunk.
-fn first_width<H: Hasher>(shards: &[CheckedChunk<H>]) -> Option<usize>
-    ensures { MatchOption result (length shards.now ≡ 0)
-        (λ width. (0 < length shards.now) × (width ≡ width_of shards.now)) }
-{
-    let first = shards.first()?;
-    Some(first.shard().len())
-}
-
-// The width of chunks that can be decoded.
-pub(crate) fn decodable<H: Hasher>(
-    alloc: Global,
-    config: &Config,
+// Why a chunk is refused, whatever stands before it.
+fn stray<H: Hasher>(
+    total: u32,
     root: &H::Digest,
-    shards: &[CheckedChunk<H>],
-) -> Result<usize, ReedSolomonError>
-    ensures { MatchResult result
-        (λ w. (w ≡ width_of shards.now) × AreDecodable config.now root.now shards.now)
-        (λ e. (e ≡ ReedSolomonError.NoMemory)
-        ⊎ IsChunkRefusal config.now root.now shards.now e) }
-{
-    let total = config.total_shards();
-    if total > 65535 {
-        return Err(ReedSolomonError::TooManyTotalShards(total));
-    }
-    let Some(width) = first_width::<H>(shards) else {
-        return Err(ReedSolomonError::NotEnoughChunks);
-    };
-    if !is_width(total, width) {
-        return Err(ReedSolomonError::ReedSolomon(RsError::InvalidShardSize { shard_bytes: width }));
-    }
-    if let Err(error) = fitting::<H>(alloc, total, root, width, shards) {
-        return Err(error);
-    }
-    if shards.len() < usize::from(config.minimum()) {
-        return Err(ReedSolomonError::NotEnoughChunks);
-    }
-    Ok(width)
-}
-
-// Adds a chunk's index and shard, where it is taken.
-fn put_if<H: Hasher>(
-    taken: bool,
-    indices: &mut Vec<u16>,
-    rows: &mut Vec<u8>,
+    width: usize,
     chunk: &CheckedChunk<H>,
-) -> Result<(), NoMemory>
-    ensures indices { OnOk result
-        (indices.new.items
-        ≡ (if taken then indices.old.items ++ chunk.now.index ∷ [] else indices.old.items)) }
-    ensures rows { OnOk result
-        (rows.new.items ≡ (if taken then rows.old.items ++ chunk.now.shard else rows.old.items)) }
+) -> Result<(), ReedSolomonError>
+    ensures { MatchResult result
+        (λ _. (chunk.now.root ≡ root.now) × (length chunk.now.shard ≡ width)
+        × (chunk.now.index < total))
+        (λ e. (before : List (Checked H.Digest)) →
+        IsMisfit total root.now width before chunk.now e) }
 {
-    if taken {
-        indices.push(chunk.index())?;
-        put_bytes(rows, chunk.shard())?;
+    if !chunk.root().is_same(root) {
+        return Err(ReedSolomonError::CommitmentMismatch);
+    }
+    if chunk.shard().len() != width {
+        return Err(ReedSolomonError::Inconsistent);
+    }
+    let index = chunk.index();
+    if u32::from(index) >= total {
+        return Err(ReedSolomonError::InvalidIndex(index));
     }
     Ok(())
 }
@@ -196,39 +211,24 @@ fn put_recoveries<H: Hasher>(
     Ok(())
 }
 
-// Chunks of one width in the order in which they are used.
-#[derive(Drop)]
-pub(crate) struct Given {
-    pub(crate) width: usize,
-    pub(crate) indices: Vec<u16>,
-    pub(crate) rows: Vec<u8>,
-    pub(crate) compared: usize,
-}
-
-pub(crate) fn ordered<H: Hasher>(
-    alloc: Global,
-    k: u16,
-    width: usize,
-    shards: &[CheckedChunk<H>],
-) -> Result<Given, NoMemory>
-    ensures width { IfOk result (λ given. given.width ≡ width) }
-    ensures indices { IfOk result
-        (λ given. given.indices.items ≡ indices_of (in_order k shards.now)) }
-    ensures rows { IfOk result
-        (λ given. given.rows.items ≡ flat_map (λ c. c.shard) (in_order k shards.now)) }
-    ensures compared { IfOk result (λ given. given.compared ≡ compared k shards.now) }
+// Adds a chunk's index and shard, where it is taken.
+fn put_if<H: Hasher>(
+    taken: bool,
+    indices: &mut Vec<u16>,
+    rows: &mut Vec<u8>,
+    chunk: &CheckedChunk<H>,
+) -> Result<(), NoMemory>
+    ensures indices { OnOk result
+        (indices.new.items
+        ≡ (if taken then indices.old.items ++ chunk.now.index ∷ [] else indices.old.items)) }
+    ensures rows { OnOk result
+        (rows.new.items ≡ (if taken then rows.old.items ++ chunk.now.shard else rows.old.items)) }
 {
-    let mut indices = Vec::new(alloc);
-    let mut rows = Vec::new(alloc);
-    put_originals::<H>(k, &mut indices, &mut rows, shards)?;
-    let compared = compared_of(indices.len(), shards.len(), k);
-    put_recoveries::<H>(k, &mut indices, &mut rows, shards)?;
-    Ok(Given {
-        width,
-        indices,
-        rows,
-        compared,
-    })
+    if taken {
+        indices.push(chunk.index())?;
+        put_bytes(rows, chunk.shard())?;
+    }
+    Ok(())
 }
 
 fn compared_of(originals: usize, chunks: usize, k: u16) -> usize
