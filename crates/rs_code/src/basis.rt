@@ -160,6 +160,37 @@ fn distances_of(points: &[u16], xs: &Eight) -> Eight
     product
 }
 
+/// The product of each target's differences to all points.
+pub fn distances_at(alloc: Global, points: &[u16], targets: &[u16]) -> Result<Vec<u16>, AllocError>
+    ensures count { IfOk result (λ v. length v.items ≡ length targets.now) }
+    ensures each { IfOk result (λ v. (i : ℕ) → i < length targets.now → slice_index v.items i
+        ≡ distance (length points.now) (λ u. slice_index points.now u)
+        (slice_index targets.now i)) }
+{
+    let mut distances = vec![in alloc; 0u16; targets.len()]?;
+    for group in 0..targets.len().div_ceil(8) {
+        let own = distances_of(points, &next_eight(targets, 8 * group));
+        put_eight(&mut distances, 8 * group, &own);
+    }
+    Ok(distances)
+}
+
+/// 1 over the product of each target's differences to all points, where it is none of them.
+pub fn inverses_at(alloc: Global, points: &[u16], targets: &[u16]) -> Result<Vec<u16>, AllocError>
+    ensures count { IfOk result (λ v. length v.items ≡ length targets.now) }
+    ensures each { IfOk result (λ v. (i : ℕ) → i < length targets.now
+        → distance (length points.now) (λ u. slice_index points.now u) (slice_index targets.now i)
+        ≢ 0 → slice_index v.items i ≡ inverse (distance (length points.now)
+        (λ u. slice_index points.now u) (slice_index targets.now i))) }
+{
+    let distances = distances_at(alloc, points, targets)?;
+    let mut inverses = Vec::new(alloc);
+    for i in 0..distances.len() {
+        inverses.push(inverse_or_zero(distances[i]))?;
+    }
+    Ok(inverses)
+}
+
 // What the row at each point counts for in each lane.
 fn coefficients_of(
     alloc: Global,

@@ -30,13 +30,25 @@ fn many_recoveries_are_those_of_an_independent_program(rt: HostRuntime) -> Resul
         assert!(rt; are_recoveries(&rt, rt.alloc(), part)?, "at {count}");
         count = count.wrapping_add(1);
     }
-    assert_eq!(rt; count, 10);
+    assert_eq!(rt; count, 11);
+    Ok(())
+}
+
+// Twelve of 1,030 originals are missing, so few that the rows are found from the codeword of the
+// others.
+#[test]
+fn few_missing_originals_are_rebuilt(rt: HostRuntime) -> Result<(), Fail> {
+    let mut rows = originals_of(rt.alloc(), 1030, 4)?;
+    let found = recoveries(&rt, rt.alloc(), 1030, 12, &rows, 4, &Sequential)?;
+    rows.extend_from_slice(&found)?;
+    let back = rebuilt(&rt, rt.alloc(), 1030, 12, &rows, 4)?;
+    assert!(rt; back.as_slice() == rows.as_slice());
     Ok(())
 }
 
 // Originals, recoveries and the width of a row, then the digest of the recoveries end to end, under
 // SHA-256, as tools/oracle/recoveries.py gives them. The first has one original too few for the
-// other body; the last two are wide enough for two stripes.
+// other body; the last two are wide enough for two stripes. That of 1,030 is rebuilt too, above.
 const RECOVERIES: &str = "\
 == 63 64 66
 8a2835da9221098c7869896228565edf62fe537a05c56359e985672c375b0bc9
@@ -54,6 +66,8 @@ a1a683cb1a32ce70a00591d9620bbcfa7e6b740d9c9db76d2f08541b04e0fe38
 57869e2d0e144ac7243371a8c63181d5a9393c919ba22b67244f813fb118eae6
 == 1100 1100 2
 3544fb578cca564f67ae64f89db9cd882e9367c42bdc5da8537f428c23f48bc6
+== 1030 12 4
+4be8b0a8b2370b26ea246e230fc9666166fa38b8daa1ae6211eb320b67064873
 == 64 64 16386
 072339a18f79177c25c239ea13d84f0493d1e282625d3da48b8d36fe23122c75
 == 70 90 16388

@@ -1,4 +1,4 @@
-use Rattle.std.proofs.Common.{◌≡◌, ℕ, ◌+◌, ◌*◌, ◌/◌, ◌++◌, List, length, get_or, take_at, length-append, ap, ◌∙◌, arith}
+use Rattle.std.proofs.Common.{◌≡◌, ℕ, ◌+◌, ◌*◌, ◌/◌, ◌++◌, List, take_at, length-append, ap, ◌∙◌, arith}
 use Rattle.rs_code.specs.Recipes.{made_count, made_symbol, made_row}
 use Rattle.rs_code.specs.Rows.{joined}
 use Rattle.rs_code.proofs.RowBytes.{joined_same, symbol_bytes_same}
