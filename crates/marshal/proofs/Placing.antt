@@ -1,20 +1,17 @@
--- Where the first of some notes stands, and a map that keeps it.
-use Rattle.std.proofs.Common.{◌≡◌, ℕ, suc, ◌+◌, ◌<◌, ◌≤◌, ◌&&◌, ◌||◌, ◌==◌, ◌⊎◌, inl, inr, Bool, true, false, cond, if◌then◌else◌, nat_lt, refl, sym, ◌∙◌, ap, subst, arith, eq-eqb, List, [], ◌∷◌, ◌++◌, length, Option, Some, None, is_some, slice_get, option_and_then}
+-- Where the first of some elements stands, and a map that keeps it.
+use Rattle.std.proofs.Common.{◌≡◌, ℕ, suc, ◌+◌, ◌<◌, ◌≤◌, ◌&&◌, ◌||◌, ◌==◌, ◌⊎◌, inl, inr, Bool, true, false, cond, nat_lt, refl, sym, ◌∙◌, ap, subst, arith, eq-eqb, List, [], ◌∷◌, ◌++◌, length, Option, Some, None, is_some, slice_get, option_and_then, if◌then◌else◌}
 use Rattle.std.specs.List.{find, list_any, position, position_or_len}
 use Rattle.std.specs.Map.{lookup}
 use Rattle.std.specs.Option.{option_map, option_map_or, option_or}
 use Rattle.std.specs.Ordering.{is_eq}
+use Rattle.std.specs.declared.cmp.Ordering.{Ordering}
 use Rattle.std.proofs.lemmas.Bool.{cases_lt, false≢true, le-ltb, lt-ltb}
 use Rattle.std.proofs.lemmas.Bool.Decides.{nat_tests}
 use Rattle.std.proofs.lemmas.List.Folds.{find_at}
 use Rattle.std.proofs.lemmas.Option.{same_Some, slice_get_past}
-use Rattle.cw_types.specs.Order.{commitment_cmp}
-use Rattle.cw_types.specs.OrderLaws.{commitments_are_told, commitments_tie}
 use Rattle.cw_types.specs.Same.{same_commitment}
 use Rattle.cw_types.specs.declared.commitment.Commitment.{Commitment}
 use Rattle.cw_types.specs.declared.note.Note.{Note}
-use Rattle.cw_types.proofs.Ordered.{found_same}
-use Rattle.cw_types.proofs.Same.{same_commitment-true}
 use Rattle.cw_rules.specs.Accepted.{first_some}
 use Rattle.cw_rules.specs.Held.{noted_block_of}
 use Rattle.cw_rules.specs.Notes.{is_block}
@@ -147,116 +144,128 @@ block_at_place c notes =
 
 -- ---- a map that keeps the places
 
-abbrev pub Entries : Type 0
-Entries = List (Commitment × ℕ)
-
 pub or_none : {X : Type 0} (o : Option X) → option_or o None ≡ o
 or_none None = refl
 or_none (Some x) = refl
 
--- a note that is of a commitment so
-pub kept_first : (p : Commitment → Note → Bool) (old new : Entries) (notes : List Note)
-    (note : Note) (c : Commitment) (place : ℕ)
-    → ((d : Commitment) → p d note ≡ same_commitment d c) → HasFirsts p old notes
-    → KeepsFirst c place old new → place ≡ length notes → HasFirsts p new (notes ++ note ∷ [])
-kept_first p old new notes note c place of has kept at d =
-    kept d
-    ∙ (ap (λ o. option_or o (if same_commitment d c then Some place else None)) (has d)
-    ∙ (ap
-    (λ (n : ℕ). option_or (position (p d) notes)
-    (if same_commitment d c then Some n else None)) at
-    ∙ (ap (λ s. option_or (position (p d) notes) (if s then Some (length notes) else None))
-    (sym (of d))
-    ∙ sym (position_more (p d) notes note))))
+pub none_there : {X : Type 0} (o : Option X) → is_some o ≡ false → o ≡ None
+none_there None h = refl
+none_there (Some x) h = cc
 
--- ---- what changes in the map
+-- over keys, when two are the same, and an order that tells just the others apart
+module _ {K : Type 0} (same : K → K → Bool) (cmp : K → K → Ordering)
+    (ties : (a b : K) → same a b ≡ is_eq (cmp a b)) where
+  -- what a look-up by the order finds
+  pub found_by : {X : Type 0} (es : List (K × X)) (q : K)
+      → lookup (λ (k : K). is_eq (cmp q k)) es ≡ lookup (same q) es
+  found_by [] q = refl
+  found_by {X = X} (e ∷ es) q =
+      ap (λ b. cond b (Some e.1) (lookup (λ (k : K). is_eq (cmp q k)) es)) (sym (ties q e.0))
+      ∙ ap (λ (o : Option X). cond (same q e.0) (Some e.1) o) (found_by es q)
 
--- an update of the map at a commitment
-abbrev pub Sets : Commitment → Option ℕ → Entries → Entries → Type 0
-Sets c w old new =
-    (d : Commitment) → lookup (λ (k : Commitment). is_eq (commitment_cmp d k)) new
-    ≡ cond (is_eq (commitment_cmp c d)) w
-    (lookup (λ (k : Commitment). is_eq (commitment_cmp d k)) old)
+  -- a value at a key, or none there
+  pub set_by : {X : Type 0} → ((a b : K) → same a b ≡ same b a) → (key : K) (w : Option X)
+      (old new : List (K × X))
+      → ((q : K) → lookup (λ (k : K). is_eq (cmp q k)) new
+      ≡ cond (is_eq (cmp key q)) w (lookup (λ (k : K). is_eq (cmp q k)) old))
+      → (q : K) → lookup (same q) new ≡ cond (same q key) w (lookup (same q) old)
+  set_by {X = X} symm key w old new sets q =
+      sym (found_by new q)
+      ∙ (sets q
+      ∙ (ap (λ b. cond b w (lookup (λ (k : K). is_eq (cmp q k)) old))
+      (sym (ties key q) ∙ symm key q)
+      ∙ ap (λ (o : Option X). cond (same q key) w o) (found_by old q)))
 
-set_at : (c : Commitment) (w : Option ℕ) (old new : Entries) → Sets c w old new → (d : Commitment)
-    → lookup (same_commitment d) new
-    ≡ cond (same_commitment d c) w (lookup (same_commitment d) old)
-set_at c w old new sets d =
-    sym (found_same new d)
-    ∙ (sets d
-    ∙ (ap
-    (λ b. cond b w (lookup (λ (k : Commitment). is_eq (commitment_cmp d k)) old))
-    (sym (commitments_tie c d) ∙ commitments_are_told.symm c d)
-    ∙ ap (λ o. cond (same_commitment d c) w o) (found_same old d)))
+  -- a place at a key that had none
+  pub kept_so : (key : K) (place : ℕ) (old new : List (K × ℕ))
+      → KeepsFirst (λ a b. is_eq (cmp a b)) key place old new → KeepsFirst same key place old new
+  kept_so key place old new kept q =
+      sym (found_by new q)
+      ∙ (kept q
+      ∙ (ap (λ o. option_or o (if is_eq (cmp q key) then Some place else None)) (found_by old q)
+      ∙ ap (λ b. option_or (lookup (same q) old) (if b then Some place else None))
+      (sym (ties q key))))
 
-pub none_there : (es : Entries) (c : Commitment)
-    → is_some (lookup (same_commitment c) es) ≡ false → lookup (same_commitment c) es ≡ None
-none_there es c = go (lookup (same_commitment c) es)
-  where
-    go : (o : Option ℕ) → is_some o ≡ false → o ≡ None
-    go None h = refl
-    go (Some i) h = cc
+  -- a place that goes
+  pub gone_so : (key : K) (place : ℕ) (old new : List (K × ℕ))
+      → LetsGo (λ a b. is_eq (cmp a b)) key place old new → LetsGo same key place old new
+  gone_so key place old new gone q =
+      sym (found_by new q)
+      ∙ (gone q
+      ∙ (ap
+      (λ (o : Option ℕ).
+      if is_eq (cmp q key) && option_map_or (λ at. at == place) o false then None else o)
+      (found_by old q)
+      ∙ ap
+      (λ b.
+      if b && option_map_or (λ at. at == place) (lookup (same q) old) false then None
+      else lookup (same q) old)
+      (sym (ties q key))))
 
--- what is found at the same commitment
-found_at : (es : Entries) (c d : Commitment) → same_commitment d c ≡ true
-    → lookup (same_commitment d) es ≡ lookup (same_commitment c) es
-found_at es c d h =
-    ap (λ (e : Commitment). lookup (same_commitment e) es) (same_commitment-true d c h)
+module _ {K X : Type 0} (same : K → K → Bool) (p : K → X → Bool) where
+  -- an element that is of a key so
+  pub kept_first : (old new : List (K × ℕ)) (xs : List X) (x : X) (key : K) (place : ℕ)
+      → ((q : K) → p q x ≡ same q key) → HasFirsts same p old xs
+      → KeepsFirst same key place old new → place ≡ length xs
+      → HasFirsts same p new (xs ++ x ∷ [])
+  kept_first old new xs x key place of has kept at q =
+      kept q
+      ∙ (ap (λ o. option_or o (if same q key then Some place else None)) (has q)
+      ∙ (ap (λ (n : ℕ). option_or (position (p q) xs) (if same q key then Some n else None)) at
+      ∙ (ap (λ s. option_or (position (p q) xs) (if s then Some (length xs) else None))
+      (sym (of q))
+      ∙ sym (position_more (p q) xs x))))
 
-pub first_kept : (old new : Entries) (c : Commitment) (place : ℕ)
-    → lookup (same_commitment c) old ≡ None → Sets c (Some place) old new
-    → KeepsFirst c place old new
-first_kept old new c place none sets d =
-    set_at c (Some place) old new sets d ∙ go (same_commitment d c) refl
-  where
-    go : (s : Bool) → same_commitment d c ≡ s
-        → cond s (Some place) (lookup (same_commitment d) old)
-        ≡ option_or (lookup (same_commitment d) old) (if s then Some place else None)
-    go true e = rw (found_at old c d e ∙ none) refl
-    go false e = sym (or_none (lookup (same_commitment d) old))
+  -- the last element goes, which is of a key so
+  pub first_gone : (old new : List (K × ℕ)) (xs : List X) (x : X) (key : K) (place : ℕ)
+      → ((q : K) → p q x ≡ same q key) → HasFirsts same p old (xs ++ x ∷ [])
+      → LetsGo same key place old new → place ≡ length xs → HasFirsts same p new xs
+  first_gone old new xs x key place of has gone at q =
+      gone q ∙ go (position (p q) xs) refl (same q key) refl
+    where
+      was : lookup (same q) old
+          ≡ option_or (position (p q) xs) (if same q key then Some (length xs) else None)
+      was =
+          has q
+          ∙ (position_more (p q) xs x
+          ∙ ap (λ s. option_or (position (p q) xs) (if s then Some (length xs) else None)) (of q))
 
-pub first_there : (es : Entries) (c : Commitment) (place : ℕ)
-    → is_some (lookup (same_commitment c) es) ≡ true → KeepsFirst c place es es
-first_there es c place some d = go (same_commitment d c) refl
-  where
-    is : (o : Option ℕ) → is_some o ≡ true → o ≡ option_or o (Some place)
-    is None h = absurd (false≢true h)
-    is (Some i) h = refl
+      go : (o : Option ℕ) → position (p q) xs ≡ o → (s : Bool) → same q key ≡ s
+          → (if same q key && option_map_or (λ i. i == place) (lookup (same q) old) false then None
+          else lookup (same q) old)
+          ≡ position (p q) xs
+      go (Some i) e s f =
+          let there : lookup (same q) old ≡ Some i = rw (was, e) refl in
+          let low = position_below (p q) xs i e in
+          let other : (i == place) ≡ false = grind (arith, nat_tests, low, at) in
+          rw (there, other, e) (no (same q key))
+        where
+          no : (b : Bool) → (if b && false then None else Some i) ≡ Some i
+          no true = refl
+          no false = refl
+      go None e true f =
+          let there : lookup (same q) old ≡ Some (length xs) = rw (was, e, f) refl in
+          let is : (length xs == place) ≡ true = eq-eqb (length xs) place (sym at) in
+          rw (there, is, e, f) refl
+      go None e false f =
+          let there : lookup (same q) old ≡ None = rw (was, e, f) refl in
+          rw (there, e, f) refl
 
-    go : (s : Bool) → same_commitment d c ≡ s
-        → lookup (same_commitment d) es
-        ≡ option_or (lookup (same_commitment d) es) (if s then Some place else None)
-    go true e =
-        is (lookup (same_commitment d) es) (ap is_some (found_at es c d e) ∙ some)
-    go false e = sym (or_none (lookup (same_commitment d) es))
+  -- an element that is of no key, at the end
+  pub first_same : (es : List (K × ℕ)) (xs : List X) (x : X) → ((q : K) → p q x ≡ false)
+      → HasFirsts same p es xs → HasFirsts same p es (xs ++ x ∷ [])
+  first_same es xs x none has q =
+      has q
+      ∙ (sym (or_none (position (p q) xs))
+      ∙ (ap (λ s. option_or (position (p q) xs) (if s then Some (length xs) else None))
+      (sym (none q))
+      ∙ sym (position_more (p q) xs x)))
 
-pub last_goes : (old new : Entries) (c : Commitment) (place : ℕ)
-    → option_map_or (λ i. i == place) (lookup (same_commitment c) old) false ≡ true
-    → Sets c None old new → LetsGo c place old new
-last_goes old new c place is sets d =
-    set_at c None old new sets d ∙ go (same_commitment d c) refl
-  where
-    go : (s : Bool) → same_commitment d c ≡ s
-        → cond s None (lookup (same_commitment d) old)
-        ≡ (if s && option_map_or (λ i. i == place) (lookup (same_commitment d) old) false
-        then None else lookup (same_commitment d) old)
-    go true e =
-        rw
-        (ap (λ o. option_map_or (λ i. i == place) o false) (found_at old c d e) ∙ is)
-        refl
-    go false e = refl
-
-pub others_stay : (es : Entries) (c : Commitment) (place : ℕ)
-    → option_map_or (λ i. i == place) (lookup (same_commitment c) es) false ≡ false
-    → LetsGo c place es es
-others_stay es c place isnt d = go (same_commitment d c) refl
-  where
-    go : (s : Bool) → same_commitment d c ≡ s
-        → lookup (same_commitment d) es
-        ≡ (if s && option_map_or (λ i. i == place) (lookup (same_commitment d) es) false
-        then None else lookup (same_commitment d) es)
-    go true e =
-        rw
-        (ap (λ o. option_map_or (λ i. i == place) o false) (found_at es c d e) ∙ isnt)
-        refl
-    go false e = refl
+  -- and without it
+  pub first_less : (es : List (K × ℕ)) (xs : List X) (x : X) → ((q : K) → p q x ≡ false)
+      → HasFirsts same p es (xs ++ x ∷ []) → HasFirsts same p es xs
+  first_less es xs x none has q =
+      has q
+      ∙ (position_more (p q) xs x
+      ∙ (ap (λ s. option_or (position (p q) xs) (if s then Some (length xs) else None)) (none q)
+      ∙ or_none (position (p q) xs)))

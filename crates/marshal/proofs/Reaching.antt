@@ -6,7 +6,7 @@ use Rattle.std.specs.Map.{lookup}
 use Rattle.std.specs.Option.{option_map_or, option_or}
 use Rattle.std.proofs.lemmas.Bool.{cases_Bool, cases_lt, ltb-true}
 use Rattle.std.proofs.lemmas.List.{get_or_append_left, get_or_push, get_or-take, length-take, length_push}
-use Rattle.std.proofs.lemmas.List.Sorted.{IsNonDecreasingBy-short, IsNonDecreasingBy-take}
+use Rattle.std.proofs.lemmas.List.Sorted.{IsNonDecreasingBy-take}
 use Rattle.std.proofs.lemmas.Option.{none-some, same_Some, slice_get-get_or, slice_get_within}
 use Rattle.cw_types.specs.Block.{Block}
 use Rattle.cw_types.specs.Same.{same_commitment}
@@ -23,18 +23,18 @@ use Rattle.marshal.specs.Reach.{AreAbove, HasFinals, IsLifted, Reaches, final_he
 use Rattle.marshal.proofs.Growing.{first_front, held_cases}
 use Rattle.marshal.proofs.Placing.{or_none, position_cons}
 
-front_get : {X : Type 0} (xs ys : List X) (i : ℕ) → i < length xs
+pub front_get : {X : Type 0} (xs ys : List X) (i : ℕ) → i < length xs
     → slice_get (xs ++ ys) i ≡ slice_get xs i
 front_get [] ys i l = absurd (omega (arith, l))
 front_get (x ∷ xs) ys zero l = refl
 front_get (x ∷ xs) ys (suc i) l = front_get xs ys i (omega (arith, l))
 
-end_get : {X : Type 0} (xs : List X) (y : X) → slice_get (xs ++ y ∷ []) (length xs) ≡ Some y
+pub end_get : {X : Type 0} (xs : List X) (y : X) → slice_get (xs ++ y ∷ []) (length xs) ≡ Some y
 end_get [] y = refl
 end_get (x ∷ xs) y = end_get xs y
 
 -- the first that passes stands no later than one that does
-position_upto : {X : Type 0} (p : X → Bool) (xs : List X) (i : ℕ) (x : X) → slice_get xs i ≡ Some x
+pub position_upto : {X : Type 0} (p : X → Bool) (xs : List X) (i : ℕ) (x : X) → slice_get xs i ≡ Some x
     → p x ≡ true → (j : ℕ) × (position p xs ≡ Some j) × (j ≤ i)
 position_upto p [] i x e t = absurd (none-some x e)
 position_upto p (y ∷ ys) zero x e t = (
@@ -65,7 +65,7 @@ position_upto {X = X} p (y ∷ ys) (suc i) x e t =
     )
 
 -- what the block of a note is, under a commitment
-block_is : (c : Commitment) (note : Note) (b : Block) → noted_block_of c note ≡ Some b
+pub block_is : (c : Commitment) (note : Note) (b : Block) → noted_block_of c note ≡ Some b
     → (d : Commitment) × (note ≡ Note.Block d b) × (c ≡ d)
 block_is c (Note.Block d x) b e = go (cases_Bool (same_commitment c d))
   where
@@ -280,7 +280,7 @@ reaches_less notes less note n reach new reaches split at new_is =
 
 -- ---- what is held
 
-taken : {X : Type 0} (P : X → Type 0) (k : ℕ) (xs : List X)
+pub taken : {X : Type 0} (P : X → Type 0) (k : ℕ) (xs : List X)
     → ((i : ℕ) (x : X) → i < k → slice_get xs i ≡ Some x → P x) → AllByRecursion P (take k xs)
 taken P zero xs each = tt
 taken P (suc k) [] each = tt

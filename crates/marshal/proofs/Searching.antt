@@ -1,5 +1,5 @@
 -- What is searched from the first finalization on that may be high enough.
-use Rattle.std.proofs.Common.{◌≡◌, ◌⊎◌, inl, inr, ℕ, zero, suc, ◌<◌, ◌≤◌, ◌==◌, true, if◌then◌else◌, false, cond, nat_lt, drop, take, refl, sym, ◌∙◌, ap, arith, subst, List, [], ◌∷◌, Option, Some, None, IfSome, option_and_then, slice_get}
+use Rattle.std.proofs.Common.{◌≡◌, ◌⊎◌, inl, inr, ℕ, zero, suc, ◌<◌, ◌≤◌, ◌==◌, true, false, cond, nat_lt, drop, take, refl, sym, ◌∙◌, ap, arith, subst, List, [], ◌∷◌, Option, Some, None, IfSome, option_and_then, slice_get, if◌then◌else◌}
 use Rattle.std.specs.List.{AllByRecursion, filter_map}
 use Rattle.std.specs.Option.{option_or}
 use Rattle.std.proofs.lemmas.Bool.{cases_Bool}
@@ -20,7 +20,7 @@ use Rattle.marshal.proofs.Growing.{reached_low}
 
 -- ---- searches
 
-skip : {X Y : Type 0} (f : X → Option Y) (k : ℕ) (xs : List X)
+pub skip : {X Y : Type 0} (f : X → Option Y) (k : ℕ) (xs : List X)
     → AllByRecursion (λ x. f x ≡ None) (take k xs) → first_some f (drop k xs) ≡ first_some f xs
 skip f zero xs none = refl
 skip f (suc k) [] none = refl

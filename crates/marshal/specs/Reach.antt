@@ -15,7 +15,7 @@ is_final c note = option_map_or (λ p. same_commitment c p.payload) (finalizatio
 
 -- a map has the place of the first finalization of each payload
 abbrev pub HasFinals : List (Commitment × ℕ) → List Note → Type 0
-HasFinals = HasFirsts is_final
+HasFinals = HasFirsts same_commitment is_final
 
 -- the height of the noted payload of a finalization
 abbrev pub final_height : List Note → Note → Option ℕ

@@ -1,10 +1,12 @@
-//! Where the first Block note of each commitment stands, and the first finalization of each payload.
+//! Where the first Block note of each commitment stands, and the first finalization of each
+//! payload.
 
 ghost use Rattle.std.specs.Prelude.{◌≡◌, ◌++◌, ◌∷◌, [], List, OnErr, OnOk, length};
 ghost use Rattle.cw_types.specs.declared.note.Note.{Note as NoteValue};
-ghost use Rattle.marshal.specs.Placed.{HasPlaces, KeepsFirst, LetsGo};
+ghost use Rattle.marshal.specs.Placed.{HasPlaces};
 ghost use Rattle.marshal.specs.Reach.{HasFinals};
 
+use crate::maps::{put_first, take_last};
 use cw_base::NoMemory;
 use cw_types::{Commitment, Note};
 use note_scans::finalization_of;
@@ -28,7 +30,7 @@ pub(crate) fn put_place(
 {
     match note {
         Note::Block(commitment, _) => {
-            put_first(places, commitment, place)?;
+            put_first(places, *commitment, place)?;
             Ok(())
         }
         _ => put_final(finals, note, place),
@@ -48,28 +50,11 @@ fn put_final(
 {
     match finalization_of(note) {
         Some(proposal) => {
-            put_first(finals, &proposal.payload, place)?;
+            put_first(finals, proposal.payload, place)?;
             Ok(())
         }
         None => Ok(()),
     }
-}
-
-// Keeps a place at a commitment that has none.
-fn put_first(
-    places: &mut BTreeMap<Commitment, u64>,
-    commitment: &Commitment,
-    place: u64,
-) -> Result<(), NoMemory>
-    ensures ok { OnOk result (KeepsFirst commitment.now place places.old.entries
-        places.new.entries) }
-    ensures err { OnErr result (places.new.entries ≡ places.old.entries) }
-{
-    if places.contains_key(commitment) {
-        return Ok(());
-    }
-    places.insert(*commitment, place)?;
-    Ok(())
 }
 
 /// Lets the place of the last note go.
@@ -99,18 +84,5 @@ fn take_final(finals: &mut BTreeMap<Commitment, u64>, note: &Note, place: u64)
 {
     if let Some(proposal) = finalization_of(note) {
         take_last(finals, &proposal.payload, place);
-    }
-}
-
-// Lets a place go, where it is the one at that commitment.
-fn take_last(places: &mut BTreeMap<Commitment, u64>, commitment: &Commitment, place: u64)
-    ensures { LetsGo commitment.now place places.old.entries places.new.entries }
-{
-    let is_last = match places.get(commitment) {
-        Some(found) => *found == place,
-        None => false,
-    };
-    if is_last {
-        let _ = places.remove(commitment);
     }
 }

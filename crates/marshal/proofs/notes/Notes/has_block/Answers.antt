@@ -8,6 +8,7 @@ pub returns : goal.returns
 returns g c =
     let d = c.args.commitment.now in
     c.contains_key.ensures
-    ∙ (ap is_some (found_same c.self.inside.places.entries d ∙ c.self.invariant.placed d)
+    ∙ (ap is_some
+    (found_same c.self.inside.index.places.entries d ∙ c.self.invariant.indexed.placed d)
     ∙ (position_has (is_block d) c.self.inside.notes.items
     ∙ ap (λ notes. has_block notes d) c.self.view_is))

@@ -13,8 +13,8 @@ returns-in-Some-clause-block g c =
     let d = c.args.commitment.now in
     let notes = c.self.inside.notes.items in
     let is : position (is_block d) notes ≡ Some c.in-Some.place.now =
-    sym (c.self.invariant.placed d)
-    ∙ (sym (found_same c.self.inside.places.entries d) ∙ sym c.in-Some.ensures.value) in
+    sym (c.self.invariant.indexed.placed d)
+    ∙ (sym (found_same c.self.inside.index.places.entries d) ∙ sym c.in-Some.ensures.value) in
     let at =
     block_at_place d notes
     ∙ ap (option_and_then (λ i. option_and_then (noted_block_of d) (slice_get notes i))) is in
@@ -29,8 +29,8 @@ returns-in-None-clause-block g c =
     let d = c.args.commitment.now in
     let notes = c.self.inside.notes.items in
     let is : position (is_block d) notes ≡ None =
-    sym (c.self.invariant.placed d)
-    ∙ (sym (found_same c.self.inside.places.entries d) ∙ sym c.in-None.ensures.value) in
+    sym (c.self.invariant.indexed.placed d)
+    ∙ (sym (found_same c.self.inside.index.places.entries d) ∙ sym c.in-None.ensures.value) in
     sym
     (block_at_place d notes
     ∙ ap (option_and_then (λ i. option_and_then (noted_block_of d) (slice_get notes i))) is)

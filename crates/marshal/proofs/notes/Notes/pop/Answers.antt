@@ -1,39 +1,51 @@
-use Rattle.std.proofs.Common.{◌≡◌, ◌++◌, ◌∷◌, [], List, length, rules, subst}
+use Rattle.std.proofs.Common.{◌≡◌, ◌∙◌, ◌++◌, ◌∷◌, [], List, None, Option, ap, length, map, rules, subst, sym}
+use Rattle.std.specs.List.{AllByRecursion}
+use Rattle.std.proofs.lemmas.List.{length-map}
+use Rattle.cw_base.specs.declared.hash.Digest32.{Digest32}
 use Rattle.cw_types.specs.Values.{IsNote}
 use Rattle.cw_types.specs.declared.note.Note.{Note}
-use Rattle.std.specs.List.{AllByRecursion}
+use Rattle.marshal.specs.Indexed.{AreIndexed}
 use Rattle.marshal.specs.Kept.{note_digest}
-use Rattle.marshal.specs.Placed.{HasPlaces}
-use Rattle.marshal.specs.Reach.{HasFinals}
 use Rattle.marshal.proofs.Reaching.{reaches_less}
-use Rattle.marshal.proofs.Truncating.{all_less, maps_less}
+use Rattle.marshal.proofs.Truncating.{all_less, last_beside, maps_less}
 use Rattle.marshal.proofs.notes.Notes.pop.Goals as goal
 
 pub invariant_of-self : goal.invariant_of-self
 invariant_of-self g c =
     let less = c.pop.new.self.items in
     let note = c.in-Some.note in
+    let old = c.self.inside.digests.items in
+    let new = c.pop-in-Some.new.self.items in
+    let digest = c.unwrap_or-digest.result in
+    let index = c.self.inside.index in
     let split : c.self.inside.notes.items ≡ less ++ note ∷ [] = c.in-Some.ensures.items in
     let at : c.len-place.result ≡ length less = search rules in
+    let digested : new ≡ map (note_digest g.H.Hasher.digest_of) less =
+    maps_less (note_digest g.H.Hasher.digest_of) c.self.inside.notes.items less note _ _ _
+    c.pop-in-Some.result old new split c.self.invariant.digested c.pop-in-Some.ensures.items
+    c.pop-in-Some.ensures.rest c.pop-in-Some.ensures.cases in
+    let beside : old ≡ new ++ digest ∷ [] =
+    last_beside (note_digest g.H.Hasher.digest_of) c.self.inside.notes.items less note _ _ _
+    c.pop-in-Some.result None old new split c.self.invariant.digested c.pop-in-Some.ensures.items
+    c.pop-in-Some.ensures.rest c.pop-in-Some.ensures.cases
+    ∙ ap (λ (d : Option Digest32). new ++ d ∷ []) (sym c.unwrap_or-digest.ensures) in
+    let seen : c.deref.result.now ≡ less = c.deref.ensures.value in
+    let was : AreIndexed (c.deref.result.now ++ note ∷ []) (new ++ digest ∷ []) index =
+    subst (λ (ns : List Note). AreIndexed (ns ++ note ∷ []) (new ++ digest ∷ []) index) (sym seen)
+    (subst (λ (ds : List (Option Digest32)). AreIndexed (less ++ note ∷ []) ds index) beside
+    (subst (λ (ns : List Note). AreIndexed ns old index) split c.self.invariant.indexed)) in
+    let long : length new ≡ length c.deref.result.now =
+    ap length digested
+    ∙ (length-map less (note_digest g.H.Hasher.digest_of) ∙ sym (ap length seen)) in
+    let indexed : AreIndexed less new c.take.new.self =
+    subst (λ (ns : List Note). AreIndexed ns new c.take.new.self) seen (c.take.ensures new was long)
+    in
     record {
       forms =
           all_less IsNote less (note ∷ [])
           (subst (λ (ns : List Note). AllByRecursion IsNote ns) split c.self.invariant.forms);
-      digested =
-          maps_less (note_digest g.H.Hasher.digest_of) c.self.inside.notes.items less note _ _ _
-          c.pop-in-Some.result c.self.inside.digests.items c.pop-in-Some.new.self.items split
-          c.self.invariant.digested c.pop-in-Some.ensures.items c.pop-in-Some.ensures.rest
-          c.pop-in-Some.ensures.cases;
-      placed =
-          c.take_place.ensures.places less
-          (subst (λ (ns : List Note). HasPlaces c.self.inside.places.entries ns) split
-          c.self.invariant.placed)
-          at;
-      finalized =
-          c.take_place.ensures.finals less
-          (subst (λ (ns : List Note). HasFinals c.self.inside.finals.entries ns) split
-          c.self.invariant.finalized)
-          at;
+      digested = digested;
+      indexed = indexed;
       reaching =
           reaches_less c.self.inside.notes.items less note c.len-place.result
           c.self.inside.reach.items c.truncate.new.self.items c.self.invariant.reaching split at
