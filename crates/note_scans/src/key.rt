@@ -8,13 +8,19 @@ use cw_types::{Commitment, Proposal, Vote};
 use std::num::NonZeroU16;
 
 /// The kind of a vote, and what it is on: of one to nullify an epoch and a view. Votes have one key
-/// exactly where they are the same. Kinds above 2 are of what notes say otherwise.
+/// exactly where they are the same. Kinds above 2 are of what notes say otherwise. It stands in the
+/// keys of maps, so it is ordered: by its fields, in their order.
 #[derive(Clone, Copy, Debug, PartialEq, Eq, PartialOrd, Ord)]
 pub struct VoteKey {
+    /// 0 to notarize, 1 to nullify, 2 to finalize, above that as its user says.
     pub kind: u8,
+    /// The epoch that it is of.
     pub epoch: u64,
+    /// The view that it is of.
     pub view: u64,
+    /// The view of the proposal's parent, 0 where there is no proposal.
     pub parent: u64,
+    /// The proposal's payload, or the commitment of zeros where there is no proposal.
     pub payload: Commitment,
 }
 
