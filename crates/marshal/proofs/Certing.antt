@@ -6,9 +6,10 @@ use Rattle.cw_types.specs.declared.note.Note.{Note}
 use Rattle.cw_types.specs.declared.vote.Cert.{Cert}
 use Rattle.cw_types.specs.declared.vote.Vote.{Vote}
 use Rattle.cw_rules.specs.Notes.{has_cert, is_cert}
-use Rattle.marshal.specs.VoteKeys.{HasCerts, is_keyed, key_of, same_key}
-use Rattle.marshal.specs.declared.vote_key.VoteKey.{VoteKey}
-use Rattle.marshal.proofs.Keying.{keys_of_same}
+use Rattle.marshal.specs.Certs.{HasCerts, is_keyed}
+use Rattle.note_scans.specs.Keys.{key_of, same_key}
+use Rattle.note_scans.specs.declared.key.VoteKey.{VoteKey}
+use Rattle.note_scans.proofs.Keys.{keys_of_same}
 use Rattle.marshal.proofs.Placing.{position_has}
 
 any_same : {X : Type 0} (p q : X → Bool) → ((x : X) → p x ≡ q x) → (xs : List X)

@@ -6,7 +6,7 @@ use Rattle.marshal.specs.Digests.{HaveDigests}
 use Rattle.marshal.specs.Placed.{HasPlaces}
 use Rattle.marshal.specs.Reach.{HasFinals}
 use Rattle.marshal.specs.Rounds.{HasVerified}
-use Rattle.marshal.specs.VoteKeys.{HasCerts}
+use Rattle.marshal.specs.Certs.{HasCerts}
 use Rattle.marshal.specs.declared.index.Index.{Index}
 
 -- an index of notes, beside which stand the digests of their blocks: it has where the first Block

@@ -3,12 +3,12 @@
 ghost use Rattle.std.specs.Prelude.{◌≡◌, ◌++◌, ◌∷◌, [], List, OnErr, OnOk, length};
 ghost use Rattle.cw_rules.specs.Notes.{has_cert};
 ghost use Rattle.cw_types.specs.declared.note.Note.{Note as NoteValue};
-ghost use Rattle.marshal.specs.VoteKeys.{HasCerts};
+ghost use Rattle.marshal.specs.Certs.{HasCerts};
 
 use crate::maps::{put_first, take_last};
-use crate::vote_key::VoteKey;
 use cw_base::NoMemory;
 use cw_types::{Note, Vote};
+use note_scans::VoteKey;
 use std::alloc::Global;
 use std::collections::BTreeMap;
 

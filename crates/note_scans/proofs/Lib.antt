@@ -1,4 +1,5 @@
 pub mod Countable
 pub mod Folds
+pub mod Keys
 pub mod Least
 pub mod There

@@ -1,3 +1,4 @@
 pub mod Countable
 pub mod Heights
+pub mod Keys
 pub mod Verified

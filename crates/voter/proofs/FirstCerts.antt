@@ -9,10 +9,10 @@ use Rattle.cw_types.specs.declared.vote.Vote.{Vote}
 use Rattle.cw_types.proofs.Same.{same_cert-true, same_vote_self}
 use Rattle.cw_rules.specs.Accepted.{Ballot, Many, Single, same_ballot}
 use Rattle.voter.specs.Certs.{HasFirst, first_place, has_key}
-use Rattle.voter.specs.Keys.{key_of, same_key}
+use Rattle.note_scans.specs.Keys.{key_of, same_key}
 use Rattle.voter.specs.Known.{is_cert_for}
-use Rattle.voter.specs.declared.key.VoteKey.{VoteKey}
-use Rattle.voter.proofs.Keys.{keys_of_same}
+use Rattle.note_scans.specs.declared.key.VoteKey.{VoteKey}
+use Rattle.note_scans.proofs.Keys.{keys_of_same}
 use Rattle.voter.proofs.Saying.{PutFirst, first_put}
 use Rattle.voter.proofs.Settling.{or_none}
 

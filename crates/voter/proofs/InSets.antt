@@ -8,12 +8,12 @@ use Rattle.std.specs.Ordering.{is_eq, nat_cmp}
 use Rattle.std.specs.Prelude.{Err, Ok, OnErr, OnOk, Result}
 use Rattle.std.proofs.lemmas.Cmp.{nat_eq_equiv}
 use Rattle.std.proofs.lemmas.Option.{same_Some}
-use Rattle.voter.specs.Keys.{key_of, same_key}
+use Rattle.note_scans.specs.Keys.{key_of, same_key}
 use Rattle.voter.specs.Sets.{NoneEmpty, is_in_set}
 use Rattle.cw_types.specs.Same.{same_vote}
-use Rattle.voter.specs.declared.key.VoteKey.{VoteKey}
+use Rattle.note_scans.specs.declared.key.VoteKey.{VoteKey}
 use Rattle.cw_types.specs.declared.vote.Vote.{Vote}
-use Rattle.voter.proofs.Keys.{found_key, key_cmp, keys_of_same, keys_tie, same_key-true, same_key_symm}
+use Rattle.note_scans.proofs.Keys.{found_key, key_cmp, keys_of_same, keys_tie, same_key-true, same_key_symm}
 
 abbrev pub Entries : Type 0
 Entries = List (VoteKey × BTreeSet ℕ)

@@ -11,7 +11,7 @@ use Rattle.cw_types.specs.Votes.{vote_epoch}
 use Rattle.cw_types.specs.declared.vote.Vote.{Vote}
 use Rattle.cw_rules.specs.Owed.{knows}
 use Rattle.cw_rules.proofs.Lists.{filter_rises}
-use Rattle.voter.specs.Keys.{key_of, same_key}
+use Rattle.note_scans.specs.Keys.{key_of, same_key}
 use Rattle.voter.specs.Known.{Known, known_signers, state_of, unless_empty}
 use Rattle.voter.specs.Sets.{is_in_set}
 use Rattle.voter.specs.Signing.{HaveSigners}

@@ -8,7 +8,6 @@ pub mod Formed
 pub mod HeldHeights
 pub mod InSets
 pub mod Kept
-pub mod Keys
 pub mod KnownSigners
 pub mod Lists
 pub mod Once

@@ -8,12 +8,12 @@ use Rattle.std.proofs.lemmas.Cmp.{nat_eq_equiv}
 use Rattle.std.proofs.lemmas.List.Folds.{list_any-append}
 use Rattle.cw_types.specs.Same.{same_commitment}
 use Rattle.cw_types.specs.declared.commitment.Commitment.{Commitment}
-use Rattle.voter.specs.Keys.{same_key}
+use Rattle.note_scans.specs.Keys.{same_key}
 use Rattle.voter.specs.Known.{is_own_at}
 use Rattle.voter.specs.Own.{HasOwn, is_keyed, own_key}
-use Rattle.voter.specs.declared.key.VoteKey.{VoteKey}
+use Rattle.note_scans.specs.declared.key.VoteKey.{VoteKey}
 use Rattle.voter.specs.declared.own.OwnChunk.{OwnChunk}
-use Rattle.voter.proofs.Keys.{found_key, key_cmp}
+use Rattle.note_scans.proofs.Keys.{found_key, key_cmp}
 use Rattle.voter.proofs.Saying.{PutFirst, any_same, first_put}
 
 or_false : (b : Bool) → (b || false) ≡ b

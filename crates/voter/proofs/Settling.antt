@@ -17,8 +17,8 @@ use Rattle.cw_types.specs.declared.vote.Vote.TheVariants.{Finalize, Notarize, Nu
 use Rattle.cw_rules.specs.Accepted.{first_some}
 use Rattle.cw_rules.specs.Notes.{ended, ended_by, ends_in, entry, greatest, settler, settling}
 use Rattle.voter.specs.Facts.{HasEnded, HasSettled, IsEndThere, ended_at, ending, ending_vote, greatest_ended, settled_at, settled_by, settles}
-use Rattle.voter.specs.Keys.{in_view, same_key}
-use Rattle.voter.specs.declared.key.VoteKey.{VoteKey}
+use Rattle.note_scans.specs.Keys.{in_view, same_key}
+use Rattle.note_scans.specs.declared.key.VoteKey.{VoteKey}
 use Rattle.voter.proofs.Saying.{PutFirst, first_put, same_view, some_there}
 
 pub or_none : {X : Type 0} (o : Option X) → option_or o None ≡ o

@@ -19,11 +19,11 @@ use Rattle.cw_rules.specs.Notes.{ended, epoch_of, greatest, has_cert, has_certif
 use Rattle.cw_rules.specs.Owed.{all_nullified, ballot_vote, cert_owed, closes, finalize_owed, has_closed, has_voted, is_ready, is_single, note_proposal, note_vote, notarize_owed}
 use Rattle.cw_rules.specs.Rules.{Rules, genesis_commitment}
 use Rattle.voter.specs.Facts.{HasSaid, said_at}
-use Rattle.voter.specs.Keys.{in_view, key_of, keyed}
+use Rattle.note_scans.specs.Keys.{in_view, key_of, keyed}
 use Rattle.voter.specs.Known.{Known, state_of, vote_rules}
 use Rattle.voter.specs.Owing.{is_turn, is_uncertified, is_votable, owes_finalize, owes_notarize}
 use Rattle.voter.specs.Waiting.{AreWaiting, is_done, is_done_by, is_uncertified_by, undone, with_named}
-use Rattle.voter.specs.declared.key.VoteKey.{VoteKey}
+use Rattle.note_scans.specs.declared.key.VoteKey.{VoteKey}
 use Rattle.voter.proofs.Certified.{cert_where}
 use Rattle.voter.proofs.Once.{append_nil, filter_same_test, taken_named}
 use Rattle.voter.proofs.Saying.{said_cert, said_certified, said_closed}

@@ -4,9 +4,9 @@ use Rattle.std.specs.List.{position_from}
 use Rattle.std.specs.Map.{lookup}
 use Rattle.cw_types.specs.declared.vote.Vote.{Vote}
 use Rattle.cw_rules.specs.Accepted.{Ballot, Many, Single}
-use Rattle.voter.specs.Keys.{key_of, same_key}
+use Rattle.note_scans.specs.Keys.{key_of, same_key}
 use Rattle.voter.specs.Known.{is_cert_for}
-use Rattle.voter.specs.declared.key.VoteKey.{VoteKey}
+use Rattle.note_scans.specs.declared.key.VoteKey.{VoteKey}
 
 -- a certificate of the vote with that key
 abbrev pub has_key : VoteKey → Ballot → Bool

@@ -13,9 +13,9 @@ use Rattle.cw_rules.specs.Accepted.{first_some}
 use Rattle.cw_rules.specs.Held.{greatest_prune}
 use Rattle.cw_rules.specs.Notes.{ended, entered, epoch_of, greatest}
 use Rattle.voter.specs.Heights.{HasBlockHeights, IsBlockThere}
-use Rattle.voter.specs.Keys.{in_view, key_of, keyed, same_key}
+use Rattle.note_scans.specs.Keys.{in_view, key_of, keyed, same_key}
 use Rattle.voter.specs.declared.facts.Facts.{Facts}
-use Rattle.voter.specs.declared.key.VoteKey.{VoteKey}
+use Rattle.note_scans.specs.declared.key.VoteKey.{VoteKey}
 
 -- what a vote of the member's own says of its view: that it voted there, or that it closed it
 abbrev pub own_fact : Vote → VoteKey

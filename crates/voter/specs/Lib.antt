@@ -1,7 +1,6 @@
 pub mod Certs
 pub mod Facts
 pub mod Heights
-pub mod Keys
 pub mod Kinds
 pub mod Known
 pub mod Owing

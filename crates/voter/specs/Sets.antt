@@ -6,8 +6,8 @@ use Rattle.std.specs.Option.{option_map_or}
 use Rattle.std.specs.Ordering.{nat_cmp}
 use Rattle.cw_types.specs.Same.{same_vote}
 use Rattle.cw_types.specs.declared.vote.Vote.{Vote}
-use Rattle.voter.specs.Keys.{key_of, same_key}
-use Rattle.voter.specs.declared.key.VoteKey.{VoteKey}
+use Rattle.note_scans.specs.Keys.{key_of, same_key}
+use Rattle.note_scans.specs.declared.key.VoteKey.{VoteKey}
 
 -- the member is in the set of the vote
 abbrev pub is_in_set : List (VoteKey × BTreeSet ℕ) → Vote → ℕ → Bool

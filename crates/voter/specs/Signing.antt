@@ -10,7 +10,7 @@ use Rattle.cw_rules.specs.Accepted.{Ballot}
 use Rattle.cw_rules.specs.Notes.{has_vote}
 use Rattle.cw_rules.specs.Owed.{is_single}
 use Rattle.voter.specs.Sets.{NoneEmpty, is_in_set}
-use Rattle.voter.specs.declared.key.VoteKey.{VoteKey}
+use Rattle.note_scans.specs.declared.key.VoteKey.{VoteKey}
 
 -- it is a member of the vote's epoch, and is known to have signed the vote
 abbrev pub is_known_signer : Epochs → ℕ → List Note → List Ballot → Vote → ℕ → Bool

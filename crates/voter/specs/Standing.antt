@@ -24,7 +24,7 @@ use Rattle.voter.specs.Own.{HasOwn}
 use Rattle.voter.specs.Signing.{HaveSigners}
 use Rattle.voter.specs.Waiting.{AreWaiting}
 use Rattle.voter.specs.declared.facts.Facts.{Facts}
-use Rattle.voter.specs.declared.key.VoteKey.{VoteKey}
+use Rattle.note_scans.specs.declared.key.VoteKey.{VoteKey}
 use Rattle.voter.specs.declared.own.OwnChunk.{OwnChunk}
 
 -- the tally has the member's committees, its notes, the votes and certificates that came to it, and

@@ -11,8 +11,8 @@ use Rattle.cw_rules.specs.Accepted.{Ballot}
 use Rattle.cw_rules.specs.Notes.{has_cert, has_certified}
 use Rattle.cw_rules.specs.Owed.{ballot_vote, has_closed, note_proposal, note_vote}
 use Rattle.voter.specs.Facts.{said_at}
-use Rattle.voter.specs.Keys.{in_view, keyed}
-use Rattle.voter.specs.declared.key.VoteKey.{VoteKey}
+use Rattle.note_scans.specs.Keys.{in_view, keyed}
+use Rattle.note_scans.specs.declared.key.VoteKey.{VoteKey}
 
 -- each element once, where it first stands
 abbrev pub once : {X : Type 0} → (X → X → Bool) → List X → List X

@@ -5,10 +5,10 @@ ghost use Rattle.cw_rules.specs.Accepted.{Ballot as BallotValue, Many};
 ghost use Rattle.cw_types.specs.declared.vote.Cert.{Cert as CertValue};
 ghost use Rattle.voter.specs.Certs.{HasFirst, first_place};
 
-use crate::key::VoteKey;
 use crate::maps::put_first;
 use cw_base::NoMemory;
 use cw_types::Vote;
+use note_scans::VoteKey;
 use std::alloc::Global;
 use std::collections::BTreeMap;
 

@@ -14,7 +14,6 @@ mod ended;
 mod facts;
 mod heights;
 mod index;
-mod key;
 mod laws;
 mod maps;
 mod own;

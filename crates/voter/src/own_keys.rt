@@ -6,10 +6,10 @@ ghost use Rattle.voter.specs.Known.{is_own_at};
 ghost use Rattle.voter.specs.Own.{HasOwn, own_key};
 ghost use Rattle.voter.specs.declared.own.OwnChunk.{OwnChunk as OwnValue};
 
-use crate::key::VoteKey;
 use crate::maps::put_first;
 use cw_base::NoMemory;
 use cw_types::Commitment;
+use note_scans::VoteKey;
 use std::alloc::Global;
 use std::collections::BTreeMap;
 

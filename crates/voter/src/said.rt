@@ -5,12 +5,12 @@ ghost use Rattle.cw_rules.specs.Notes as rule;
 ghost use Rattle.cw_rules.specs.Owed as owed;
 ghost use Rattle.cw_types.specs.declared.note.Note.{Note as NoteValue};
 ghost use Rattle.voter.specs.Facts.{HasSaid, IsThere, fact_of, own_fact, said_at};
-ghost use Rattle.voter.specs.Keys.{in_view, key_of, keyed};
+ghost use Rattle.note_scans.specs.Keys.{in_view, key_of, keyed};
 
-use crate::key::VoteKey;
 use crate::maps::{put_first, put_there};
 use cw_base::NoMemory;
 use cw_types::{Note, Proposal, Vote};
+use note_scans::VoteKey;
 use std::alloc::Global;
 use std::collections::BTreeMap;
 

@@ -6,10 +6,10 @@ ghost use Rattle.cw_rules.specs.Notes as rule;
 ghost use Rattle.cw_types.specs.declared.note.Note.{Note as NoteValue};
 ghost use Rattle.voter.specs.Facts.{HasSettled, settled_by, settles};
 
-use crate::key::VoteKey;
 use crate::maps::put_first;
 use cw_base::NoMemory;
 use cw_types::{Commitment, Note, Proposal, Vote};
+use note_scans::VoteKey;
 use std::alloc::Global;
 use std::collections::BTreeMap;
 

@@ -2,12 +2,12 @@
 
 ghost use Rattle.std.specs.Prelude.{◌≡◌, [], OnErr, OnOk, option_map};
 ghost use Rattle.std.specs.Map.{lookup};
-ghost use Rattle.voter.specs.Keys.{key_of, same_key};
+ghost use Rattle.note_scans.specs.Keys.{key_of, same_key};
 ghost use Rattle.voter.specs.Sets.{AreSameSets, HaveAdded, HaveRemoved, NoneEmpty, is_in_set};
 
-use crate::key::VoteKey;
 use cw_base::NoMemory;
 use cw_types::Vote;
+use note_scans::VoteKey;
 use std::alloc::Global;
 use std::collections::{BTreeMap, BTreeSet};
 

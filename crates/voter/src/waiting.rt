@@ -12,7 +12,7 @@ ghost use Rattle.cw_types.specs.Same.{same_proposal, same_vote};
 ghost use Rattle.cw_types.specs.Votes.{proposal_of};
 ghost use Rattle.cw_types.specs.declared.note.Note.{Note as NoteValue};
 ghost use Rattle.voter.specs.Facts.{HasSaid, said_at};
-ghost use Rattle.voter.specs.Keys.{key_of};
+ghost use Rattle.note_scans.specs.Keys.{key_of};
 ghost use Rattle.voter.specs.Waiting.{AreWaiting, is_done_by, is_uncertified_by, with_named};
 
 use crate::said::Said;

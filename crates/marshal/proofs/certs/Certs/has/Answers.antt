@@ -1,9 +1,9 @@
 use Rattle.std.proofs.Common.{◌∙◌, ap, is_some}
 use Rattle.std.specs.Map.{lookup}
-use Rattle.marshal.specs.VoteKeys.{same_key}
-use Rattle.marshal.specs.declared.vote_key.VoteKey.{VoteKey}
+use Rattle.note_scans.specs.Keys.{same_key}
+use Rattle.note_scans.specs.declared.key.VoteKey.{VoteKey}
 use Rattle.marshal.proofs.Certing.{cert_there}
-use Rattle.marshal.proofs.Keying.{key_cmp, keys_tie}
+use Rattle.note_scans.proofs.Keys.{key_cmp, keys_tie}
 use Rattle.marshal.proofs.Placing.{found_by}
 use Rattle.marshal.proofs.certs.Certs.has.Goals as goal
 

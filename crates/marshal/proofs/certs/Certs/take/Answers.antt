@@ -1,7 +1,8 @@
 use Rattle.std.proofs.Common.{◌∙◌, ap, sym}
-use Rattle.marshal.specs.VoteKeys.{is_keyed, same_key}
+use Rattle.marshal.specs.Certs.{is_keyed}
+use Rattle.note_scans.specs.Keys.{same_key}
 use Rattle.marshal.proofs.Certing.{none_keyed}
-use Rattle.marshal.proofs.Keying.{key_cmp, keys_tie}
+use Rattle.note_scans.proofs.Keys.{key_cmp, keys_tie}
 use Rattle.marshal.proofs.Placing.{first_gone, first_less, gone_so}
 use Rattle.marshal.proofs.certs.Certs.take.Goals as goal
 

@@ -1,9 +1,9 @@
 use Rattle.std.proofs.Common.{◌∙◌, ap}
 use Rattle.std.specs.Map.{lookup}
-use Rattle.voter.specs.Keys.{same_key}
-use Rattle.voter.specs.declared.key.VoteKey.{VoteKey}
+use Rattle.note_scans.specs.Keys.{same_key}
+use Rattle.note_scans.specs.declared.key.VoteKey.{VoteKey}
 use Rattle.voter.proofs.FirstCerts.{first_told}
-use Rattle.voter.proofs.Keys.{found_key}
+use Rattle.note_scans.proofs.Keys.{found_key}
 use Rattle.voter.proofs.cert_places.Certs.place.Goals as goal
 
 pub returns : goal.returns

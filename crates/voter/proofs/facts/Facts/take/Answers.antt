@@ -3,7 +3,7 @@ use Rattle.cw_types.specs.declared.commitment.Commitment.{Commitment}
 use Rattle.cw_rules.specs.Held.{pruned_height}
 use Rattle.cw_rules.specs.Notes.{entered}
 use Rattle.voter.specs.Facts.{HasSettled}
-use Rattle.voter.specs.declared.key.VoteKey.{VoteKey}
+use Rattle.note_scans.specs.declared.key.VoteKey.{VoteKey}
 use Rattle.voter.proofs.Settling.{greatest_with}
 use Rattle.voter.proofs.facts.Facts.take.Goals as goal
 

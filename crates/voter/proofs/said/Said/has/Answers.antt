@@ -1,5 +1,5 @@
 use Rattle.std.proofs.Common.{◌∙◌, Bool, false, Option, ap, unwrap_or}
-use Rattle.voter.proofs.Keys.{found_key}
+use Rattle.note_scans.proofs.Keys.{found_key}
 use Rattle.voter.proofs.said.Said.has.Goals as goal
 
 pub returns-in-Some : goal.returns-in-Some

@@ -1,6 +1,6 @@
 use Rattle.std.proofs.Common.{◌∙◌, ap}
 use Rattle.voter.specs.Facts.{said_at}
-use Rattle.voter.specs.Keys.{key_of}
+use Rattle.note_scans.specs.Keys.{key_of}
 use Rattle.voter.proofs.Saying.{said_cert}
 use Rattle.voter.proofs.said.Said.has_cert.Goals as goal
 

@@ -1,6 +1,6 @@
 use Rattle.std.proofs.Common.{◌∙◌, ap}
 use Rattle.voter.specs.Facts.{said_at}
-use Rattle.voter.specs.Keys.{keyed}
+use Rattle.note_scans.specs.Keys.{keyed}
 use Rattle.voter.proofs.Saying.{said_certified}
 use Rattle.voter.proofs.said.Said.has_certified.Goals as goal
 

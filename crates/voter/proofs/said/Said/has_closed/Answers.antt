@@ -1,6 +1,6 @@
 use Rattle.std.proofs.Common.{◌∙◌, ap}
 use Rattle.voter.specs.Facts.{said_at}
-use Rattle.voter.specs.Keys.{in_view}
+use Rattle.note_scans.specs.Keys.{in_view}
 use Rattle.voter.proofs.Saying.{said_closed}
 use Rattle.voter.proofs.said.Said.has_closed.Goals as goal
 

@@ -1,7 +1,7 @@
 use Rattle.std.proofs.Common.{◌||◌, ◌∙◌, ap, sym}
 use Rattle.std.specs.List.{list_any}
 use Rattle.voter.specs.Facts.{said_at, says}
-use Rattle.voter.specs.Keys.{in_view}
+use Rattle.note_scans.specs.Keys.{in_view}
 use Rattle.voter.proofs.Saying.{said_voted}
 use Rattle.voter.proofs.said.Said.has_voted.Goals as goal
 

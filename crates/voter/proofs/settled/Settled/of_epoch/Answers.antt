@@ -1,8 +1,8 @@
 use Rattle.std.proofs.Common.{◌∙◌, ap}
 use Rattle.std.specs.Map.{lookup}
-use Rattle.voter.specs.Keys.{in_view, same_key}
-use Rattle.voter.specs.declared.key.VoteKey.{VoteKey}
-use Rattle.voter.proofs.Keys.{found_key}
+use Rattle.note_scans.specs.Keys.{in_view, same_key}
+use Rattle.note_scans.specs.declared.key.VoteKey.{VoteKey}
+use Rattle.note_scans.proofs.Keys.{found_key}
 use Rattle.voter.proofs.Settling.{settled_epoch}
 use Rattle.voter.proofs.settled.Settled.of_epoch.Goals as goal
 

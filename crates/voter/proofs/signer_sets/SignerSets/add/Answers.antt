@@ -4,10 +4,10 @@ use Rattle.std.specs.BTreeSet.{BTreeSet, insert_key}
 use Rattle.std.specs.List.{list_any}
 use Rattle.std.specs.Map.{lookup}
 use Rattle.std.specs.Ordering.{is_eq, nat_cmp}
-use Rattle.voter.specs.Keys.{key_of, same_key}
+use Rattle.note_scans.specs.Keys.{key_of, same_key}
 use Rattle.voter.specs.Sets.{NoneEmpty}
-use Rattle.voter.specs.declared.key.VoteKey.{VoteKey}
-use Rattle.voter.proofs.Keys.{found_key}
+use Rattle.note_scans.specs.declared.key.VoteKey.{VoteKey}
+use Rattle.note_scans.proofs.Keys.{found_key}
 use Rattle.voter.proofs.InSets.{Sets, in_none, in_there, more_apart, more_by, none_empty, on_err, one_more, set_changed}
 use Rattle.voter.proofs.signer_sets.SignerSets.add.Goals as goal
 

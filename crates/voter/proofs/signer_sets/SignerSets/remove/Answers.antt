@@ -2,10 +2,10 @@ use Rattle.std.proofs.Common.{◌≡◌, ◌∙◌, ◌&&◌, ◌==◌, ℕ, Som
 use Rattle.std.specs.BTreeMap.{BTreeMap}
 use Rattle.std.specs.BTreeSet.{BTreeSet}
 use Rattle.std.specs.Map.{lookup}
-use Rattle.voter.specs.Keys.{key_of, same_key}
+use Rattle.note_scans.specs.Keys.{key_of, same_key}
 use Rattle.voter.specs.Sets.{is_in_set}
-use Rattle.voter.specs.declared.key.VoteKey.{VoteKey}
-use Rattle.voter.proofs.Keys.{found_key}
+use Rattle.note_scans.specs.declared.key.VoteKey.{VoteKey}
+use Rattle.note_scans.proofs.Keys.{found_key}
 use Rattle.voter.proofs.InSets.{Sets, in_there, less_apart, less_by, less_none, one_less, set_changed}
 use Rattle.voter.proofs.signer_sets.SignerSets.remove.Goals as goal
 

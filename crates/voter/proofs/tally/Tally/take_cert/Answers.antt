@@ -6,7 +6,7 @@ use Rattle.voter.specs.Known.{Known}
 use Rattle.voter.specs.Signing.{HaveSigners}
 use Rattle.voter.specs.Standing.{are_signers, is_formed, is_signed}
 use Rattle.voter.specs.Waiting.{AreWaiting}
-use Rattle.voter.specs.declared.key.VoteKey.{VoteKey}
+use Rattle.note_scans.specs.declared.key.VoteKey.{VoteKey}
 use Rattle.voter.proofs.Signing.{cert_signed}
 use Rattle.voter.proofs.Taking.{all_more, taken_back}
 use Rattle.voter.proofs.tally.Tally.take_cert.Goals as goal

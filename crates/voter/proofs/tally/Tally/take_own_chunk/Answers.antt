@@ -1,6 +1,6 @@
 use Rattle.std.proofs.Common.{Bool, List, refl, subst, sym}
 use Rattle.voter.specs.Own.{HasOwn}
-use Rattle.voter.specs.declared.key.VoteKey.{VoteKey}
+use Rattle.note_scans.specs.declared.key.VoteKey.{VoteKey}
 use Rattle.voter.specs.declared.own.OwnChunk.{OwnChunk}
 use Rattle.voter.proofs.Taking.{taken_back}
 use Rattle.voter.proofs.tally.Tally.take_own_chunk.Goals as goal

@@ -3,7 +3,7 @@ use Rattle.cw_types.specs.Same.{same_proposal}
 use Rattle.cw_types.specs.declared.vote.Proposal.{Proposal}
 use Rattle.cw_types.specs.declared.vote.Vote.{Vote}
 use Rattle.voter.specs.Facts.{said_at}
-use Rattle.voter.specs.Keys.{key_of}
+use Rattle.note_scans.specs.Keys.{key_of}
 use Rattle.voter.specs.Waiting.{is_done_by, with_named}
 use Rattle.voter.proofs.Undone.{came_waiting}
 use Rattle.voter.proofs.waiting.Waiting.take_came.Goals as goal

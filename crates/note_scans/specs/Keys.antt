@@ -1,13 +1,11 @@
--- What names a vote in a map, and where the first certificate of each vote stands.
-use Rattle.std.specs.Prelude.{ℕ, ◌&&◌, ◌==◌, Bool, List, false, replicate}
+-- What names a vote in a map.
+use Rattle.std.specs.Prelude.{ℕ, ◌&&◌, ◌==◌, Bool, replicate}
 use Rattle.cw_types.specs.Same.{same_commitment}
 use Rattle.cw_types.specs.declared.commitment.Commitment.{Commitment}
-use Rattle.cw_types.specs.declared.note.Note.{Note}
+use Rattle.note_scans.specs.declared.key.VoteKey.{VoteKey}
 use Rattle.cw_types.specs.declared.vote.Proposal.{Proposal}
 use Rattle.cw_types.specs.declared.vote.Vote.{Vote}
 use Rattle.cw_types.specs.declared.vote.Vote.TheVariants.{Finalize, Notarize, Nullify}
-use Rattle.marshal.specs.Placed.{HasFirsts}
-use Rattle.marshal.specs.declared.vote_key.VoteKey.{VoteKey}
 
 -- what stands in the key of a vote that is on no payload
 abbrev pub no_payload : Commitment
@@ -28,11 +26,15 @@ keyed kind p = record {
   payload = p.payload;
 }
 
+-- that of a view of an epoch, of which it says something of this kind
+abbrev pub in_view : ℕ → ℕ → ℕ → VoteKey
+in_view kind epoch view =
+    record { kind = kind; epoch = epoch; view = view; parent = 0; payload = no_payload }
+
 -- that of a vote
 abbrev pub key_of : Vote → VoteKey
 key_of (Notarize p) = keyed 0 p
-key_of (Nullify epoch view) =
-    record { kind = 1; epoch = epoch; view = view; parent = 0; payload = no_payload }
+key_of (Nullify epoch view) = in_view 1 epoch view
 key_of (Finalize p) = keyed 2 p
 
 -- the keys of one vote
@@ -42,12 +44,3 @@ same_key a b =
     && ((a.epoch == b.epoch)
     && ((a.view == b.view)
     && ((a.parent == b.parent) && same_commitment a.payload b.payload)))
-
--- the note is a certificate of the vote with that key
-abbrev pub is_keyed : VoteKey → Note → Bool
-is_keyed q (Note.Cert s) = same_key q (key_of s.vote)
-is_keyed q _ = false
-
--- a map has the place of the first certificate of each vote
-abbrev pub HasCerts : List (VoteKey × ℕ) → List Note → Type 0
-HasCerts = HasFirsts same_key is_keyed

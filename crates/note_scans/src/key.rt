@@ -1,21 +1,27 @@
 //! What names a vote in a map, or something that notes say of a proposal or a view.
 
 ghost use Rattle.std.specs.Prelude.{◌≡◌};
-ghost use Rattle.voter.specs.Keys.{in_view, key_of, keyed, no_payload};
+ghost use Rattle.note_scans.specs.Keys.{in_view, key_of, keyed, no_payload};
 
 use cw_base::{Config, Digest, Digest32};
 use cw_types::{Commitment, Proposal, Vote};
 use std::num::NonZeroU16;
 
 /// The kind of a vote, and what it is on: of one to nullify an epoch and a view. Votes have one key
-/// exactly where they are the same. Kinds above 2 are of what notes say otherwise.
+/// exactly where they are the same. Kinds above 2 are of what notes say otherwise. It stands in the
+/// keys of maps, so it is ordered: by its fields, in their order.
 #[derive(Clone, Copy, Debug, PartialEq, Eq, PartialOrd, Ord)]
-pub(crate) struct VoteKey {
-    pub(crate) kind: u8,
-    pub(crate) epoch: u64,
-    pub(crate) view: u64,
-    pub(crate) parent: u64,
-    pub(crate) payload: Commitment,
+pub struct VoteKey {
+    /// 0 to notarize, 1 to nullify, 2 to finalize, above that as its user says.
+    pub kind: u8,
+    /// The epoch that it is of.
+    pub epoch: u64,
+    /// The view that it is of.
+    pub view: u64,
+    /// The view of the proposal's parent, 0 where there is no proposal.
+    pub parent: u64,
+    /// The proposal's payload, or the commitment of zeros where there is no proposal.
+    pub payload: Commitment,
 }
 
 // What stands in the key of a vote that is on no payload.
@@ -35,7 +41,7 @@ fn no_payload() -> Commitment
 
 impl VoteKey {
     /// What is of this kind of a proposal.
-    pub(crate) fn on(kind: u8, proposal: &Proposal) -> VoteKey
+    pub fn on(kind: u8, proposal: &Proposal) -> VoteKey
         ensures { result ≡ keyed kind proposal.now }
     {
         VoteKey {
@@ -48,7 +54,7 @@ impl VoteKey {
     }
 
     /// What is of this kind of a view of an epoch.
-    pub(crate) fn in_view(kind: u8, epoch: u64, view: u64) -> VoteKey
+    pub fn in_view(kind: u8, epoch: u64, view: u64) -> VoteKey
         ensures { result ≡ in_view kind epoch view }
     {
         VoteKey {
@@ -61,7 +67,7 @@ impl VoteKey {
     }
 
     /// That of a vote.
-    pub(crate) fn new(vote: &Vote) -> VoteKey
+    pub fn new(vote: &Vote) -> VoteKey
         ensures { result ≡ key_of vote.now }
     {
         match vote {

@@ -11,9 +11,9 @@ use Rattle.cw_types.specs.Order.{commitment_cmp}
 use Rattle.cw_types.specs.OrderLaws.{commitments_are_ordered, commitments_tie}
 use Rattle.cw_types.specs.Same.{same_commitment}
 use Rattle.cw_types.proofs.Same.{same_commitment-true, same_commitment_self}
-use Rattle.voter.specs.Keys.{key_of, keyed, no_payload, same_key}
+use Rattle.note_scans.specs.Keys.{key_of, keyed, no_payload, same_key}
 use Rattle.cw_types.specs.Same.{same_proposal, same_vote}
-use Rattle.voter.specs.declared.key.VoteKey.{VoteKey}
+use Rattle.note_scans.specs.declared.key.VoteKey.{VoteKey}
 use Rattle.cw_types.specs.declared.vote.Proposal.{Proposal}
 use Rattle.cw_types.specs.declared.vote.Vote.{Vote}
 use Rattle.cw_types.specs.declared.vote.Vote.TheVariants.{Finalize, Notarize, Nullify}
