@@ -11,6 +11,7 @@ ghost use Rattle.shards.specs.Enough.{AreOfText, IsRooted};
 
 use crate::checks::checked_all;
 use crate::queue::ChunkQueue;
+use bytes::Bytes;
 use cw_base::{Digest32, Hasher, NoMemory, Strategy};
 use cw_coding::{Chunk, ReedSolomon, ReedSolomonError, Scheme, encodings_decode};
 use cw_rules_coded::coded_laws;
@@ -110,19 +111,20 @@ fn has_digests(commitment: &Commitment, block: &Digest32, context: &Digest32) ->
     *block == commitment.block && *context == commitment.context
 }
 
-// The block whose bytes the text is, where the commitment names it.
+// The block whose bytes the text is, where the commitment names it. Its payload keeps a part of
+// them.
 fn block_of<H: Hasher<Digest = Digest32>>(
     alloc: Global,
     commitment: &Commitment,
-    text: &[u8],
+    text: &Bytes,
 ) -> Result<Option<ChainBlock>, NoMemory>
     requires { IsRooted H.digest_of commitment.now text.now }
     ensures { IfOk result (λ block. block
         ≡ option_and_then (if_named H.digest_of commitment.now) (block_in text.now)) }
 {
-    match ChainBlock::of_bytes(alloc, text)? {
+    match ChainBlock::of_shared(alloc, text)? {
         Some(block) => {
-            if is_named::<H>(commitment, &block, text) {
+            if is_named::<H>(commitment, &block, text.as_slice()) {
                 Ok(Some(block))
             } else {
                 Ok(None)
@@ -148,7 +150,7 @@ pub(crate) fn shown<H: Hasher<Digest = Digest32>, R: Threads + Sync, S: Strategy
     blocks_are_bounded();
     blocks_read_back();
     match decoded::<H, R, S>(rt, alloc, commitment, chunks, strategy)? {
-        Some(text) => block_of::<H>(alloc, commitment, &text),
+        Some(text) => block_of::<H>(alloc, commitment, &Bytes::from_vec(text)?),
         None => Ok(None),
     }
 }
