@@ -20,7 +20,6 @@ use Rattle.hail_world.specs.Runs.{IsStopped}
 use Rattle.hail_world.specs.Seats.{Seat}
 use Rattle.hail_world.specs.Played.{Begin, HavePlayed, entries_of}
 use Rattle.hail_report.proofs.Numbered.{sent_more}
-use Rattle.hail_world.proofs.Outcomes.{run_more}
 use Rattle.cw_rules.proofs.Changes.{flags_kept}
 
 -- ---- more lines behind some
@@ -95,6 +94,11 @@ clash_behind r w (l ∷ lines) more earlier later e =
         ∙ e
 
 -- ---- one line more
+
+pub run_more : (r : Rules) (w : World) (lines : List Line) (line : Line)
+    → run r w (lines ++ line ∷ []) ≡ happens r (run r w lines) line
+run_more r w [] line = refl
+run_more r w (l ∷ lines) line = run_more r (happens r w l) lines line
 
 pub lines_more : (rows : List (ℕ × Line)) (number : ℕ) (line : Line)
     → lines_of (rows ++ (number, line) ∷ []) ≡ lines_of rows ++ line ∷ []

@@ -13,17 +13,13 @@ use Rattle.hail_script.specs.declared.error.RunError.TheVariants as error
 use Rattle.hail_script.specs.declared.event.EventLine.{EventLine}
 use Rattle.hail_script.specs.Events.{line_of}
 use Rattle.hail_script.specs.Lanes.{Laned, laned_of, lanes, rows}
-use Rattle.hail_world.specs.declared.blocks.KnownBlocks.{KnownBlocks}
-use Rattle.hail_world.specs.declared.place.Place.{Place}
-use Rattle.hailstorm.specs.Reports.{Report}
-use Rattle.hail_world.specs.Played.{IsReportOf, lines_of}
-use Rattle.hailstorm.specs.Lanes.{IsLanesCause, IsLanesReport, lane_at, left, played, without_next}
-use Rattle.hail_world.specs.Places.{SitAs, WorkBy, rules_of}
-use Rattle.hail_world.specs.Runs.{GoesBy, opened}
-use Rattle.hail_world.specs.Seats.{Seat}
+use Rattle.hail_script.specs.Scenario.{Scenario}
+use Rattle.hail_world.specs.Clusters.{Cluster}
+use Rattle.hailstorm.specs.Lanes.{IsLanesCause, lane_at, left, without_next}
+use Rattle.hail_world.specs.Places.{rules_of}
 use Rattle.hailstorm.specs.Turns.{IsBetween, IsOver, IsTurnBy, IsTurnOf, IsTurning, Turning, between, told_order}
 use Rattle.hail_world.proofs.Known.{count_lines}
-use Rattle.hailstorm.proofs.Laned.{TellsApart, count_rows, lanes_clashed, lanes_reported}
+use Rattle.hailstorm.proofs.Laned.{TellsApart, count_rows, lanes_clashed}
 use Rattle.hailstorm.proofs.Merging.{fewer_left, left_more}
 
 pub rows_many : (x : Laned) (es : List EventLine) → map line_of es ≡ x.script.lines
@@ -31,22 +27,15 @@ pub rows_many : (x : Laned) (es : List EventLine) → map line_of es ≡ x.scrip
 rows_many x es is = count_rows x ∙ ap (λ (l : List Line). length l) (sym is) ∙ count_lines es
 
 module _ (hash : List ℕ → Digest32) (x : Laned) (order : List ℕ) (stopped : Option RunError)
-    (opens : List Entry) (cursors : List (ℕ × ℕ)) (steps : List Entry) (places : List (Place Seat))
-    (known : KnownBlocks) (faulty : List Bool)
-    (h : IsTurning hash x order stopped opens cursors steps places known faulty) where
+    (cluster : Cluster) (cursors : List (ℕ × ℕ))
+    (h : IsTurning hash x order stopped cluster cursors) where
   -- no clash was met yet
-  pub between_of : stopped ≡ None → IsBetween hash x order cursors steps places known faulty
-  between_of none =
-      (subst
-      (λ (o : Option RunError). IsTurning hash x order o opens cursors steps places known faulty)
-      none h).1
+  pub between_of : stopped ≡ None → IsBetween x order cluster cursors
+  between_of none = subst (λ (o : Option RunError). IsTurning hash x order o cluster cursors) none h
 
   -- why no further line is played
   pub over_of : (e : RunError) → stopped ≡ Some e → IsOver hash x order e
-  over_of e is =
-      (subst
-      (λ (o : Option RunError). IsTurning hash x order o opens cursors steps places known faulty)
-      is h).1
+  over_of e is = subst (λ (o : Option RunError). IsTurning hash x order o cluster cursors) is h
 
   -- a lane without a cursor before its end has no line left
   pub nothing_next : (seen : List (ℕ × ℕ)) (count k : ℕ) → stopped ≡ None → seen ≡ cursors
@@ -85,38 +74,17 @@ module _ (hash : List ℕ → Digest32) (x : Laned) (order : List ℕ) (stopped 
             (some (rows x) many),
       )
 
-  -- the report of its end
-  pub ends_reported : {H : Type 0} (text : List ℕ) (report : Report H) → laned_of text ≡ Ok x
-      → stopped ≡ None → flat_map (λ lane. lane) (left (lanes x) order) ≡ []
-      → ((r : Rules) (w : World) → GoesBy hash r → WorkBy r 0 places → SitAs places w.members
-      → IsReportOf r w opens steps report)
-      → IsCluster (rules_of hash x.script) x.script.lines → 0 < x.script.backlog
-      → ((r : Rules) (script : List Line) (w : World) → IsCluster r script → 0 < r.backlog
-      → outcome r (opening r script) script ≡ Ends w
-      → IsReported r w (handed_in r script) (report_of r script w).chain)
-      → IsLanesReport hash text order report
-  ends_reported text report spells none left_none told cluster some law =
-      let b = between_of none in
-      let r = rules_of hash x.script in
-      let w = run r (opened hash x.script) (lines_of (played x order)) in
-      lanes_reported hash text x order opens steps cursors places known faulty report spells b h.0
-      left_none
-      (told r w (record { hashes = refl; blocks = refl; contexts = refl }) b.sound b.played.members)
-      cluster some law
-
--- the same, whatever its parts are called
-pub same_between : (hash : List ℕ → Digest32) (x : Laned) (order order' : List ℕ)
-    (cursors cursors' : List (ℕ × ℕ)) (steps : List Entry) (places places' : List (Place Seat))
-    (known : KnownBlocks) (faulty faulty' : List Bool)
-    → order ≡ order' → cursors ≡ cursors' → places ≡ places' → faulty ≡ faulty'
-    → IsBetween hash x order cursors steps places known faulty
-    → IsBetween hash x order' cursors' steps places' known faulty'
-same_between hash x order order' cursors cursors' steps places places' known faulty faulty' o c p f
-    h =
-    subst (λ (l : List Bool). IsBetween hash x order' cursors' steps places' known l) f
-    (subst (λ (l : List (Place Seat)). IsBetween hash x order' cursors' steps l known faulty) p
-    (subst (λ (l : List (ℕ × ℕ)). IsBetween hash x order' l steps places known faulty) c
-    (subst (λ (l : List ℕ). IsBetween hash x l cursors steps places known faulty) o h)))
+-- behind a turn, whatever its script is called
+pub between_on : (script same : Scenario) (numbers sizes order : List ℕ) (cluster : Cluster)
+    (cursors : List (ℕ × ℕ))
+    → same ≡ script
+    → IsBetween (record { script = script; numbers = numbers; sizes = sizes }) order cluster cursors
+    → IsBetween (record { script = same; numbers = numbers; sizes = sizes }) order cluster cursors
+between_on script same numbers sizes order cluster cursors is h =
+    subst
+    (λ (s : Scenario). IsBetween (record { script = s; numbers = numbers; sizes = sizes }) order
+    cluster cursors)
+    (sym is) h
 
 -- a turn that finds no line
 pub turns_none : (hash : List ℕ → Digest32) (t : Turning) (k : ℕ) → t.stopped ≡ None
