@@ -14,18 +14,22 @@ use Rattle.cw_rules.specs.Rules.{Rules, genesis}
 use Rattle.cw_rules.specs.Step.{start}
 use Rattle.cw_rules.specs.World.{Line, World, faults, opening}
 use Rattle.cw_rules.specs.declared.travel.Travel.{Travel}
+use Rattle.hail_script.specs.Events.{line_of}
 use Rattle.hail_script.specs.Grammar.{marks}
 use Rattle.hail_script.specs.Scenario.{Scenario}
 use Rattle.hail_script.specs.declared.error.RunError.{RunError}
+use Rattle.hail_script.specs.declared.event.EventLine.{EventLine}
 use Rattle.hail_world.specs.declared.blocks.KnownBlocks.{KnownBlocks}
 use Rattle.hail_world.specs.declared.place.Place.{Place}
-use Rattle.hail_world.specs.Clusters.{Stands, row_at, rows_at}
+use Rattle.hail_world.specs.declared.report.Report.{Report}
+use Rattle.hail_world.specs.Clusters.{Cluster, Stands, row_at, rows_at, steps_in, world_in}
 use Rattle.hail_world.specs.Known.{AreKnown}
 use Rattle.hail_world.specs.Places.{SitAs, WorkBy, rules_of}
-use Rattle.hail_world.specs.Played.{Begin, HavePlayed, lines_of}
-use Rattle.hail_world.specs.Runs.{IsStopped, opened}
+use Rattle.hail_world.specs.Played.{Begin, HavePlayed, IsReportOf, lines_of}
+use Rattle.hail_world.specs.Runs.{GoesBy, IsStopped, opened}
 use Rattle.hail_world.specs.Seats.{Seat}
 use Rattle.hail_world.proofs.Colliding.{knows_opened}
+use Rattle.hail_world.proofs.Known.{count_lines}
 use Rattle.hail_world.proofs.Opening.{flags_open}
 use Rattle.hail_world.proofs.Turned.{lines_more, played_none, stopped_behind}
 
@@ -48,6 +52,13 @@ pub line_there : (lines : List Line) (at : ℕ) → at < length lines
 line_there [] at lt = absurd (omega arith)
 line_there (line ∷ lines) zero lt = (line, refl)
 line_there (line ∷ lines) (suc at) lt = line_there lines at (omega arith)
+
+pub event_there : (es : List EventLine) (lines : List Line) (at : ℕ) → map line_of es ≡ lines
+    → at < length lines → at < length es
+event_there es lines at all lt =
+    let same : length lines ≡ length es =
+    ap (λ (l : List Line). length l) (sym all) ∙ count_lines es in
+    omega (arith, lt, same)
 
 -- ---- whatever is asked of the lines
 
@@ -188,6 +199,97 @@ turned hash travel s opening turns more steps told places known faulty number at
       count = count;
     })
 
+-- the same, whatever its places and marks are called
+pub same_played : (r : Rules) (w : World) (rows : List (ℕ × Line)) (steps : List Entry)
+    (places places' : List (Place Seat)) (known : KnownBlocks) (faulty faulty' : List Bool)
+    → places' ≡ places → faulty' ≡ faulty → HavePlayed r w rows steps places known faulty
+    → HavePlayed r w rows steps places' known faulty'
+same_played r w rows steps places places' known faulty faulty' p f h =
+    subst (λ (l : List Bool). HavePlayed r w rows steps places' known l) (sym f)
+    (subst (λ (l : List (Place Seat)). HavePlayed r w rows steps l known faulty) (sym p) h)
+
+-- a cluster by its fields and as it is seen
+module _ (hash : List ℕ → Digest32) (s : Scenario) (turns : List (ℕ × ℕ)) (over : Bool)
+    (c : Cluster)
+    (is : (let k : Cluster =
+    record { script = s; rows = rows_at s.lines turns; over = over } in k)
+    ≡ c) where
+  pub whole_inside : c.over ≡ false → over ≡ false
+  whole_inside whole = ap (λ (k : Cluster). k.over) is ∙ whole
+
+  pub there_inside : (at : ℕ) (line : Line) → slice_get c.script.lines at ≡ Some line
+      → slice_get s.lines at ≡ Some line
+  there_inside at line there =
+      subst (λ (k : Cluster). slice_get k.script.lines at ≡ Some line) (sym is) there
+
+  pub below_inside : (at : ℕ) → at < length c.script.lines → at < length s.lines
+  below_inside at lt = subst (λ (k : Cluster). at < length k.script.lines) (sym is) lt
+
+  -- one line more
+  pub seen_more : (more : List (ℕ × ℕ)) (number at : ℕ) (line : Line) → c.over ≡ false
+      → slice_get c.script.lines at ≡ Some line → more ≡ turns ++ (number, at) ∷ []
+      → (let k : Cluster =
+      record { script = s; rows = rows_at s.lines more; over = false } in k)
+      ≡ record c { rows = c.rows ++ (number, line) ∷ [] }
+  seen_more more number at line whole there turn =
+      ap
+      (λ (l : List (ℕ × ℕ)). let k : Cluster =
+      record { script = s; rows = rows_at s.lines l; over = false } in k)
+      turn
+      ∙ ap
+      (λ (l : List (ℕ × Line)). let k : Cluster =
+      record { script = s; rows = l; over = false } in k)
+      (row_more s.lines turns number at line (there_inside at line there))
+      ∙ ap
+      (λ (o : Bool). let k : Cluster =
+      record { script = s; rows = rows_at s.lines turns ++ (number, line) ∷ []; over = o } in k)
+      (sym (whole_inside whole))
+      ∙ ap
+      (λ (x : Cluster). let k : Cluster = record x { rows = x.rows ++ (number, line) ∷ [] } in k)
+      is
+
+  -- a line that stops them
+  pub seen_stopped : (at : ℕ) (mine line : Line) (e : RunError) → slice_get s.lines at ≡ Some mine
+      → IsStopped (rules_of hash s) (opened hash s)
+      (lines_of (rows_at s.lines turns) ++ mine ∷ []) e
+      → slice_get c.script.lines at ≡ Some line
+      → IsStopped (rules_of hash c.script) (opened hash c.script) (lines_of c.rows ++ line ∷ []) e
+  seen_stopped at mine line e here h there =
+      let same : mine ≡ line =
+      (let o : Some mine ≡ Some line = sym here ∙ there_inside at line there in cc) in
+      subst
+      (λ (k : Cluster). IsStopped (rules_of hash k.script) (opened hash k.script)
+      (lines_of k.rows ++ line ∷ []) e)
+      is
+      (subst
+      (λ (l : Line). IsStopped (rules_of hash s) (opened hash s)
+      (lines_of (rows_at s.lines turns) ++ l ∷ []) e)
+      same h)
+
+  -- the report of its lines
+  pub seen_end : {H W : Type 0} (travel : Travel) (opening steps : List Entry)
+      (places : List (Place Seat)) (known : KnownBlocks) (faulty : List Bool) (report : Report H W)
+      → Stands hash travel s opening (rows_at s.lines turns) over steps places known faulty
+      → c.over ≡ false
+      → ((r : Rules) (w : World) → GoesBy hash r → WorkBy r 0 places → SitAs places w.members
+      → IsReportOf r w opening steps report)
+      → IsReportOf (rules_of hash c.script) (world_in hash c)
+      (opening_entries (rules_of hash c.script) c.script.lines) (steps_in hash c) report
+  seen_end travel opening steps places known faulty report h whole told =
+      let k : Cluster = record { script = s; rows = rows_at s.lines turns; over = over } in
+      let u = h.2 (whole_inside whole) in
+      let r = rules_of hash s in
+      let w : World = world_in hash k in
+      let tells : IsReportOf r w opening steps report =
+      told r w (record { hashes = refl; blocks = refl; contexts = refl }) u.sound
+      u.played.members in
+      subst
+      (λ (x : Cluster). IsReportOf (rules_of hash x.script) (world_in hash x)
+      (opening_entries (rules_of hash x.script) x.script.lines) (steps_in hash x) report)
+      is
+      (subst (λ (l : List Entry). IsReportOf r w l (steps_in hash k) report) h.1
+      (subst (λ (l : List Entry). IsReportOf r w opening l report) u.played.entries tells))
+
 -- ---- the lines in their order
 
 pub numbered_lines : (n : ℕ) (lines : List Line) → lines_of (enumerate_from n lines) ≡ lines
@@ -216,9 +318,11 @@ numbered_more n (l ∷ lines) zero line there =
     ∙ ap (λ (k : ℕ). let rows : List (ℕ × Line) = (k, line) ∷ [] in rows) none
 numbered_more n (l ∷ lines) (suc i) line there =
     let next : n + 1 + i ≡ n + suc i = omega arith in
-    ap (λ (rows : List (ℕ × Line)). (n, l) ∷ rows)
+    let one : suc i + 1 ≡ suc (i + 1) = omega arith in
+    rw one
+    (ap (λ (rows : List (ℕ × Line)). (n, l) ∷ rows)
     (numbered_more (n + 1) lines i line there
-    ∙ ap (λ (k : ℕ). enumerate_from (n + 1) (take i lines) ++ (k, line) ∷ []) next)
+    ∙ ap (λ (k : ℕ). enumerate_from (n + 1) (take i lines) ++ (k, line) ∷ []) next))
 
 -- lines that stop at one of a script stop with the lines behind it
 pub stops : (r : Rules) (w : World) (lines : List Line) (i : ℕ) (line : Line) (e : RunError)

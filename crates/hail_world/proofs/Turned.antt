@@ -106,7 +106,7 @@ lines_more [] number line = refl
 lines_more (row ∷ rows) number line =
     ap (λ (l : List Line). row.1 ∷ l) (lines_more rows number line)
 
-entries_more : (r : Rules) (w : World) (rows : List (ℕ × Line)) (number : ℕ) (line : Line)
+pub entries_more : (r : Rules) (w : World) (rows : List (ℕ × Line)) (number : ℕ) (line : Line)
     → entries_of r w (rows ++ (number, line) ∷ [])
     ≡ entries_of r w rows ++ entry_of r (run r w (lines_of rows)) number line ∷ []
 entries_more r w [] number line = refl

@@ -72,8 +72,8 @@ impl<H: Hasher<Digest = Digest32>, W: Way> Cluster<H, W> {
             (λ cluster. cluster ≡ record { script = script; rows = []; over = false }) }
     {
         let faulty = script.faulty(alloc)?;
-        let (opening, places) = open_all::<H, W, R, S>(rt, alloc, &script, &faulty, strategy)?;
         let known = KnownBlocks::new::<H>(alloc)?;
+        let (opening, places) = open_all::<H, W, R, S>(rt, alloc, &script, &faulty, strategy)?;
         Ok(Cluster {
             script,
             faulty,
@@ -111,6 +111,7 @@ impl<H: Hasher<Digest = Digest32>, W: Way> Cluster<H, W> {
         // Until the line was played to its end.
         self.over = true;
         self.script.is_cluster();
+        let line = &self.script.lines()[at];
         let entry = match turn_line::<H, W, R, S>(
             rt,
             alloc,
@@ -120,7 +121,7 @@ impl<H: Hasher<Digest = Digest32>, W: Way> Cluster<H, W> {
             &mut self.known,
             &self.pool,
             number,
-            &self.script.lines()[at],
+            line,
             strategy,
         ) {
             Ok(entry) => entry,

@@ -60,7 +60,10 @@ pub fn run_text<H: Hasher<Digest = Digest32>, W: Way, R: Threads + Sync, S: Stra
     script.is_cluster();
     let _backlog = script.backlog();
     let _lines = script.lines();
-    run_script::<H, W, R, S>(rt, alloc, script, strategy)
+    match run_script::<H, W, R, S>(rt, alloc, script, strategy) {
+        Ok(ran) => Ok(ran),
+        Err(error) => Err(error),
+    }
 }
 
 fn run_script<H: Hasher<Digest = Digest32>, W: Way, R: Threads + Sync, S: Strategy>(
@@ -111,7 +114,10 @@ fn play_all<H: Hasher<Digest = Digest32>, W: Way, R: Threads + Sync, S: Strategy
     let first = cluster.script().first_event();
     let count = cluster.script().lines().len();
     for at in 0..count {
-        cluster.turn(rt, alloc, at, first + at as u64, strategy)?;
+        match cluster.turn(rt, alloc, at, first + at as u64, strategy) {
+            Ok(()) => {}
+            Err(error) => return Err(error),
+        }
     }
     Ok(())
 }

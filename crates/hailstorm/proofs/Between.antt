@@ -1,11 +1,11 @@
 -- What is known of a cluster between two turns.
-use Rattle.std.proofs.Common.{◌≡◌, ℕ, ◌<◌, ◌+◌, ◌++◌, ◌∷◌, arith, Bool, true, false, is_some, List, [], length, map, Option, Some, None, Result, Ok, Err, refl, sym, ap, subst, ◌∙◌}
+use Rattle.std.proofs.Common.{◌≡◌, ℕ, ◌<◌, ◌+◌, ◌-◌, ◌++◌, ◌∷◌, arith, Bool, true, false, get_or, is_some, length-append, List, [], length, map, Option, Some, None, Result, Ok, Err, refl, sym, ap, subst, ◌∙◌}
 use Rattle.std.specs.Prelude.{IfSome, flat_map}
 use Rattle.std.specs.Option.{option_map_or}
 use Rattle.cw_base.specs.declared.hash.Digest32.{Digest32}
 use Rattle.cw_rules.specs.Chains.{Clashes, Ends, outcome}
 use Rattle.cw_rules.specs.Reached.{IsClash, IsCluster, IsReported, Reaches}
-use Rattle.cw_rules.specs.Report.{Entry, handed_in, report_of}
+use Rattle.cw_rules.specs.Report.{Entry, entry_of}
 use Rattle.cw_rules.specs.Rules.{Rules}
 use Rattle.cw_rules.specs.World.{Line, World, opening, run}
 use Rattle.hail_script.specs.declared.error.RunError.{RunError}
@@ -14,11 +14,13 @@ use Rattle.hail_script.specs.declared.event.EventLine.{EventLine}
 use Rattle.hail_script.specs.Events.{line_of}
 use Rattle.hail_script.specs.Lanes.{Laned, laned_of, lanes, rows}
 use Rattle.hail_script.specs.Scenario.{Scenario}
-use Rattle.hail_world.specs.Clusters.{Cluster}
+use Rattle.hail_world.specs.Clusters.{Cluster, steps_in, world_in}
 use Rattle.hailstorm.specs.Lanes.{IsLanesCause, lane_at, left, without_next}
 use Rattle.hail_world.specs.Places.{rules_of}
+use Rattle.hail_world.specs.Runs.{opened}
 use Rattle.hailstorm.specs.Turns.{IsBetween, IsOver, IsTurnBy, IsTurnOf, IsTurning, Turning, between, told_order}
 use Rattle.hail_world.proofs.Known.{count_lines}
+use Rattle.hail_world.proofs.Turned.{entries_more}
 use Rattle.hailstorm.proofs.Laned.{TellsApart, count_rows, lanes_clashed}
 use Rattle.hailstorm.proofs.Merging.{fewer_left, left_more}
 
@@ -73,6 +75,30 @@ module _ (hash : List ℕ → Digest32) (x : Laned) (order : List ℕ) (stopped 
         subst (λ (l : List (List (ℕ × Line))). 0 < length (lane_at l k)) (sym rest)
             (some (rows x) many),
       )
+
+-- the last of a list
+pub last_at : {X : Type 0} (front : List X) (e d : X) (xs : List X) → xs ≡ front ++ e ∷ []
+    → get_or xs (length xs - 1) d ≡ e
+last_at {X} front e d xs is =
+    let many = length-append front (e ∷ []) in
+    let one : length (front ++ e ∷ []) - 1 ≡ length front = omega (arith, many) in
+    ap (λ (l : List X). get_or l (length l - 1) d) is
+    ∙ ap (λ (n : ℕ). get_or (front ++ e ∷ []) n d) one ∙ at front
+  where
+    at : (ys : List X) → get_or (ys ++ e ∷ []) (length ys) d ≡ e
+    at [] = refl
+    at (y ∷ ys) = at ys
+
+-- the entries behind a turn
+pub steps_more : (hash : List ℕ → Digest32) (old new : Cluster) (number : ℕ) (line : Line)
+    (steps : List Entry)
+    → new ≡ record old { rows = old.rows ++ (number, line) ∷ [] } → steps ≡ steps_in hash new
+    → steps
+    ≡ steps_in hash old
+    ++ entry_of (rules_of hash old.script) (world_in hash old) number line ∷ []
+steps_more hash old new number line steps is all =
+    all ∙ ap (λ (k : Cluster). steps_in hash k) is
+    ∙ entries_more (rules_of hash old.script) (opened hash old.script) old.rows number line
 
 -- behind a turn, whatever its script is called
 pub between_on : (script same : Scenario) (numbers sizes order : List ℕ) (cluster : Cluster)

@@ -257,7 +257,11 @@ fn play_before<H: Hasher<Digest = Digest32>, R: Threads + Sync, S: Strategy>(
         (lines_of (take before (rows x))) e) }
 {
     for at in 0..before {
-        cluster.turn(rt, alloc, at, number_of(numbers, at), strategy)?;
+        let number = number_of(numbers, at);
+        match cluster.turn(rt, alloc, at, number, strategy) {
+            Ok(()) => {}
+            Err(error) => return Err(error),
+        }
     }
     Ok(())
 }
@@ -291,7 +295,10 @@ fn play_twice<H: Hasher<Digest = Digest32>, R: Threads + Sync, S: Strategy>(
         ≡ Ends (world_in H.digest_of cluster.old) }
 {
     cluster.goes_on();
-    cluster.turn(rt, alloc, at, number, strategy)?;
+    match cluster.turn(rt, alloc, at, number, strategy) {
+        Ok(()) => {}
+        Err(error) => return Err(error),
+    }
     let steps = cluster.steps();
     let entry = &steps[steps.len() - 1];
     Ok((copy_entry(alloc, entry)?, copy_entry(alloc, entry)?))
