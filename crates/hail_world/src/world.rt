@@ -1,6 +1,6 @@
 //! The cluster that a script runs, from its members' starts to its report.
 
-ghost use Rattle.std.specs.Prelude.{◌≡◌, ◌<◌, ◌^◌, ◌++◌, [], Ok, Some, filter_map, is_none, length};
+ghost use Rattle.std.specs.Prelude.{◌≡◌, ◌<◌, ◌^◌, ◌++◌, [], Ok, Some, false, filter_map, length};
 ghost use Rattle.std.specs.Prelude.{map, slice_get, IfOk, IfErr, OnOk, Option};
 ghost use Rattle.std.specs.List.{enumerate_from};
 ghost use Rattle.cw_rules.specs.Held.{last_ack};

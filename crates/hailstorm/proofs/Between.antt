@@ -1,6 +1,6 @@
 -- What is known of a cluster between two turns.
-use Rattle.std.proofs.Common.{◌≡◌, ℕ, ◌<◌, ◌+◌, ◌-◌, ◌++◌, ◌∷◌, arith, Bool, true, false, get_or, is_some, length-append, List, [], length, map, Option, Some, None, Result, Ok, Err, refl, sym, ap, subst, ◌∙◌}
-use Rattle.std.specs.Prelude.{IfSome, flat_map}
+use Rattle.std.proofs.Common.{◌≡◌, ℕ, ◌<◌, ◌+◌, ◌-◌, ◌++◌, ◌∷◌, arith, Bool, true, false, get_or, is_some, length-append, List, [], length, map, Option, Some, None, Result, Ok, Err, refl, sym, ap, subst, ◌∙◌, ◌⊎◌, inl, inr}
+use Rattle.std.specs.Prelude.{IfSome, flat_map, slice_get, slice_index}
 use Rattle.std.specs.Option.{option_map_or}
 use Rattle.cw_base.specs.declared.hash.Digest32.{Digest32}
 use Rattle.cw_rules.specs.Chains.{Clashes, Ends, outcome}
@@ -17,11 +17,12 @@ use Rattle.hail_script.specs.Scenario.{Scenario}
 use Rattle.hail_world.specs.Clusters.{Cluster, steps_in, world_in}
 use Rattle.hailstorm.specs.Lanes.{IsLanesCause, lane_at, left, without_next}
 use Rattle.hail_world.specs.Places.{rules_of}
-use Rattle.hail_world.specs.Runs.{opened}
-use Rattle.hailstorm.specs.Turns.{IsBetween, IsOver, IsTurnBy, IsTurnOf, IsTurning, Turning, between, told_order}
+use Rattle.hail_world.specs.Played.{lines_of}
+use Rattle.hail_world.specs.Runs.{IsStopped, opened}
+use Rattle.hailstorm.specs.Turns.{HasAdvanced, IsBetween, IsOver, IsTurnBy, IsTurnOf, IsTurning, Turning, between, told_order}
 use Rattle.hail_world.proofs.Known.{count_lines}
 use Rattle.hail_world.proofs.Turned.{entries_more}
-use Rattle.hailstorm.proofs.Laned.{TellsApart, count_rows, lanes_clashed}
+use Rattle.hailstorm.proofs.Laned.{TellsApart, count_rows, is_over, lanes_clashed, lines_then, next_row, turns_then}
 use Rattle.hailstorm.proofs.Merging.{fewer_left, left_more}
 
 pub rows_many : (x : Laned) (es : List EventLine) → map line_of es ≡ x.script.lines
@@ -100,17 +101,83 @@ steps_more hash old new number line steps is all =
     all ∙ ap (λ (k : Cluster). steps_in hash k) is
     ∙ entries_more (rules_of hash old.script) (opened hash old.script) old.rows number line
 
--- behind a turn, whatever its script is called
-pub between_on : (script same : Scenario) (numbers sizes order : List ℕ) (cluster : Cluster)
-    (cursors : List (ℕ × ℕ))
-    → same ≡ script
-    → IsBetween (record { script = script; numbers = numbers; sizes = sizes }) order cluster cursors
-    → IsBetween (record { script = same; numbers = numbers; sizes = sizes }) order cluster cursors
-between_on script same numbers sizes order cluster cursors is h =
-    subst
-    (λ (s : Scenario). IsBetween (record { script = s; numbers = numbers; sizes = sizes }) order
-    cluster cursors)
-    (sym is) h
+-- the same, whatever its parts are called
+pub between_seen : (x : Laned) (script : Scenario) (numbers sizes order order' : List ℕ)
+    (cluster : Cluster) (cursors cursors' : List (ℕ × ℕ))
+    → script ≡ x.script → numbers ≡ x.numbers → sizes ≡ x.sizes → order' ≡ order
+    → cursors' ≡ cursors → IsBetween x order cluster cursors
+    → IsBetween (record { script = script; numbers = numbers; sizes = sizes }) order' cluster
+    cursors'
+between_seen x script numbers sizes order order' cluster cursors cursors' s n z o c h =
+    rw (s, n, z, o, c) h
+
+-- a turn of a lane that has a line left
+module _ (hash : List ℕ → Digest32) (x : Laned) (order : List ℕ) (cluster : Cluster)
+    (cursors : List (ℕ × ℕ)) (h : IsBetween x order cluster cursors) (k from end : ℕ) (line : Line)
+    (at : slice_get cursors k ≡ Some (from, end)) (lt : from < end)
+    (there : slice_get x.script.lines from ≡ Some line) where
+  pub advanced : (entry : Entry)
+      → entry
+      ≡ entry_of (rules_of hash cluster.script) (world_in hash cluster)
+      (slice_index x.numbers from) line
+      → HasAdvanced hash x order k entry
+  advanced entry gives = record {
+    row = (slice_index x.numbers from, line);
+    next = next_row x order cursors k from end line h.rest at lt there;
+    gives =
+        gives
+        ∙ ap
+        (λ (c : Cluster). entry_of (rules_of hash c.script) (world_in hash c)
+        (slice_index x.numbers from) line)
+        h.played;
+  }
+
+  pub over_by : (e : RunError)
+      → outcome (rules_of hash cluster.script) (opened hash cluster.script) (lines_of cluster.rows)
+      ≡ Ends (world_in hash cluster)
+      → IsStopped (rules_of hash cluster.script) (opened hash cluster.script)
+      (lines_of cluster.rows ++ line ∷ []) e
+      → IsOver hash x (order ++ k ∷ []) e
+  over_by e ends stops =
+      is_over hash x order k line e
+      (lines_then x order cursors k from end line h.rest at lt there)
+      (subst
+      (λ (c : Cluster). outcome (rules_of hash c.script) (opened hash c.script) (lines_of c.rows)
+      ≡ Ends (world_in hash c))
+      h.played ends)
+      (turns_then x order cursors k from end line h.rest at lt there h.turns)
+      (subst
+      (λ (c : Cluster). IsStopped (rules_of hash c.script) (opened hash c.script)
+      (lines_of c.rows ++ line ∷ []) e)
+      h.played stops)
+
+-- what is told of why no further line is played
+pub over_told : (hash : List ℕ → Digest32) (x : Laned) (order : List ℕ) (e told : RunError)
+    → (told ≡ e) ⊎ (told ≡ error.NoMemory) → IsOver hash x order e → IsOver hash x order told
+over_told hash x order e told (inl is) h = rw is h
+over_told hash x order e told (inr is) h = rw is tt
+
+-- the reply of a turn that was played
+pub replied : (hash : List ℕ → Digest32) (old seen new : Turning) (k : ℕ) (entry : Entry)
+    → old ≡ seen → new.laned ≡ old.laned → old.stopped ≡ None
+    → HasAdvanced hash old.laned old.order k entry → new.order ≡ old.order ++ k ∷ []
+    → new.stopped ≡ None → IsTurnOf hash seen k (Ok (Some entry)) new
+replied hash old seen new k entry is same none turn order goes =
+    subst (λ (t : Turning). IsTurnOf hash t k (Ok (Some entry)) new) is (
+      same,
+      subst (λ (o : Option RunError). IsTurnBy hash old k (Ok (Some entry)) new o) (sym none)
+          (turn, order, goes),
+    )
+
+-- the reply of one that wasn't
+pub refused : (hash : List ℕ → Digest32) (old seen new : Turning) (k : ℕ) (e : RunError)
+    → old ≡ seen → new.laned ≡ old.laned → old.stopped ≡ None → new.stopped ≡ Some e
+    → IsOver hash new.laned new.order e → IsTurnOf hash seen k (Err e) new
+refused hash old seen new k e is same none stops over =
+    subst (λ (t : Turning). IsTurnOf hash t k (Err e) new) is (
+      same,
+      subst (λ (o : Option RunError). IsTurnBy hash old k (Err e) new o) (sym none) (stops, over),
+    )
 
 -- a turn that finds no line
 pub turns_none : (hash : List ℕ → Digest32) (t : Turning) (k : ℕ) → t.stopped ≡ None

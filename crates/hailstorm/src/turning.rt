@@ -131,8 +131,9 @@ impl<H: Hasher<Digest = Digest32>> Turning<H> {
         };
         // No line is played any more where this one isn't played to its end.
         self.stopped = Some(RunError::NoMemory);
-        if self.order.push(lane).is_err() {
-            return (Err(RunError::NoMemory), Err(RunError::NoMemory));
+        match self.order.push(lane) {
+            Ok(()) => {}
+            Err(_) => return (Err(RunError::NoMemory), Err(RunError::NoMemory)),
         }
         let number = number_of(self.numbers.as_slice(), from);
         match play_twice(rt, alloc, &mut self.cluster, from, number, strategy) {
@@ -300,6 +301,9 @@ fn play_twice<H: Hasher<Digest = Digest32>, R: Threads + Sync, S: Strategy>(
         Err(error) => return Err(error),
     }
     let steps = cluster.steps();
-    let entry = &steps[steps.len() - 1];
-    Ok((copy_entry(alloc, entry)?, copy_entry(alloc, entry)?))
+    let last = steps.len() - 1;
+    let entry = &steps[last];
+    let first = copy_entry(alloc, entry)?;
+    let second = copy_entry(alloc, entry)?;
+    Ok((first, second))
 }

@@ -20,7 +20,7 @@ loop-at-init g c =
     c.requires.first
 
 pub turn-requires-clause-whole : goal.turn-requires-clause-whole
-turn-requires-clause-whole g c =
+turn-requires-clause-whole g c κs within =
     ap (λ (k : Cluster). k.over) c.loop-at.invariant ∙ c.requires.whole
 
 pub turn-requires-clause-there : goal.turn-requires-clause-there

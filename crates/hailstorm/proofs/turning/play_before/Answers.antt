@@ -17,7 +17,7 @@ loop-at-init g c = λ x s n.
     c.requires.first
 
 pub turn-requires-clause-whole : goal.turn-requires-clause-whole
-turn-requires-clause-whole g c =
+turn-requires-clause-whole g c κs within =
     ap (λ (k : Cluster). k.over)
     (c.loop-at.invariant
     (record { script = c.args.cluster.now.script; numbers = c.args.numbers.now; sizes = [] }) refl
