@@ -1,6 +1,6 @@
 -- A cluster in a run: any line of its script may have the next turn.
 use Rattle.std.proofs.Common.{◌≡◌, ℕ, zero, suc, ◌+◌, ◌<◌, ◌≤◌, ◌||◌, Bool, true, false, List, [], ◌∷◌, ◌++◌, length, map, take, drop, Option, Some, None, refl, sym, ap, subst, ◌∙◌, arith}
-use Rattle.std.specs.Prelude.{cond, count_by, filter_map, is_none, slice_get}
+use Rattle.std.specs.Prelude.{cond, count_by, slice_get}
 use Rattle.std.specs.List.{enumerate_from, list_any, range_with_len}
 use Rattle.std.proofs.Math.Path.{fun_ext}
 use Rattle.std.proofs.lemmas.List.{take-append-drop}
@@ -22,7 +22,7 @@ use Rattle.hail_script.specs.declared.event.EventLine.{EventLine}
 use Rattle.hail_world.specs.declared.blocks.KnownBlocks.{KnownBlocks}
 use Rattle.hail_world.specs.declared.place.Place.{Place}
 use Rattle.hail_world.specs.declared.report.Report.{Report}
-use Rattle.hail_world.specs.Clusters.{Cluster, Stands, row_at, rows_at, steps_in, world_in}
+use Rattle.hail_world.specs.Clusters.{Cluster, IsUnderWay, Stands, row_at, rows_at, steps_in, world_in}
 use Rattle.hail_world.specs.Known.{AreKnown}
 use Rattle.hail_world.specs.Places.{SitAs, WorkBy, rules_of}
 use Rattle.hail_world.specs.Played.{Begin, HavePlayed, IsReportOf, lines_of}
@@ -160,14 +160,16 @@ pub opens : (hash : List ℕ → Digest32) (travel : Travel) (s : Scenario) (ope
 opens hash travel s opening turns steps places known faulty way told no_turns no_steps members
     sound count knows flags =
     let r = rules_of hash s in
-    rw (no_turns, no_steps) (way, told, λ _. record {
+    let going : IsUnderWay hash s [] [] places known faulty =
+    record {
       played =
           played_none r (opened hash s) places known faulty members refl
           (knows_opened r known s.lines knows)
           (flags ∙ flags_open r s.lines s.committees.total);
       sound = sound;
       count = count;
-    })
+    } in
+    rw (no_turns, no_steps) (way, told, λ _. going)
 
 -- behind one line more
 pub turned : (hash : List ℕ → Digest32) (travel : Travel) (s : Scenario) (opening : List Entry)
@@ -182,22 +184,24 @@ pub turned : (hash : List ℕ → Digest32) (travel : Travel) (s : Scenario) (op
     → Stands hash travel s opening (rows_at s.lines more) false told places known faulty
 turned hash travel s opening turns more steps told places known faulty number at line entry way
     opens there plays sound count turn adds =
+    let r = rules_of hash s in
+    let w = opened hash s in
     let rows : rows_at s.lines more ≡ rows_at s.lines turns ++ (number, line) ∷ [] =
     ap (λ (l : List (ℕ × ℕ)). rows_at s.lines l) turn
     ∙ row_more s.lines turns number at line there in
-    (way, opens, λ _. record {
+    let going : IsUnderWay hash s (rows_at s.lines more) told places known faulty =
+    record {
       played =
           subst
-          (λ (l : List Entry). HavePlayed (rules_of hash s) (opened hash s) (rows_at s.lines more) l
-          places known faulty)
+          (λ (l : List Entry). HavePlayed r w (rows_at s.lines more) l places known faulty)
           (sym adds)
           (subst
-          (λ (l : List (ℕ × Line)). HavePlayed (rules_of hash s) (opened hash s) l
-          (steps ++ entry ∷ []) places known faulty)
+          (λ (l : List (ℕ × Line)). HavePlayed r w l (steps ++ entry ∷ []) places known faulty)
           (sym rows) plays);
       sound = sound;
       count = count;
-    })
+    } in
+    (way, opens, λ _. going)
 
 -- the same, whatever its places and marks are called
 pub same_played : (r : Rules) (w : World) (rows : List (ℕ × Line)) (steps : List Entry)

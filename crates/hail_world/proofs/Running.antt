@@ -1,5 +1,5 @@
 -- The parts of a run, put together.
-use Rattle.std.proofs.Common.{length, take, ◌≡◌, ℕ, ◌+◌, ◌++◌, false, List, [], ◌∷◌, Option, Some, None, refl, sym, ap, subst, ◌∙◌}
+use Rattle.std.proofs.Common.{length, take, ◌≡◌, ℕ, ◌+◌, ◌++◌, false, List, [], ◌∷◌, refl, sym, ap, subst, ◌∙◌}
 use Rattle.std.specs.Prelude.{filter_map, flat_map}
 use Rattle.std.specs.List.{enumerate_from}
 use Rattle.cw_base.specs.declared.hash.Digest32.{Digest32}

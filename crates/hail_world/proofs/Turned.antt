@@ -1,13 +1,12 @@
 -- Lines that are played one behind the other, each under its number.
-use Rattle.std.proofs.Common.{◌≡◌, ℕ, zero, suc, ◌+◌, ◌<◌, ◌≤◌, Bool, true, false, List, [], ◌∷◌, ◌++◌, length, map, take, drop, Option, Some, None, refl, sym, ap, subst, ◌∙◌, arith, append_assoc, append-nil}
-use Rattle.std.specs.Prelude.{is_none, slice_get}
-use Rattle.std.specs.Option.{option_map_or}
+use Rattle.std.proofs.Common.{◌≡◌, ℕ, ◌+◌, Bool, List, [], ◌∷◌, ◌++◌, map, Option, Some, None, refl, sym, ap, subst, ◌∙◌}
+use Rattle.std.specs.Prelude.{is_none}
 use Rattle.cw_types.specs.Block.{Block}
-use Rattle.cw_rules.specs.Chains.{Clashes, Ends, Outcome, clash_at, outcome}
+use Rattle.cw_rules.specs.Chains.{Clashes, Ends, clash_at, outcome}
 use Rattle.cw_rules.specs.Reached.{Reaches}
 use Rattle.cw_rules.specs.Report.{Entry, entry_of}
 use Rattle.cw_rules.specs.Rules.{Rules}
-use Rattle.cw_rules.specs.World.{Line, Sent, World, happens, line_member, opening, run}
+use Rattle.cw_rules.specs.World.{Line, World, happens, line_member, run}
 use Rattle.hail_script.specs.declared.error.RunError.{RunError}
 use Rattle.hail_script.specs.declared.error.RunError.TheVariants as error
 use Rattle.hail_world.specs.declared.blocks.KnownBlocks.{KnownBlocks}

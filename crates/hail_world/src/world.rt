@@ -1,7 +1,7 @@
 //! The cluster that a script runs, from its members' starts to its report.
 
 ghost use Rattle.std.specs.Prelude.{◌≡◌, ◌<◌, ◌^◌, ◌++◌, [], Ok, Some, false, filter_map, length};
-ghost use Rattle.std.specs.Prelude.{map, slice_get, IfOk, IfErr, OnOk, Option};
+ghost use Rattle.std.specs.Prelude.{map, IfOk, IfErr, OnOk, Option};
 ghost use Rattle.std.specs.List.{enumerate_from};
 ghost use Rattle.cw_rules.specs.Held.{last_ack};
 ghost use Rattle.cw_rules.specs.Report.{acked_at, opening_entries, opening_entry};
@@ -105,7 +105,8 @@ fn play_all<H: Hasher<Digest = Digest32>, W: Way, R: Threads + Sync, S: Strategy
     ensures ok { OnOk result
         (cluster.new
         ≡ record cluster.old {
-          rows = enumerate_from (first_event cluster.old.script.committees) cluster.old.script.lines;
+          rows =
+              enumerate_from (first_event cluster.old.script.committees) cluster.old.script.lines;
         }) }
     ensures err { IfErr result
         (λ e. IsStopped (rules_of H.digest_of cluster.old.script)

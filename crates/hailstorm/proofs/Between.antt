@@ -1,13 +1,13 @@
 -- What is known of a cluster between two turns.
-use Rattle.std.proofs.Common.{◌≡◌, ℕ, ◌<◌, ◌+◌, ◌-◌, ◌++◌, ◌∷◌, arith, Bool, true, false, get_or, is_some, length-append, List, [], length, map, Option, Some, None, Result, Ok, Err, refl, sym, ap, subst, ◌∙◌, ◌⊎◌, inl, inr}
+use Rattle.std.proofs.Common.{◌≡◌, ℕ, ◌<◌, ◌+◌, ◌-◌, ◌++◌, ◌∷◌, arith, get_or, length-append, List, [], length, map, Option, Some, None, Result, Ok, Err, refl, sym, ap, subst, ◌∙◌, ◌⊎◌, inl, inr}
 use Rattle.std.specs.Prelude.{IfSome, flat_map, slice_get, slice_index}
 use Rattle.std.specs.Option.{option_map_or}
 use Rattle.cw_base.specs.declared.hash.Digest32.{Digest32}
 use Rattle.cw_rules.specs.Chains.{Clashes, Ends, outcome}
-use Rattle.cw_rules.specs.Reached.{IsClash, IsCluster, IsReported, Reaches}
+use Rattle.cw_rules.specs.Reached.{IsClash, Reaches}
 use Rattle.cw_rules.specs.Report.{Entry, entry_of}
 use Rattle.cw_rules.specs.Rules.{Rules}
-use Rattle.cw_rules.specs.World.{Line, World, opening, run}
+use Rattle.cw_rules.specs.World.{Line, World, opening}
 use Rattle.hail_script.specs.declared.error.RunError.{RunError}
 use Rattle.hail_script.specs.declared.error.RunError.TheVariants as error
 use Rattle.hail_script.specs.declared.event.EventLine.{EventLine}

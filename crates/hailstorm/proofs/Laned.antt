@@ -1,22 +1,19 @@
 -- A script whose lanes are merged in an order.
-use Rattle.std.proofs.Common.{◌≡◌, ◌≢◌, ℕ, zero, suc, ◌+◌, ◌-◌, ◌<◌, ◌≤◌, ◌||◌, Bool, true, false, not, List, [], ◌∷◌, ◌++◌, length, map, take, drop, Option, Some, None, Result, Ok, Err, refl, sym, ap, subst, ◌∙◌, arith, append_assoc, append-nil, length-append, ◌⊎◌, inl, inr}
-use Rattle.std.specs.Prelude.{cond, count_by, filter, filter_map, flat_map, is_none, slice_get, slice_index, slice_set}
+use Rattle.std.proofs.Common.{◌≡◌, ◌≢◌, ℕ, zero, suc, ◌+◌, ◌-◌, ◌<◌, ◌||◌, Bool, false, List, [], ◌∷◌, ◌++◌, length, map, take, drop, Option, Some, None, Ok, Err, refl, sym, ap, subst, ◌∙◌, arith, append_assoc, append-nil, length-append, ◌⊎◌, inl, inr}
+use Rattle.std.specs.Prelude.{cond, filter_map, flat_map, slice_get, slice_index, slice_set}
 use Rattle.std.specs.List.{AllByRecursion, enumerate_from, list_any, range_with_len}
 use Rattle.std.specs.Option.{option_map_or}
 use Rattle.std.proofs.Math.Path.{fun_ext}
 use Rattle.std.proofs.lemmas.List.Folds.{list_any-append}
 use Rattle.cw_base.specs.declared.hash.Digest32.{Digest32}
 use Rattle.cw_types.specs.Block.{Block}
-use Rattle.cw_types.specs.Epochs.{members_in, size}
-use Rattle.cw_types.specs.Numbers.{max_faults}
 use Rattle.cw_rules.specs.Chains.{Clashes, Ends, outcome}
 use Rattle.cw_rules.specs.Reached.{IsClash, IsCluster, IsReported, Reaches}
-use Rattle.cw_rules.specs.Report.{Acked, Entry, Report as Reported, acked_at, entries_from, entry_of, first_line, handed_in, highest, opening_entries, opening_entry, report_of}
+use Rattle.cw_rules.specs.Report.{Entry, acked_at, entries_from, entry_of, first_line, handed_in, highest, opening_entries, report_of}
 use Rattle.cw_rules.specs.Rules.{Rules}
-use Rattle.cw_rules.specs.Step.{Member, start}
+use Rattle.cw_rules.specs.Step.{start}
 use Rattle.cw_rules.specs.Telling.{FitsLine, TellsBlocks}
 use Rattle.cw_rules.specs.World.{Line, World, faults, happens, opening, run}
-use Rattle.hail_script.specs.Grammar.{first_event}
 use Rattle.hail_script.specs.Lanes.{Laned, cut, laned_of, lanes, prefix, rows}
 use Rattle.hail_script.proofs.Causes.{laned_early}
 use Rattle.hail_script.specs.declared.error.RunError.{RunError}
@@ -24,11 +21,11 @@ use Rattle.hail_script.specs.declared.error.RunError.TheVariants as error
 use Rattle.hailstorm.specs.Reports.{Report}
 use Rattle.hail_world.specs.Clusters.{Cluster, steps_in, world_in}
 use Rattle.hail_world.specs.Played.{IsReportOf, entries_of, lines_of}
-use Rattle.hailstorm.specs.Lanes.{IsLanesCause, IsLanesClash, IsLanesReport, as_plain, but_last, lane_at, left, merged, played, renumbered, script_with, turns_of, whole, without_next}
+use Rattle.hailstorm.specs.Lanes.{IsLanesCause, IsLanesClash, IsLanesReport, but_last, lane_at, left, merged, played, renumbered, script_with, turns_of, whole, without_next}
 use Rattle.hail_world.specs.Places.{rules_of}
-use Rattle.hailstorm.specs.Reports.{IsClashOf, IsRun}
+use Rattle.hailstorm.specs.Reports.{IsClashOf}
 use Rattle.hail_world.specs.Runs.{IsStopped, chain_from, opened}
-use Rattle.hailstorm.specs.Turns.{HasAdvanced, HasMet, IsBetween, IsOver, between}
+use Rattle.hailstorm.specs.Turns.{HasMet, IsBetween, IsOver, between}
 use Rattle.hailstorm.proofs.Merging.{all_turned, between_next, cursor_lane, cursor_next, cut_whole, left_more, merged_any, merged_length, merged_more, rows_count, rows_get, rows_lines, turns_next}
 use Rattle.hail_world.proofs.Clusters.{same_cluster, same_opening}
 use Rattle.hail_world.proofs.Reporting.{openers}

@@ -1,7 +1,7 @@
 //! The cluster of a script with lanes: any lane may have the next turn.
 
 ghost use Rattle.std.specs.Prelude.{◌≡◌, ◌<◌, ◌≤◌, ◌⊎◌, ◌++◌, ◌∷◌, [], ℕ, List, None, Ok, Some};
-ghost use Rattle.std.specs.Prelude.{false, flat_map, length, slice_get, slice_index, take, true};
+ghost use Rattle.std.specs.Prelude.{false, flat_map, length, slice_get, take, true};
 ghost use Rattle.std.specs.Prelude.{IfErr, IfOk, IfSome, OnOk};
 ghost use Rattle.cw_rules.specs.Chains.{Ends, outcome};
 ghost use Rattle.cw_rules.specs.Report.{entry_of};
@@ -77,7 +77,14 @@ impl<H: Hasher<Digest = Digest32>> Turning<H> {
         let (plain, numbers, sizes) = script.into_parts();
         let (before, cursors) = cursors_of(alloc, sizes.as_slice(), plain.lines().len())?;
         let mut cluster = Cluster::<H, Chunked>::open(rt, alloc, plain, strategy)?;
-        match play_before(rt, alloc, &mut cluster, numbers.as_slice(), before, strategy) {
+        match play_before(
+            rt,
+            alloc,
+            &mut cluster,
+            numbers.as_slice(),
+            before,
+            strategy,
+        ) {
             Ok(()) => Ok(Turning {
                 cluster,
                 numbers,

@@ -38,7 +38,8 @@ loop-at-preserved g c = λ x s n.
     let k : Cluster = c.args.cluster.now in
     let at : ℕ = c.loop-at.at in
     let inv = c.loop-at.invariant x s n in
-    let there = line_there k.script.lines at (omega (arith, c.loop-at-test.true, c.requires.within)) in
+    let there =
+    line_there k.script.lines at (omega (arith, c.loop-at-test.true, c.requires.within)) in
     let there_now : slice_get c.loop-at.cluster.script.lines at ≡ Some there.0 =
     ap (λ (y : Cluster). slice_get y.script.lines at) inv ∙ there.1 in
     let there_x : slice_get x.script.lines at ≡ Some there.0 =
@@ -63,7 +64,8 @@ returns-in-Err-clause-err g c = λ x s n.
     let k : Cluster = c.args.cluster.now in
     let at : ℕ = c.loop-at.at in
     let inv = c.loop-at.invariant x s n in
-    let there = line_there k.script.lines at (omega (arith, c.loop-at-test.true, c.requires.within)) in
+    let there =
+    line_there k.script.lines at (omega (arith, c.loop-at-test.true, c.requires.within)) in
     let there_now : slice_get c.loop-at.cluster.script.lines at ≡ Some there.0 =
     ap (λ (y : Cluster). slice_get y.script.lines at) inv ∙ there.1 in
     let there_x : slice_get x.script.lines at ≡ Some there.0 =

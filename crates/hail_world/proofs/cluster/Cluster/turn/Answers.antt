@@ -1,10 +1,9 @@
-use Rattle.std.proofs.Common.{◌≡◌, ◌<◌, ◌++◌, ◌∷◌, ℕ, [], Bool, List, false, length, take, drop, refl, ap, subst, sym, ◌∙◌, arith}
+use Rattle.std.proofs.Common.{◌≡◌, ◌++◌, ◌∷◌, [], List, false, length, take, drop, refl, ap, subst, sym, ◌∙◌, arith}
 use Rattle.cw_rules.specs.World.{Line}
 use Rattle.hail_script.specs.Events.{line_of}
 use Rattle.hail_world.specs.declared.place.Place.{Place}
 use Rattle.hail_world.specs.Clusters.{Stands, rows_at}
-use Rattle.hail_world.specs.Places.{WorkBy, rules_of}
-use Rattle.hail_world.specs.Played.{HavePlayed}
+use Rattle.hail_world.specs.Places.{rules_of}
 use Rattle.hail_world.specs.Runs.{opened}
 use Rattle.hail_world.specs.Seats.{Seat}
 use Rattle.hail_world.proofs.Clusters.{begins, below_inside, event_there, same_played, seen_more, seen_stopped, turned, whole_inside}
