@@ -94,6 +94,13 @@ impl Pool {
         })
     }
 
+    /// The entries, in order. Takes no memory.
+    pub fn entries(&self) -> &[Entry]
+        ensures { result.now ≡ self.now }
+    {
+        self.entries.as_slice()
+    }
+
     /// The entries.
     pub fn into_entries(self) -> Items<Entry>
         ensures { result ≡ self }

@@ -75,6 +75,19 @@ impl LaneScript {
         &self.script
     }
 
+    /// The script of all events, the number of each event line, and the sizes.
+    pub fn into_parts(self) -> (Script, Items<u64>, Items<u64>)
+        ensures parts { result ≡ (self.script, self.numbers, self.sizes) }
+        ensures way { result.0.travel ≡ Chunked }
+    {
+        let LaneScript {
+            script,
+            numbers,
+            sizes,
+        } = self;
+        (script, numbers, sizes)
+    }
+
     /// A law: its blocks travel in chunks.
     pub fn travels_in_chunks(&self)
         ensures { self.now.script.travel ≡ Chunked }

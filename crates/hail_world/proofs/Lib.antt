@@ -6,7 +6,6 @@ pub mod Chunking
 pub mod Offering
 pub mod Reporting
 pub mod Refusals
-pub mod Outcomes
 pub mod Meaning
 pub mod Framing
 pub mod Nothing
@@ -23,4 +22,5 @@ pub mod Searching
 pub mod Links
 pub mod Seating
 pub mod Turned
+pub mod Clusters
 pub mod Answering

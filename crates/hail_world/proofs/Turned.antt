@@ -1,13 +1,12 @@
 -- Lines that are played one behind the other, each under its number.
-use Rattle.std.proofs.Common.{◌≡◌, ℕ, zero, suc, ◌+◌, ◌<◌, ◌≤◌, Bool, true, false, List, [], ◌∷◌, ◌++◌, length, map, take, drop, Option, Some, None, refl, sym, ap, subst, ◌∙◌, arith, append_assoc, append-nil}
-use Rattle.std.specs.Prelude.{is_none, slice_get}
-use Rattle.std.specs.Option.{option_map_or}
+use Rattle.std.proofs.Common.{◌≡◌, ℕ, ◌+◌, Bool, List, [], ◌∷◌, ◌++◌, map, Option, Some, None, refl, sym, ap, subst, ◌∙◌}
+use Rattle.std.specs.Prelude.{is_none}
 use Rattle.cw_types.specs.Block.{Block}
-use Rattle.cw_rules.specs.Chains.{Clashes, Ends, Outcome, clash_at, outcome}
+use Rattle.cw_rules.specs.Chains.{Clashes, Ends, clash_at, outcome}
 use Rattle.cw_rules.specs.Reached.{Reaches}
 use Rattle.cw_rules.specs.Report.{Entry, entry_of}
 use Rattle.cw_rules.specs.Rules.{Rules}
-use Rattle.cw_rules.specs.World.{Line, Sent, World, happens, line_member, opening, run}
+use Rattle.cw_rules.specs.World.{Line, World, happens, line_member, run}
 use Rattle.hail_script.specs.declared.error.RunError.{RunError}
 use Rattle.hail_script.specs.declared.error.RunError.TheVariants as error
 use Rattle.hail_world.specs.declared.blocks.KnownBlocks.{KnownBlocks}
@@ -20,7 +19,6 @@ use Rattle.hail_world.specs.Runs.{IsStopped}
 use Rattle.hail_world.specs.Seats.{Seat}
 use Rattle.hail_world.specs.Played.{Begin, HavePlayed, entries_of}
 use Rattle.hail_report.proofs.Numbered.{sent_more}
-use Rattle.hail_world.proofs.Outcomes.{run_more}
 use Rattle.cw_rules.proofs.Changes.{flags_kept}
 
 -- ---- more lines behind some
@@ -96,13 +94,18 @@ clash_behind r w (l ∷ lines) more earlier later e =
 
 -- ---- one line more
 
+pub run_more : (r : Rules) (w : World) (lines : List Line) (line : Line)
+    → run r w (lines ++ line ∷ []) ≡ happens r (run r w lines) line
+run_more r w [] line = refl
+run_more r w (l ∷ lines) line = run_more r (happens r w l) lines line
+
 pub lines_more : (rows : List (ℕ × Line)) (number : ℕ) (line : Line)
     → lines_of (rows ++ (number, line) ∷ []) ≡ lines_of rows ++ line ∷ []
 lines_more [] number line = refl
 lines_more (row ∷ rows) number line =
     ap (λ (l : List Line). row.1 ∷ l) (lines_more rows number line)
 
-entries_more : (r : Rules) (w : World) (rows : List (ℕ × Line)) (number : ℕ) (line : Line)
+pub entries_more : (r : Rules) (w : World) (rows : List (ℕ × Line)) (number : ℕ) (line : Line)
     → entries_of r w (rows ++ (number, line) ∷ [])
     ≡ entries_of r w rows ++ entry_of r (run r w (lines_of rows)) number line ∷ []
 entries_more r w [] number line = refl

@@ -6,5 +6,6 @@ pub mod Reports
 pub mod Runs
 pub mod Known
 pub mod Played
+pub mod Clusters
 pub mod Programs
 pub mod Headline

@@ -1,5 +1,5 @@
 -- What the parts of a run leave.
-use Rattle.std.specs.Prelude.{[], ℕ, ◌+◌, ◌++◌, ◌∷◌, ◌==◌, ◌≡◌, Bool, List, None, Option, Some, drop, flat_map, if◌then◌else◌, is_none, map, nat_lt, option_and_then, take}
+use Rattle.std.specs.Prelude.{[], ℕ, ◌+◌, ◌∷◌, ◌==◌, ◌≡◌, List, None, Option, Some, drop, flat_map, if◌then◌else◌, nat_lt, option_and_then, take}
 use Rattle.std.specs.List.{list_any}
 use Rattle.std.specs.Option.{option_map_or}
 use Rattle.cw_types.specs.Commit.{genesis, genesis_commitment}
@@ -12,8 +12,7 @@ use Rattle.cw_rules.specs.Held.{noted_block_of}
 use Rattle.cw_base.specs.declared.hash.Digest32.{Digest32}
 use Rattle.cw_types.specs.Block.{Block}
 use Rattle.cw_types.specs.declared.note.Note.{Note}
-use Rattle.cw_rules.specs.Chains.{Clashes, Ends, block_under, chain_to, outcome}
-use Rattle.cw_rules.specs.Report.{Entry, entries_from, first_line}
+use Rattle.cw_rules.specs.Chains.{Clashes, block_under, chain_to, outcome}
 use Rattle.cw_rules.specs.Rules.{Rules}
 use Rattle.cw_rules.specs.Step.{Member, member_notes, start}
 use Rattle.cw_rules.specs.World.{Line, World, faults, opening, run}
@@ -23,8 +22,7 @@ use Rattle.hail_script.specs.Scenario.{Scenario}
 use Rattle.hail_world.specs.declared.place.Place.{Place}
 use Rattle.hail_world.specs.declared.place.Place.TheVariants as place
 use Rattle.node_disk.specs.Memory.{memory_state}
-use Rattle.hail_world.specs.Places.{SitAs, rules_of}
-use Rattle.hail_report.specs.Pool.{sent_in}
+use Rattle.hail_world.specs.Places.{rules_of}
 use Rattle.hail_world.specs.Seats.{Seat}
 
 -- the world in which a script begins
@@ -36,32 +34,11 @@ opened hash s = opening (rules_of hash s) s.lines
 abbrev pub seat_of : Rules → List Line → ℕ → Option Member
 seat_of r lines i = if list_any (faults i) lines then None else Some (start r i []).member
 
--- The lines were played without a clash, and the places are those of the world that they end in.
-pub record ArePlayed (r : Rules) (w : World) (lines : List Line) (steps : List Entry)
-    (places : List (Place Seat)) : Type 0 where
-  pub last : World
-  pub ends : outcome r w lines ≡ Ends last
-  pub entries : steps ≡ entries_from r w (first_line r) lines
-  pub members : SitAs places last.members
-
 -- why lines weren't played to their end: for want of memory, or by a clash
 abbrev pub IsStopped : Rules → World → List Line → RunError → Type 0
 IsStopped r w lines error.NoMemory = Unit {0}
 IsStopped r w lines (error.HashClash earlier later) = outcome r w lines ≡ Clashes earlier later
 IsStopped r w lines _ = ⊥
-
--- The first lines were played without a clash: whatever the rest ends in, all end in, and the
--- entries of the rest stand behind these.
-pub record AreMidway (r : Rules) (w : World) (index : ℕ) (lines : List Line) (steps : List Entry)
-    (places : List (Place Seat)) (faulty : List Bool) : Type 0 where
-  pub now : World
-  pub reaches : now ≡ run r w (take index lines)
-  pub ends : outcome r now (drop index lines) ≡ outcome r w lines
-  pub entries : steps ++ entries_from r now (first_line r + index) (drop index lines)
-      ≡ entries_from r w (first_line r) lines
-  pub members : SitAs places now.members
-  pub sent : sent_in steps ≡ now.pool
-  pub flags : faulty ≡ map is_none now.members
 
 -- the encodings of two blocks
 abbrev pub encoded : Rules → Block × Block → List ℕ × List ℕ

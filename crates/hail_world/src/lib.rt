@@ -5,6 +5,7 @@
 mod blocks;
 mod chain;
 mod clash;
+mod cluster;
 mod event;
 mod fault;
 mod frame;
@@ -17,11 +18,9 @@ mod seat;
 mod turn;
 mod world;
 
-pub use blocks::KnownBlocks;
+pub use cluster::Cluster;
 pub use frame::run_source;
-pub use line_turn::turn_line;
-pub use place::Place;
 pub use program::run_input;
 pub use report::{Ran, Report, report_text};
 pub use seat::{Seat, SeatNode};
-pub use world::{open_all, report_of, run_text};
+pub use world::run_text;

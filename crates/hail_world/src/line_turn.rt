@@ -8,7 +8,9 @@ ghost use Rattle.hail_script.specs.Admission as admission;
 ghost use Rattle.hail_script.specs.Events.{line_of};
 ghost use Rattle.hail_script.specs.Grammar.{is_later, names_oversize};
 ghost use Rattle.hail_world.specs.Played.{lines_of};
-ghost use Rattle.hail_world.specs.Places.{WorkBy, rules_of};
+ghost use Rattle.hail_world.specs.Places.{WorkBy, notes_at as notes_in, rules_of};
+ghost use Rattle.hail_world.specs.declared.place.Place.{Place as PlaceValue};
+ghost use Rattle.hail_world.specs.Seats.{Seat as SeatValue};
 ghost use Rattle.hail_world.specs.Runs.{IsStopped};
 ghost use Rattle.hail_world.specs.Played.{Begin, HavePlayed};
 
@@ -17,7 +19,7 @@ use crate::clash::find_clash;
 use crate::place::Place;
 use crate::play::play;
 use crate::seat::Seat;
-use crate::world::notes_before;
+use crate::turn::notes_at;
 use cw_base::{Digest32, Hasher, Strategy};
 use cw_rules::cluster_laws;
 use hail_report::{Entry, Pool};
@@ -27,7 +29,7 @@ use std::alloc::Global;
 use std::thread::Threads;
 
 /// A line's turn: its entry, or the clash that it brings. The blocks that it notes are known then.
-pub fn turn_line<H: Hasher<Digest = Digest32>, W: Way, R: Threads + Sync, S: Strategy>(
+pub(crate) fn turn_line<H: Hasher<Digest = Digest32>, W: Way, R: Threads + Sync, S: Strategy>(
     rt: &R,
     alloc: Global,
     script: &Script,
@@ -79,4 +81,18 @@ pub fn turn_line<H: Hasher<Digest = Digest32>, W: Way, R: Threads + Sync, S: Str
         return Err(RunError::HashClash(earlier, later));
     }
     Ok(entry)
+}
+
+// How many notes who sits there has.
+fn notes_before<H: Hasher<Digest = Digest32>, W: Way>(
+    places: &[Place<Seat<H, W>>],
+    id: usize,
+) -> usize
+    ensures { (p : PlaceValue SeatValue) → slice_get places.now id ≡ Some p
+        → result ≡ length (notes_in p) }
+{
+    match places.get(id) {
+        None => 0,
+        Some(place) => notes_at::<H, W>(place).len(),
+    }
 }

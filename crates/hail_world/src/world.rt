@@ -1,7 +1,7 @@
 //! The cluster that a script runs, from its members' starts to its report.
 
-ghost use Rattle.std.specs.Prelude.{◌≡◌, ◌<◌, ◌^◌, ◌++◌, [], Ok, Some, filter_map, is_none, length};
-ghost use Rattle.std.specs.Prelude.{map, slice_get, IfOk, IfErr, OnOk, Option};
+ghost use Rattle.std.specs.Prelude.{◌≡◌, ◌<◌, ◌^◌, ◌++◌, [], Ok, Some, false, filter_map, length};
+ghost use Rattle.std.specs.Prelude.{map, IfOk, IfErr, OnOk, Option};
 ghost use Rattle.std.specs.List.{enumerate_from};
 ghost use Rattle.cw_rules.specs.Held.{last_ack};
 ghost use Rattle.cw_rules.specs.Report.{acked_at, opening_entries, opening_entry};
@@ -9,32 +9,28 @@ ghost use Rattle.cw_rules.specs.Rules.{Rules};
 ghost use Rattle.cw_rules.specs.Step.{Member};
 ghost use Rattle.hail_world.specs.Offers.{some_of};
 ghost use Rattle.cw_rules.specs.World.{World as RulesWorld};
-ghost use Rattle.hail_script.specs.Grammar.{marks, script_by};
+ghost use Rattle.hail_script.specs.Grammar.{first_event, marks, script_by};
 ghost use Rattle.hail_world.specs.Places.{SitAs, WorkBy, SitsAs, WorksBy};
-ghost use Rattle.hail_world.specs.Places.{notes_at as notes_in, rules_of};
-ghost use Rattle.hail_world.specs.declared.place.Place.{Place as PlaceValue};
+ghost use Rattle.hail_world.specs.Places.{rules_of};
 ghost use Rattle.hail_world.specs.Reports.{AreNodesOf, HoldNotes, IsCause, IsReport, IsRun, honest};
 ghost use Rattle.hail_world.specs.Reports.{honest_at};
 ghost use Rattle.hail_world.specs.Played.{IsReportOf};
-ghost use Rattle.hail_world.specs.Seats.{Seat as SeatValue};
-ghost use Rattle.hail_world.specs.Runs.{ArePlayed, GoesBy, HandsBack, IsStopped, acked_with};
+ghost use Rattle.hail_world.specs.Runs.{GoesBy, HandsBack, IsStopped, acked_with};
 ghost use Rattle.hail_world.specs.Runs.{opened, seat_of};
 
-use crate::blocks::KnownBlocks;
 use crate::chain::chain_of;
-use crate::clash::find_clash;
+use crate::cluster::Cluster;
 use crate::event::is_faulty;
 use crate::place::Place;
-use crate::play::play;
 use crate::report::{Ran, Report};
 use crate::seat::{Seat, SeatNode};
-use crate::turn::{notes_at, restart};
+use crate::turn::restart;
 use cw_base::{Digest32, Hasher, Items, NoMemory, Strategy};
-use cw_rules::{clash_laws, cluster_laws, report_laws};
+use cw_rules::{clash_laws, report_laws};
 use cw_rules_coded::ruled_tells;
 use cw_types::Note;
-use hail_report::{Acked, Entry, Pool};
-use hail_script::{RunError, Script, member_of, script_laws};
+use hail_report::{Acked, Entry};
+use hail_script::{RunError, Script, script_laws};
 use node::Way;
 use node_disk::MemoryDisk;
 use std::alloc::Global;
@@ -64,8 +60,8 @@ pub fn run_text<H: Hasher<Digest = Digest32>, W: Way, R: Threads + Sync, S: Stra
     script.is_cluster();
     let _backlog = script.backlog();
     let _lines = script.lines();
-    match run_script::<H, W, R, S>(rt, alloc, &script, strategy) {
-        Ok(report) => Ok(Ran { script, report }),
+    match run_script::<H, W, R, S>(rt, alloc, script, strategy) {
+        Ok(ran) => Ok(ran),
         Err(error) => Err(error),
     }
 }
@@ -73,31 +69,63 @@ pub fn run_text<H: Hasher<Digest = Digest32>, W: Way, R: Threads + Sync, S: Stra
 fn run_script<H: Hasher<Digest = Digest32>, W: Way, R: Threads + Sync, S: Strategy>(
     rt: &R,
     alloc: Global,
-    script: &Script,
+    script: Script,
     strategy: &S,
-) -> Result<Report<H, W>, RunError>
-    requires way { script.now.travel ≡ W.travel }
-    ensures ok { IfOk result (λ report. IsRun H.digest_of script.now report) }
+) -> Result<Ran<H, W>, RunError>
+    requires way { script.travel ≡ W.travel }
+    ensures script { IfOk result (λ ran. ran.script ≡ script) }
+    ensures ok { IfOk result (λ ran. IsRun H.digest_of script ran.report) }
     ensures err { IfErr result
-        (λ e. IsStopped (rules_of H.digest_of script.now)
-        (opened H.digest_of script.now) script.now.lines e) }
+        (λ e. IsStopped (rules_of H.digest_of script) (opened H.digest_of script) script.lines e) }
 {
-    let _lines = script.lines();
-    let faulty = script.faulty(alloc)?;
-    let (opening, mut places) = open_all::<H, W, R, S>(rt, alloc, script, &faulty, strategy)?;
-    let steps = match play_all::<H, W, R, S>(rt, alloc, script, &faulty, &mut places, strategy) {
-        Ok(steps) => steps,
-        Err(error) => return Err(error),
-    };
-    match report_of::<H, W>(alloc, places, opening, steps) {
-        Ok(report) => Ok(report),
+    let mut cluster = Cluster::<H, W>::open(rt, alloc, script, strategy)?;
+    match play_all(rt, alloc, &mut cluster, strategy) {
+        Ok(()) => {}
+        Err(error) => {
+            drop(cluster);
+            return Err(error);
+        }
+    }
+    cluster.goes_on();
+    match cluster.end(alloc) {
+        Ok(ran) => Ok(ran),
         Err(NoMemory) => Err(RunError::NoMemory),
     }
 }
 
+// Each line's turn, in order, until a clash.
+fn play_all<H: Hasher<Digest = Digest32>, W: Way, R: Threads + Sync, S: Strategy>(
+    rt: &R,
+    alloc: Global,
+    cluster: &mut Cluster<H, W>,
+    strategy: &S,
+) -> Result<(), RunError>
+    requires first { cluster.old.rows ≡ [] }
+    requires whole { cluster.old.over ≡ false }
+    ensures ok { OnOk result
+        (cluster.new
+        ≡ record cluster.old {
+          rows =
+              enumerate_from (first_event cluster.old.script.committees) cluster.old.script.lines;
+        }) }
+    ensures err { IfErr result
+        (λ e. IsStopped (rules_of H.digest_of cluster.old.script)
+        (opened H.digest_of cluster.old.script) cluster.old.script.lines e) }
+{
+    let first = cluster.script().first_event();
+    let count = cluster.script().lines().len();
+    for at in 0..count {
+        match cluster.turn(rt, alloc, at, first + at as u64, strategy) {
+            Ok(()) => {}
+            Err(error) => return Err(error),
+        }
+    }
+    Ok(())
+}
+
 /// The report that the parts of a cluster give behind their last line: the entries of the opening
 /// and of the lines, where each honest member stands, the chain, the disks and the nodes.
-pub fn report_of<H: Hasher<Digest = Digest32>, W: Way>(
+pub(crate) fn report_of<H: Hasher<Digest = Digest32>, W: Way>(
     alloc: Global,
     places: Vec<Place<Seat<H, W>>>,
     opening: Items<Entry>,
@@ -167,7 +195,7 @@ fn push_entry(entries: &mut Items<Entry>, one: Option<Entry>) -> Result<(), NoMe
 }
 
 /// The entries of an opening and the places of the members: each honest member starts, by number.
-pub fn open_all<H: Hasher<Digest = Digest32>, W: Way, R: Threads + Sync, S: Strategy>(
+pub(crate) fn open_all<H: Hasher<Digest = Digest32>, W: Way, R: Threads + Sync, S: Strategy>(
     rt: &R,
     alloc: Global,
     script: &Script,
@@ -191,62 +219,6 @@ pub fn open_all<H: Hasher<Digest = Digest32>, W: Way, R: Threads + Sync, S: Stra
         push_entry(&mut opening, entry)?;
     }
     Ok((opening, places))
-}
-
-// Each line's turn, in order, until a clash.
-fn play_all<H: Hasher<Digest = Digest32>, W: Way, R: Threads + Sync, S: Strategy>(
-    rt: &R,
-    alloc: Global,
-    script: &Script,
-    faulty: &[bool],
-    places: &mut [Place<Seat<H, W>>],
-    strategy: &S,
-) -> Result<Items<Entry>, RunError>
-    requires way { script.now.travel ≡ W.travel }
-    requires members { SitAs places.old (opened H.digest_of script.now).members }
-    requires flags { faulty.now ≡ map is_none (opened H.digest_of script.now).members }
-    requires sound { WorkBy (rules_of H.digest_of script.now) 0 places.old }
-    requires count { length places.old ≡ script.now.committees.total }
-    ensures ok { IfOk result
-        (λ steps. ArePlayed (rules_of H.digest_of script.now)
-        (opened H.digest_of script.now) script.now.lines steps places.new) }
-    ensures sound { IfOk result (λ _. WorkBy (rules_of H.digest_of script.now) 0 places.new) }
-    ensures err { IfErr result
-        (λ e. IsStopped (rules_of H.digest_of script.now)
-        (opened H.digest_of script.now) script.now.lines e) }
-{
-    cluster_laws();
-    script.is_cluster();
-    let mut known = KnownBlocks::new::<H>(alloc)?;
-    let mut pool = Pool::new(alloc);
-    let first = script.first_event();
-    for (index, line) in script.lines().iter().enumerate() {
-        let id = member_of(line) as usize;
-        let old = notes_before::<H, W>(places, id);
-        let number = first + index as u64;
-        let entry = play(
-            rt, alloc, script, faulty, places, &pool, number, line, strategy,
-        )?;
-        if let Some((earlier, later)) = find_clash::<H, W>(alloc, &mut known, places, id, old)? {
-            return Err(RunError::HashClash(earlier, later));
-        }
-        pool = pool.with(alloc, entry)?;
-    }
-    Ok(pool.into_entries())
-}
-
-// How many notes who sits there has.
-pub(crate) fn notes_before<H: Hasher<Digest = Digest32>, W: Way>(
-    places: &[Place<Seat<H, W>>],
-    id: usize,
-) -> usize
-    ensures { (p : PlaceValue SeatValue) → slice_get places.now id ≡ Some p
-        → result ≡ length (notes_in p) }
-{
-    match places.get(id) {
-        None => 0,
-        Some(place) => notes_at::<H, W>(place).len(),
-    }
 }
 
 // Where each honest member stands.

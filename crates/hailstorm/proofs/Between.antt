@@ -1,29 +1,28 @@
 -- What is known of a cluster between two turns.
-use Rattle.std.proofs.Common.{◌≡◌, ℕ, ◌<◌, ◌+◌, ◌++◌, ◌∷◌, arith, Bool, true, false, is_some, List, [], length, map, Option, Some, None, Result, Ok, Err, refl, sym, ap, subst, ◌∙◌}
-use Rattle.std.specs.Prelude.{IfSome, flat_map}
+use Rattle.std.proofs.Common.{◌≡◌, ℕ, ◌<◌, ◌+◌, ◌-◌, ◌++◌, ◌∷◌, arith, get_or, length-append, List, [], length, map, Option, Some, None, Result, Ok, Err, refl, sym, ap, subst, ◌∙◌, ◌⊎◌, inl, inr}
+use Rattle.std.specs.Prelude.{IfSome, flat_map, slice_get, slice_index}
 use Rattle.std.specs.Option.{option_map_or}
 use Rattle.cw_base.specs.declared.hash.Digest32.{Digest32}
 use Rattle.cw_rules.specs.Chains.{Clashes, Ends, outcome}
-use Rattle.cw_rules.specs.Reached.{IsClash, IsCluster, IsReported, Reaches}
-use Rattle.cw_rules.specs.Report.{Entry, handed_in, report_of}
+use Rattle.cw_rules.specs.Reached.{IsClash, Reaches}
+use Rattle.cw_rules.specs.Report.{Entry, entry_of}
 use Rattle.cw_rules.specs.Rules.{Rules}
-use Rattle.cw_rules.specs.World.{Line, World, opening, run}
+use Rattle.cw_rules.specs.World.{Line, World, opening}
 use Rattle.hail_script.specs.declared.error.RunError.{RunError}
 use Rattle.hail_script.specs.declared.error.RunError.TheVariants as error
 use Rattle.hail_script.specs.declared.event.EventLine.{EventLine}
 use Rattle.hail_script.specs.Events.{line_of}
 use Rattle.hail_script.specs.Lanes.{Laned, laned_of, lanes, rows}
-use Rattle.hail_world.specs.declared.blocks.KnownBlocks.{KnownBlocks}
-use Rattle.hail_world.specs.declared.place.Place.{Place}
-use Rattle.hailstorm.specs.Reports.{Report}
-use Rattle.hail_world.specs.Played.{IsReportOf, lines_of}
-use Rattle.hailstorm.specs.Lanes.{IsLanesCause, IsLanesReport, lane_at, left, played, without_next}
-use Rattle.hail_world.specs.Places.{SitAs, WorkBy, rules_of}
-use Rattle.hail_world.specs.Runs.{GoesBy, opened}
-use Rattle.hail_world.specs.Seats.{Seat}
-use Rattle.hailstorm.specs.Turns.{IsBetween, IsOver, IsTurnBy, IsTurnOf, IsTurning, Turning, between, told_order}
+use Rattle.hail_script.specs.Scenario.{Scenario}
+use Rattle.hail_world.specs.Clusters.{Cluster, steps_in, world_in}
+use Rattle.hailstorm.specs.Lanes.{IsLanesCause, lane_at, left, without_next}
+use Rattle.hail_world.specs.Places.{rules_of}
+use Rattle.hail_world.specs.Played.{lines_of}
+use Rattle.hail_world.specs.Runs.{IsStopped, opened}
+use Rattle.hailstorm.specs.Turns.{HasAdvanced, IsBetween, IsOver, IsTurnBy, IsTurnOf, IsTurning, Turning, between, told_order}
 use Rattle.hail_world.proofs.Known.{count_lines}
-use Rattle.hailstorm.proofs.Laned.{TellsApart, count_rows, lanes_clashed, lanes_reported}
+use Rattle.hail_world.proofs.Turned.{entries_more}
+use Rattle.hailstorm.proofs.Laned.{TellsApart, count_rows, is_over, lanes_clashed, lines_then, next_row, turns_then}
 use Rattle.hailstorm.proofs.Merging.{fewer_left, left_more}
 
 pub rows_many : (x : Laned) (es : List EventLine) → map line_of es ≡ x.script.lines
@@ -31,22 +30,15 @@ pub rows_many : (x : Laned) (es : List EventLine) → map line_of es ≡ x.scrip
 rows_many x es is = count_rows x ∙ ap (λ (l : List Line). length l) (sym is) ∙ count_lines es
 
 module _ (hash : List ℕ → Digest32) (x : Laned) (order : List ℕ) (stopped : Option RunError)
-    (opens : List Entry) (cursors : List (ℕ × ℕ)) (steps : List Entry) (places : List (Place Seat))
-    (known : KnownBlocks) (faulty : List Bool)
-    (h : IsTurning hash x order stopped opens cursors steps places known faulty) where
+    (cluster : Cluster) (cursors : List (ℕ × ℕ))
+    (h : IsTurning hash x order stopped cluster cursors) where
   -- no clash was met yet
-  pub between_of : stopped ≡ None → IsBetween hash x order cursors steps places known faulty
-  between_of none =
-      (subst
-      (λ (o : Option RunError). IsTurning hash x order o opens cursors steps places known faulty)
-      none h).1
+  pub between_of : stopped ≡ None → IsBetween x order cluster cursors
+  between_of none = subst (λ (o : Option RunError). IsTurning hash x order o cluster cursors) none h
 
   -- why no further line is played
   pub over_of : (e : RunError) → stopped ≡ Some e → IsOver hash x order e
-  over_of e is =
-      (subst
-      (λ (o : Option RunError). IsTurning hash x order o opens cursors steps places known faulty)
-      is h).1
+  over_of e is = subst (λ (o : Option RunError). IsTurning hash x order o cluster cursors) is h
 
   -- a lane without a cursor before its end has no line left
   pub nothing_next : (seen : List (ℕ × ℕ)) (count k : ℕ) → stopped ≡ None → seen ≡ cursors
@@ -85,38 +77,107 @@ module _ (hash : List ℕ → Digest32) (x : Laned) (order : List ℕ) (stopped 
             (some (rows x) many),
       )
 
-  -- the report of its end
-  pub ends_reported : {H : Type 0} (text : List ℕ) (report : Report H) → laned_of text ≡ Ok x
-      → stopped ≡ None → flat_map (λ lane. lane) (left (lanes x) order) ≡ []
-      → ((r : Rules) (w : World) → GoesBy hash r → WorkBy r 0 places → SitAs places w.members
-      → IsReportOf r w opens steps report)
-      → IsCluster (rules_of hash x.script) x.script.lines → 0 < x.script.backlog
-      → ((r : Rules) (script : List Line) (w : World) → IsCluster r script → 0 < r.backlog
-      → outcome r (opening r script) script ≡ Ends w
-      → IsReported r w (handed_in r script) (report_of r script w).chain)
-      → IsLanesReport hash text order report
-  ends_reported text report spells none left_none told cluster some law =
-      let b = between_of none in
-      let r = rules_of hash x.script in
-      let w = run r (opened hash x.script) (lines_of (played x order)) in
-      lanes_reported hash text x order opens steps cursors places known faulty report spells b h.0
-      left_none
-      (told r w (record { hashes = refl; blocks = refl; contexts = refl }) b.sound b.played.members)
-      cluster some law
+-- the last of a list
+pub last_at : {X : Type 0} (front : List X) (e d : X) (xs : List X) → xs ≡ front ++ e ∷ []
+    → get_or xs (length xs - 1) d ≡ e
+last_at {X} front e d xs is =
+    let many = length-append front (e ∷ []) in
+    let one : length (front ++ e ∷ []) - 1 ≡ length front = omega (arith, many) in
+    ap (λ (l : List X). get_or l (length l - 1) d) is
+    ∙ ap (λ (n : ℕ). get_or (front ++ e ∷ []) n d) one ∙ at front
+  where
+    at : (ys : List X) → get_or (ys ++ e ∷ []) (length ys) d ≡ e
+    at [] = refl
+    at (y ∷ ys) = at ys
+
+-- the entries behind a turn
+pub steps_more : (hash : List ℕ → Digest32) (old new : Cluster) (number : ℕ) (line : Line)
+    (steps : List Entry)
+    → new ≡ record old { rows = old.rows ++ (number, line) ∷ [] } → steps ≡ steps_in hash new
+    → steps
+    ≡ steps_in hash old
+    ++ entry_of (rules_of hash old.script) (world_in hash old) number line ∷ []
+steps_more hash old new number line steps is all =
+    all ∙ ap (λ (k : Cluster). steps_in hash k) is
+    ∙ entries_more (rules_of hash old.script) (opened hash old.script) old.rows number line
 
 -- the same, whatever its parts are called
-pub same_between : (hash : List ℕ → Digest32) (x : Laned) (order order' : List ℕ)
-    (cursors cursors' : List (ℕ × ℕ)) (steps : List Entry) (places places' : List (Place Seat))
-    (known : KnownBlocks) (faulty faulty' : List Bool)
-    → order ≡ order' → cursors ≡ cursors' → places ≡ places' → faulty ≡ faulty'
-    → IsBetween hash x order cursors steps places known faulty
-    → IsBetween hash x order' cursors' steps places' known faulty'
-same_between hash x order order' cursors cursors' steps places places' known faulty faulty' o c p f
-    h =
-    subst (λ (l : List Bool). IsBetween hash x order' cursors' steps places' known l) f
-    (subst (λ (l : List (Place Seat)). IsBetween hash x order' cursors' steps l known faulty) p
-    (subst (λ (l : List (ℕ × ℕ)). IsBetween hash x order' l steps places known faulty) c
-    (subst (λ (l : List ℕ). IsBetween hash x l cursors steps places known faulty) o h)))
+pub between_seen : (x : Laned) (script : Scenario) (numbers sizes order order' : List ℕ)
+    (cluster : Cluster) (cursors cursors' : List (ℕ × ℕ))
+    → script ≡ x.script → numbers ≡ x.numbers → sizes ≡ x.sizes → order' ≡ order
+    → cursors' ≡ cursors → IsBetween x order cluster cursors
+    → IsBetween (record { script = script; numbers = numbers; sizes = sizes }) order' cluster
+    cursors'
+between_seen x script numbers sizes order order' cluster cursors cursors' s n z o c h =
+    rw (s, n, z, o, c) h
+
+-- a turn of a lane that has a line left
+module _ (hash : List ℕ → Digest32) (x : Laned) (order : List ℕ) (cluster : Cluster)
+    (cursors : List (ℕ × ℕ)) (h : IsBetween x order cluster cursors) (k from end : ℕ) (line : Line)
+    (at : slice_get cursors k ≡ Some (from, end)) (lt : from < end)
+    (there : slice_get x.script.lines from ≡ Some line) where
+  pub advanced : (entry : Entry)
+      → entry
+      ≡ entry_of (rules_of hash cluster.script) (world_in hash cluster)
+      (slice_index x.numbers from) line
+      → HasAdvanced hash x order k entry
+  advanced entry gives = record {
+    row = (slice_index x.numbers from, line);
+    next = next_row x order cursors k from end line h.rest at lt there;
+    gives =
+        gives
+        ∙ ap
+        (λ (c : Cluster). entry_of (rules_of hash c.script) (world_in hash c)
+        (slice_index x.numbers from) line)
+        h.played;
+  }
+
+  pub over_by : (e : RunError)
+      → outcome (rules_of hash cluster.script) (opened hash cluster.script) (lines_of cluster.rows)
+      ≡ Ends (world_in hash cluster)
+      → IsStopped (rules_of hash cluster.script) (opened hash cluster.script)
+      (lines_of cluster.rows ++ line ∷ []) e
+      → IsOver hash x (order ++ k ∷ []) e
+  over_by e ends stops =
+      is_over hash x order k line e
+      (lines_then x order cursors k from end line h.rest at lt there)
+      (subst
+      (λ (c : Cluster). outcome (rules_of hash c.script) (opened hash c.script) (lines_of c.rows)
+      ≡ Ends (world_in hash c))
+      h.played ends)
+      (turns_then x order cursors k from end line h.rest at lt there h.turns)
+      (subst
+      (λ (c : Cluster). IsStopped (rules_of hash c.script) (opened hash c.script)
+      (lines_of c.rows ++ line ∷ []) e)
+      h.played stops)
+
+-- what is told of why no further line is played
+pub over_told : (hash : List ℕ → Digest32) (x : Laned) (order : List ℕ) (e told : RunError)
+    → (told ≡ e) ⊎ (told ≡ error.NoMemory) → IsOver hash x order e → IsOver hash x order told
+over_told hash x order e told (inl is) h = rw is h
+over_told hash x order e told (inr is) h = rw is tt
+
+-- the reply of a turn that was played
+pub replied : (hash : List ℕ → Digest32) (old seen new : Turning) (k : ℕ) (entry : Entry)
+    → old ≡ seen → new.laned ≡ old.laned → old.stopped ≡ None
+    → HasAdvanced hash old.laned old.order k entry → new.order ≡ old.order ++ k ∷ []
+    → new.stopped ≡ None → IsTurnOf hash seen k (Ok (Some entry)) new
+replied hash old seen new k entry is same none turn order goes =
+    subst (λ (t : Turning). IsTurnOf hash t k (Ok (Some entry)) new) is (
+      same,
+      subst (λ (o : Option RunError). IsTurnBy hash old k (Ok (Some entry)) new o) (sym none)
+          (turn, order, goes),
+    )
+
+-- the reply of one that wasn't
+pub refused : (hash : List ℕ → Digest32) (old seen new : Turning) (k : ℕ) (e : RunError)
+    → old ≡ seen → new.laned ≡ old.laned → old.stopped ≡ None → new.stopped ≡ Some e
+    → IsOver hash new.laned new.order e → IsTurnOf hash seen k (Err e) new
+refused hash old seen new k e is same none stops over =
+    subst (λ (t : Turning). IsTurnOf hash t k (Err e) new) is (
+      same,
+      subst (λ (o : Option RunError). IsTurnBy hash old k (Err e) new o) (sym none) (stops, over),
+    )
 
 -- a turn that finds no line
 pub turns_none : (hash : List ℕ → Digest32) (t : Turning) (k : ℕ) → t.stopped ≡ None

@@ -1,37 +1,33 @@
 -- A script whose lanes are merged in an order.
-use Rattle.std.proofs.Common.{◌≡◌, ◌≢◌, ℕ, zero, suc, ◌+◌, ◌-◌, ◌<◌, ◌≤◌, ◌||◌, Bool, true, false, not, List, [], ◌∷◌, ◌++◌, length, map, take, drop, Option, Some, None, Result, Ok, Err, refl, sym, ap, subst, ◌∙◌, arith, append_assoc, append-nil, length-append, ◌⊎◌, inl, inr}
-use Rattle.std.specs.Prelude.{cond, count_by, filter, filter_map, flat_map, is_none, slice_get, slice_index, slice_set}
+use Rattle.std.proofs.Common.{◌≡◌, ◌≢◌, ℕ, zero, suc, ◌+◌, ◌-◌, ◌<◌, ◌||◌, Bool, false, List, [], ◌∷◌, ◌++◌, length, map, take, drop, Option, Some, None, Ok, Err, refl, sym, ap, subst, ◌∙◌, arith, append_assoc, append-nil, length-append, ◌⊎◌, inl, inr}
+use Rattle.std.specs.Prelude.{cond, filter_map, flat_map, slice_get, slice_index, slice_set}
 use Rattle.std.specs.List.{AllByRecursion, enumerate_from, list_any, range_with_len}
 use Rattle.std.specs.Option.{option_map_or}
 use Rattle.std.proofs.Math.Path.{fun_ext}
 use Rattle.std.proofs.lemmas.List.Folds.{list_any-append}
 use Rattle.cw_base.specs.declared.hash.Digest32.{Digest32}
 use Rattle.cw_types.specs.Block.{Block}
-use Rattle.cw_types.specs.Epochs.{members_in, size}
-use Rattle.cw_types.specs.Numbers.{max_faults}
 use Rattle.cw_rules.specs.Chains.{Clashes, Ends, outcome}
 use Rattle.cw_rules.specs.Reached.{IsClash, IsCluster, IsReported, Reaches}
-use Rattle.cw_rules.specs.Report.{Acked, Entry, Report as Reported, acked_at, entries_from, entry_of, first_line, handed_in, highest, opening_entries, opening_entry, report_of}
+use Rattle.cw_rules.specs.Report.{Entry, acked_at, entries_from, entry_of, first_line, handed_in, highest, opening_entries, report_of}
 use Rattle.cw_rules.specs.Rules.{Rules}
-use Rattle.cw_rules.specs.Step.{Member, start}
+use Rattle.cw_rules.specs.Step.{start}
 use Rattle.cw_rules.specs.Telling.{FitsLine, TellsBlocks}
 use Rattle.cw_rules.specs.World.{Line, World, faults, happens, opening, run}
-use Rattle.hail_script.specs.Grammar.{first_event}
 use Rattle.hail_script.specs.Lanes.{Laned, cut, laned_of, lanes, prefix, rows}
 use Rattle.hail_script.proofs.Causes.{laned_early}
 use Rattle.hail_script.specs.declared.error.RunError.{RunError}
 use Rattle.hail_script.specs.declared.error.RunError.TheVariants as error
-use Rattle.hail_world.specs.declared.blocks.KnownBlocks.{KnownBlocks}
-use Rattle.hail_world.specs.declared.place.Place.{Place}
 use Rattle.hailstorm.specs.Reports.{Report}
-use Rattle.hail_world.specs.Played.{Begin, HavePlayed, IsReportOf, entries_of, lines_of}
-use Rattle.hailstorm.specs.Lanes.{IsLanesCause, IsLanesClash, IsLanesReport, as_plain, but_last, lane_at, left, merged, played, renumbered, script_with, turns_of, whole, without_next}
-use Rattle.hail_world.specs.Places.{WorkBy, rules_of}
-use Rattle.hailstorm.specs.Reports.{IsClashOf, IsRun}
+use Rattle.hail_world.specs.Clusters.{Cluster, steps_in, world_in}
+use Rattle.hail_world.specs.Played.{IsReportOf, entries_of, lines_of}
+use Rattle.hailstorm.specs.Lanes.{IsLanesCause, IsLanesClash, IsLanesReport, but_last, lane_at, left, merged, played, renumbered, script_with, turns_of, whole, without_next}
+use Rattle.hail_world.specs.Places.{rules_of}
+use Rattle.hailstorm.specs.Reports.{IsClashOf}
 use Rattle.hail_world.specs.Runs.{IsStopped, chain_from, opened}
-use Rattle.hail_world.specs.Seats.{Seat}
-use Rattle.hailstorm.specs.Turns.{HasAdvanced, HasMet, IsBetween, IsOver, between}
+use Rattle.hailstorm.specs.Turns.{HasMet, IsBetween, IsOver, between}
 use Rattle.hailstorm.proofs.Merging.{all_turned, between_next, cursor_lane, cursor_next, cut_whole, left_more, merged_any, merged_length, merged_more, rows_count, rows_get, rows_lines, turns_next}
+use Rattle.hail_world.proofs.Clusters.{same_cluster, same_opening}
 use Rattle.hail_world.proofs.Reporting.{openers}
 use Rattle.hail_world.proofs.Running.{four}
 use Rattle.hail_world.proofs.Turned.{clash_behind, lines_more}
@@ -88,34 +84,6 @@ pub same_faults : (x : Laned) (order : List ℕ)
     → (let p : ℕ → Bool = λ i. list_any (faults i) x.script.lines in p)
     ≡ (λ i. list_any (faults i) (lines_of (whole x order)))
 same_faults x order = fun_ext (λ i. same_any x order (faults i))
-
-pub same_cluster : (r : Rules) (a b : List Line)
-    → (let p : ℕ → Bool = λ i. list_any (faults i) a in p) ≡ (λ i. list_any (faults i) b)
-    → IsCluster r a → IsCluster r b
-same_cluster r a b same c = record {
-  enough = c.enough;
-  rising = c.rising;
-  there = c.there;
-  few =
-      λ epoch. subst
-      (λ (p : ℕ → Bool). count_by p (members_in r.epochs epoch)
-      ≤ max_faults (size r.epochs epoch))
-      same (c.few epoch);
-  spans = c.spans;
-}
-
-pub same_opening : (r : Rules) (a b : List Line)
-    → (let p : ℕ → Bool = λ i. list_any (faults i) a in p) ≡ (λ i. list_any (faults i) b)
-    → opening r a ≡ opening r b
-same_opening r a b same =
-    ap
-    (λ (p : ℕ → Bool). let w : World = record {
-      members =
-          map (λ i. cond (p i) None (Some (start r i []).member))
-          (range_with_len 0 r.epochs.total);
-      pool = [];
-    } in w)
-    same
 
 pub same_entries : (r : Rules) (a b : List Line)
     → (let p : ℕ → Bool = λ i. list_any (faults i) a in p) ≡ (λ i. list_any (faults i) b)
@@ -245,27 +213,6 @@ module _ (x : Laned) (order : List ℕ) (cursors : List (ℕ × ℕ)) (k from en
       ap (λ (l : List (ℕ × Line)). lines_of l) played_more
       ∙ lines_more (played x order) (slice_index x.numbers from) line
 
-  -- the lines so far and this one begin a script of the cluster
-  pub begins : (r : Rules) → IsCluster r x.script.lines
-      → Begin r (opening r x.script.lines) (lines_of (played x order) ++ line ∷ [])
-  begins r cluster =
-      let all = lines_of (whole x (order ++ k ∷ [])) in
-      let behind = lines_of (flat_map (λ lane. lane) (left (lanes x) (order ++ k ∷ []))) in
-      let same : all ≡ (lines_of (played x order) ++ line ∷ []) ++ behind =
-      lines_joined (played x (order ++ k ∷ []))
-      (flat_map (λ lane. lane) (left (lanes x) (order ++ k ∷ [])))
-      ∙ ap (λ (l : List Line). l ++ behind) lines_then
-      in
-      record {
-        rest = behind;
-        cluster =
-            subst (λ (l : List Line). IsCluster r l) same
-            (same_cluster r x.script.lines all (same_faults x (order ++ k ∷ [])) cluster);
-        opens =
-            same_opening r x.script.lines all (same_faults x (order ++ k ∷ []))
-            ∙ ap (λ (l : List Line). opening r l) same;
-      }
-
   pub turns_then : ((j : ℕ)
       → turns_of j order + length (lane_at (left (lanes x) order) j) ≡ length (lane_at (lanes x) j))
       → (j : ℕ)
@@ -362,24 +309,36 @@ count_played x order none =
     omega (arith, lost, many, both, all, same, rows_are)
 
 pub lanes_reported : {H : Type 0} (hash : List ℕ → Digest32) (text : List ℕ) (x : Laned)
-    (order : List ℕ) (opens steps : List Entry) (cursors : List (ℕ × ℕ))
-    (places : List (Place Seat)) (known : KnownBlocks) (faulty : List Bool) (report : Report H)
-    → laned_of text ≡ Ok x → IsBetween hash x order cursors steps places known faulty
-    → opens ≡ opening_entries (rules_of hash x.script) x.script.lines
+    (order : List ℕ) (cluster : Cluster) (cursors : List (ℕ × ℕ)) (report : Report H)
+    → laned_of text ≡ Ok x → IsBetween x order cluster cursors
     → flat_map (λ lane. lane) (left (lanes x) order) ≡ []
-    → IsReportOf (rules_of hash x.script)
-    (run (rules_of hash x.script) (opened hash x.script) (lines_of (played x order))) opens
-    steps report
+    → outcome (rules_of hash cluster.script) (opened hash cluster.script) (lines_of cluster.rows)
+    ≡ Ends (world_in hash cluster)
+    → IsReportOf (rules_of hash cluster.script) (world_in hash cluster)
+    (opening_entries (rules_of hash cluster.script) cluster.script.lines) (steps_in hash cluster)
+    report
     → IsCluster (rules_of hash x.script) x.script.lines → 0 < x.script.backlog
     → ((r : Rules) (script : List Line) (w : World) → IsCluster r script → 0 < r.backlog
     → outcome r (opening r script) script ≡ Ends w
     → IsReported r w (handed_in r script) (report_of r script w).chain)
     → IsLanesReport hash text order report
-lanes_reported hash text x order opens steps cursors places known faulty report spells h begun none
-    told cluster some law =
+lanes_reported hash text x order cluster cursors report spells h none clear tells among some law =
     let r = rules_of hash x.script in
     let w = opened hash x.script in
     let lines = lines_of (played x order) in
+    let opens : List Entry = opening_entries r x.script.lines in
+    let steps : List Entry = entries_of r w (played x order) in
+    let world = run r w lines in
+    let played_all : outcome r w lines ≡ Ends world =
+    subst
+    (λ (c : Cluster). outcome (rules_of hash c.script) (opened hash c.script) (lines_of c.rows)
+    ≡ Ends (world_in hash c))
+    h.played clear in
+    let told : IsReportOf r world opens steps report =
+    subst
+    (λ (c : Cluster). IsReportOf (rules_of hash c.script) (world_in hash c)
+    (opening_entries (rules_of hash c.script) c.script.lines) (steps_in hash c) report)
+    h.played tells in
     let same : (let p : ℕ → Bool = λ i. list_any (faults i) x.script.lines in p)
     ≡ (λ i. list_any (faults i) lines) =
     subst
@@ -388,27 +347,23 @@ lanes_reported hash text x order opens steps cursors places known faulty report 
     (nothing_left x order none) (same_faults x order)
     in
     let same_world : w ≡ opening r lines = same_opening r x.script.lines lines same in
-    let world = run r w lines in
     let ends : outcome r (opening r lines) lines ≡ Ends world =
-    subst (λ (v : World). outcome r v lines ≡ Ends world) same_world h.played.ends in
-    let entries : report.steps ≡ entries_of r w (played x order) =
-    told.steps_are ∙ h.played.entries in
+    subst (λ (v : World). outcome r v lines ≡ Ends world) same_world played_all in
+    let entries : report.steps ≡ entries_of r w (played x order) = told.steps_are in
     let starts : report.opening ≡ opening_entries r lines =
-    told.opening_is ∙ begun ∙ same_entries r x.script.lines lines same in
+    told.opening_is ∙ same_entries r x.script.lines lines same in
     let plain : renumbered (first_line r) report.steps
     ≡ entries_from r (opening r lines) (first_line r) lines =
     ap (λ (l : List Entry). renumbered (first_line r) l) entries
     ∙ plain_entries r w (first_line r) (played x order)
     ∙ ap (λ (v : World). entries_from r v (first_line r) lines) same_world
     in
-    let steps_are : steps ≡ entries_of r w (played x order) = h.played.entries in
     let handed : flat_map (λ (e : Entry). e.handed) (opens ++ steps) ≡ handed_in r lines =
     joined_handed opens steps
     ∙ ap (λ l. flat_map (λ (e : Entry). e.handed) l ++ flat_map (λ (e : Entry). e.handed) steps)
-    (begun ∙ same_entries r x.script.lines lines same)
+    (same_entries r x.script.lines lines same)
     ∙ ap (λ l. flat_map (λ (e : Entry). e.handed) (opening_entries r lines) ++ l)
-    (ap (λ (l : List Entry). flat_map (λ (e : Entry). e.handed) l) steps_are
-    ∙ same_handed r w (first_line r) (played x order)
+    (same_handed r w (first_line r) (played x order)
     ∙ ap (λ (v : World). flat_map (λ (e : Entry). e.handed) (entries_from r v (first_line r) lines))
     same_world)
     ∙ sym
@@ -440,14 +395,14 @@ lanes_reported hash text x order opens steps cursors places known faulty report 
         nodes = told.nodes;
       };
       opened =
-          ap (λ (l : List Entry). map (λ (e : Entry). e.member) l) (told.opening_is ∙ begun)
+          ap (λ (l : List Entry). map (λ (e : Entry). e.member) l) told.opening_is
           ∙ openers r x.script.lines (range_with_len 0 x.script.committees.total);
       stepped =
           ap (λ (l : List Entry). length l) entries ∙ count_entries r w (played x order)
           ∙ count_played x order none;
       chain =
           subst (λ (l : List Block). IsReported r world (handed_in r lines) l) (sym chain)
-          (law r lines world (same_cluster r x.script.lines lines same cluster) some ends);
+          (law r lines world (same_cluster r x.script.lines lines same among) some ends);
     }
   where
     joined_handed : (a b : List Entry)
@@ -586,29 +541,25 @@ lanes_refused hash text (error.UnknownMember line) (inr h) = (refl, h)
 lanes_refused hash text (error.OversizeBlock line) (inr h) = (refl, h)
 
 -- a turn without a clash
-pub turned_on : (hash : List ℕ → Digest32) (x : Laned) (order : List ℕ)
-    (cursors after : List (ℕ × ℕ)) (steps more : List Entry) (places new : List (Place Seat))
-    (knew known : KnownBlocks) (faulty : List Bool) (k from end : ℕ) (line : Line)
-    → IsBetween hash x order cursors steps places knew faulty
-    → slice_get cursors k ≡ Some (from, end)
-    → from < end → slice_get x.script.lines from ≡ Some line
-    → HavePlayed (rules_of hash x.script) (opened hash x.script)
-    (played x order ++ (slice_index x.numbers from, line) ∷ []) more new known faulty
-    → WorkBy (rules_of hash x.script) 0 new → length new ≡ x.script.committees.total
-    → after ≡ slice_set cursors k (from + 1, end)
-    → IsBetween hash x (order ++ k ∷ []) after more new known faulty
-turned_on hash x order cursors after steps more places new knew known faulty k from end line h at lt
-    there plays sound count is =
-    record {
-      played =
-          subst
-          (λ (l : List (ℕ × Line)). HavePlayed (rules_of hash x.script) (opened hash x.script) l
-          more new known faulty)
-          (sym (played_more x order cursors k from end line h.rest at lt there)) plays;
-      rest =
-          rest_more x order cursors k from end line h.rest at lt there
-          ∙ ap (λ (l : List (ℕ × ℕ)). map (between (rows x)) l) (sym is);
-      turns = turns_then x order cursors k from end line h.rest at lt there h.turns;
-      sound = sound;
-      count = count;
-    }
+pub turned_on : (x : Laned) (order : List ℕ) (cluster new : Cluster) (cursors after : List (ℕ × ℕ))
+    (k from end : ℕ) (line : Line)
+    → IsBetween x order cluster cursors → slice_get cursors k ≡ Some (from, end) → from < end
+    → slice_get x.script.lines from ≡ Some line
+    → new ≡ record cluster { rows = cluster.rows ++ (slice_index x.numbers from, line) ∷ [] }
+    → after ≡ slice_set cursors k (from + 1, end) → IsBetween x (order ++ k ∷ []) new after
+turned_on x order cluster new cursors after k from end line h at lt there turns is = record {
+  played =
+      turns
+      ∙ ap
+      (λ (c : Cluster). let n : Cluster =
+      record c { rows = c.rows ++ (slice_index x.numbers from, line) ∷ [] } in n)
+      h.played
+      ∙ ap
+      (λ (l : List (ℕ × Line)). let n : Cluster =
+      record { script = x.script; rows = l; over = false } in n)
+      (sym (played_more x order cursors k from end line h.rest at lt there));
+  rest =
+      rest_more x order cursors k from end line h.rest at lt there
+      ∙ ap (λ (l : List (ℕ × ℕ)). map (between (rows x)) l) (sym is);
+  turns = turns_then x order cursors k from end line h.rest at lt there h.turns;
+}

@@ -1,18 +1,16 @@
 -- A cluster whose lanes have turns.
-use Rattle.std.specs.Prelude.{[], ℕ, ◌++◌, ◌+◌, ◌∷◌, ◌≡◌, ◌⊎◌, ◌≤◌, Bool, Err, List, None, Ok, Option, Result, Some, drop, length, map, take}
+use Rattle.std.specs.Prelude.{[], ℕ, ◌++◌, ◌+◌, ◌∷◌, ◌≡◌, ◌⊎◌, ◌≤◌, Err, List, None, Ok, Option, Result, Some, drop, false, length, map, take}
 use Rattle.cw_base.specs.declared.hash.Digest32.{Digest32}
 use Rattle.cw_rules.specs.Chains.{Clashes, Ends, outcome}
-use Rattle.cw_rules.specs.Report.{Entry, entry_of, opening_entries}
+use Rattle.cw_rules.specs.Report.{Entry, entry_of}
 use Rattle.cw_rules.specs.World.{Line, run}
 use Rattle.hail_script.specs.declared.error.RunError.{RunError}
 use Rattle.hail_script.specs.declared.error.RunError.TheVariants as error
 use Rattle.hail_script.specs.Lanes.{Laned, lanes, rows}
-use Rattle.hail_world.specs.declared.blocks.KnownBlocks.{KnownBlocks}
-use Rattle.hail_world.specs.declared.place.Place.{Place}
-use Rattle.hail_world.specs.Places.{WorkBy, rules_of}
-use Rattle.hail_world.specs.Played.{HavePlayed, lines_of}
+use Rattle.hail_world.specs.Clusters.{Cluster}
+use Rattle.hail_world.specs.Places.{rules_of}
+use Rattle.hail_world.specs.Played.{lines_of}
 use Rattle.hail_world.specs.Runs.{opened}
-use Rattle.hail_world.specs.Seats.{Seat}
 use Rattle.hailstorm.specs.Lanes.{but_last, lane_at, left, played, turns_of}
 
 -- ---- a cluster between two turns
@@ -21,17 +19,13 @@ use Rattle.hailstorm.specs.Lanes.{but_last, lane_at, left, played, turns_of}
 abbrev pub between : List (ℕ × Line) → ℕ × ℕ → List (ℕ × Line)
 between rows (from, end) = drop from (take end rows)
 
--- no clash was met so far, and of each lane these lines are left
-pub record IsBetween (hash : List ℕ → Digest32) (x : Laned) (order : List ℕ)
-    (cursors : List (ℕ × ℕ)) (steps : List Entry) (places : List (Place Seat))
-    (known : KnownBlocks) (faulty : List Bool) : Type 0 where
-  pub played : HavePlayed (rules_of hash x.script) (opened hash x.script) (played x order) steps
-      places known faulty
+-- the cluster has played these turns and goes on, and of each lane these lines are left
+pub record IsBetween (x : Laned) (order : List ℕ) (cluster : Cluster)
+    (cursors : List (ℕ × ℕ)) : Type 0 where
+  pub played : cluster ≡ record { script = x.script; rows = played x order; over = false }
   pub rest : left (lanes x) order ≡ map (between (rows x)) cursors
   pub turns : (k : ℕ)
       → turns_of k order + length (lane_at (left (lanes x) order) k) ≡ length (lane_at (lanes x) k)
-  pub sound : WorkBy (rules_of hash x.script) 0 places
-  pub count : length places ≡ x.script.committees.total
 
 -- the last of these turns met this clash
 pub record HasMet (hash : List ℕ → Digest32) (x : Laned) (order : List ℕ)
@@ -59,14 +53,10 @@ pub record Turning : Type 0 where
   pub stopped : Option RunError
 
 -- what is known of it
-abbrev pub IsTurning : (List ℕ → Digest32) → Laned → List ℕ → Option RunError → List Entry
-    → List (ℕ × ℕ) → List Entry → List (Place Seat) → KnownBlocks → List Bool → Type 0
-IsTurning hash x order stopped opening cursors steps places known faulty =
-    (opening ≡ opening_entries (rules_of hash x.script) x.script.lines) × GoesOn stopped
-  where
-    GoesOn : Option RunError → Type 0
-    GoesOn None = IsBetween hash x order cursors steps places known faulty
-    GoesOn (Some e) = IsOver hash x order e
+abbrev pub IsTurning : (List ℕ → Digest32) → Laned → List ℕ → Option RunError → Cluster
+    → List (ℕ × ℕ) → Type 0
+IsTurning hash x order None cluster cursors = IsBetween x order cluster cursors
+IsTurning hash x order (Some e) cluster cursors = IsOver hash x order e
 
 -- ---- a turn of a lane
 

@@ -1,20 +1,18 @@
 //! The cluster of a script with lanes: any lane may have the next turn.
 
-ghost use Rattle.std.specs.Prelude.{◌≡◌, ◌<◌, ◌≤◌, ◌⊎◌, ◌^◌, ◌++◌, ◌∷◌, [], ℕ, List, None, Some};
-ghost use Rattle.std.specs.Prelude.{flat_map, is_none, length, map, slice_get, take, true, IfOk};
-ghost use Rattle.std.specs.Prelude.{IfErr, IfSome, OnOk, vec_len};
-ghost use Rattle.cw_rules.specs.Report.{entry_of, opening_entries};
-ghost use Rattle.cw_rules.specs.Rules.{Rules};
-ghost use Rattle.cw_rules.specs.World.{Line, World as RulesWorld, run};
+ghost use Rattle.std.specs.Prelude.{◌≡◌, ◌<◌, ◌≤◌, ◌⊎◌, ◌++◌, ◌∷◌, [], ℕ, List, None, Ok, Some};
+ghost use Rattle.std.specs.Prelude.{false, flat_map, length, slice_get, take, true};
+ghost use Rattle.std.specs.Prelude.{IfErr, IfOk, IfSome, OnOk};
+ghost use Rattle.cw_rules.specs.Chains.{Ends, outcome};
+ghost use Rattle.cw_rules.specs.Report.{entry_of};
+ghost use Rattle.cw_rules.specs.World.{Line};
 ghost use Rattle.hail_script.specs.declared.error.RunError.TheVariants as cause;
 ghost use Rattle.hail_script.specs.Lanes.{Laned, laned_of, lanes as lanes_in, prefix, rows};
-ghost use Rattle.hail_world.specs.Played.{HavePlayed, IsReportOf, lines_of};
+ghost use Rattle.hail_world.specs.Clusters.{world_in};
+ghost use Rattle.hail_world.specs.Places.{rules_of};
+ghost use Rattle.hail_world.specs.Played.{lines_of};
+ghost use Rattle.hail_world.specs.Runs.{IsStopped, opened};
 ghost use Rattle.hailstorm.specs.Lanes.{IsLanesCause, IsLanesReport, lane_at, left};
-ghost use Rattle.hail_world.specs.Known.{Knows};
-ghost use Rattle.hailstorm.specs.Lanes.{played};
-ghost use Rattle.hail_world.specs.Places.{SitAs, WorkBy, rules_of};
-ghost use Rattle.hail_world.specs.Runs.{GoesBy, IsStopped, opened};
-ghost use Rattle.hailstorm.specs.Turns.{HasAdvanced, IsBetween, IsOver};
 ghost use Rattle.hailstorm.specs.Turns.{IsTurnOf, told_order};
 
 use crate::cursors::{cursor_at, cursors_of, first_left, number_of};
@@ -23,25 +21,22 @@ use crate::world::Report;
 use cw_base::{Digest32, Hasher, Items, NoMemory, Strategy};
 use cw_rules::{clash_laws, report_laws};
 use cw_rules_coded::ruled_tells;
-use hail_report::{Entry, Pool};
+use hail_report::Entry;
 use hail_script::{LaneScript, RunError, script_laws};
-use hail_world::{KnownBlocks, Place, Seat, open_all, report_of, turn_line};
+use hail_world::{Cluster, Ran};
 use node::Chunked;
 use std::alloc::Global;
 use std::marker::Model;
-use std::mem;
 use std::thread::Threads;
 
 /// The cluster of a script with lanes, between two turns.
 #[derive(Drop)]
 pub(crate) struct Turning<H: Hasher<Digest = Digest32>> {
-    script: LaneScript,
-    // of each member, whether some line makes it faulty
-    faulty: Vec<bool>,
-    places: Vec<Place<Seat<H, Chunked>>>,
-    known: KnownBlocks,
-    opening: Items<Entry>,
-    pool: Pool,
+    cluster: Cluster<H, Chunked>,
+    // of each line of its script, the number in the text
+    numbers: Items<u64>,
+    // how many lines stand before each lane: by these contracts know the lanes
+    sizes: Items<u64>,
     // of each lane, the place of its next event and the end of its events
     cursors: Vec<(usize, usize)>,
     // the lanes that had a turn
@@ -55,10 +50,15 @@ impl<H: Hasher<Digest = Digest32>> Model for Turning<H> {
 
     ghost Value = { Turning };
 
-    ghost view = { λ t. record { laned = t.script; order = t.order; stopped = t.stopped } };
+    ghost view = { λ t. record {
+      laned = record { script = t.cluster.script; numbers = t.numbers; sizes = t.sizes };
+      order = t.order;
+      stopped = t.stopped;
+    } };
 
-    ghost invariant = { λ t. IsTurning H.digest_of t.script t.order t.stopped t.opening
-        t.cursors.items t.pool t.places.items t.known t.faulty.items };
+    ghost invariant = { λ t. IsTurning H.digest_of
+        (record { script = t.cluster.script; numbers = t.numbers; sizes = t.sizes }) t.order
+        t.stopped t.cluster t.cursors.items };
 }
 
 impl<H: Hasher<Digest = Digest32>> Turning<H> {
@@ -74,39 +74,30 @@ impl<H: Hasher<Digest = Digest32>> Turning<H> {
             (λ e. IsStopped (rules_of H.digest_of script.script) (opened H.digest_of script.script)
             (lines_of (prefix script)) e) }
     {
-        script.travels_in_chunks();
-        let plain = script.script();
-        let count = plain.lines().len();
-        let faulty = plain.faulty(alloc)?;
-        let (opening, mut places) = open_all::<H, Chunked, R, S>(
-            rt, alloc, plain, &faulty, strategy,
-        )?;
-        let (before, cursors) = cursors_of(alloc, script.sizes(), count)?;
-        let mut known = KnownBlocks::new::<H>(alloc)?;
-        let pool = match play_before::<H, R, S>(
+        let (plain, numbers, sizes) = script.into_parts();
+        let (before, cursors) = cursors_of(alloc, sizes.as_slice(), plain.lines().len())?;
+        let mut cluster = Cluster::<H, Chunked>::open(rt, alloc, plain, strategy)?;
+        match play_before(
             rt,
             alloc,
-            &script,
-            &faulty,
-            &mut places,
-            &mut known,
+            &mut cluster,
+            numbers.as_slice(),
             before,
             strategy,
         ) {
-            Ok(pool) => pool,
-            Err(error) => return Err(error),
-        };
-        Ok(Turning {
-            script,
-            faulty,
-            places,
-            known,
-            opening,
-            pool,
-            cursors,
-            order: Items::new(alloc),
-            stopped: None,
-        })
+            Ok(()) => Ok(Turning {
+                cluster,
+                numbers,
+                sizes,
+                cursors,
+                order: Items::new(alloc),
+                stopped: None,
+            }),
+            Err(error) => {
+                drop(cluster);
+                Err(error)
+            }
+        }
     }
 
     /// The next line of a lane has its turn. The reply is given twice.
@@ -137,7 +128,7 @@ impl<H: Hasher<Digest = Digest32>> Turning<H> {
         ensures lawful { IsTurnOf H.digest_of self.old lane result.0 self.new }
         ensures twice { result.1 ≡ result.0 }
     {
-        let count = self.script.script().lines().len();
+        let count = self.cluster.script().lines().len();
         if let Some(error) = &self.stopped {
             let (first, second) = errors_again(alloc, error);
             return (Err(first), Err(second));
@@ -147,22 +138,14 @@ impl<H: Hasher<Digest = Digest32>> Turning<H> {
         };
         // No line is played any more where this one isn't played to its end.
         self.stopped = Some(RunError::NoMemory);
-        match advance::<H, R, S>(
-            rt,
-            alloc,
-            &self.script,
-            &self.faulty,
-            &mut self.places,
-            &mut self.known,
-            &mut self.pool,
-            &mut self.cursors,
-            &mut self.order,
-            lane,
-            from,
-            end,
-            strategy,
-        ) {
+        match self.order.push(lane) {
+            Ok(()) => {}
+            Err(_) => return (Err(RunError::NoMemory), Err(RunError::NoMemory)),
+        }
+        let number = number_of(self.numbers.as_slice(), from);
+        match play_twice(rt, alloc, &mut self.cluster, from, number, strategy) {
             Ok((first, second)) => {
+                self.cursors[lane as usize] = (from + 1, end);
                 self.stopped = None;
                 (Ok(Some(first)), Ok(Some(second)))
             }
@@ -181,7 +164,7 @@ impl<H: Hasher<Digest = Digest32>> Turning<H> {
         ensures none { result ≡ None → self.now.stopped ≡ None
             → flat_map (λ lane. lane) (left (lanes_in self.now.laned) self.now.order) ≡ [] }
     {
-        let count = self.script.script().lines().len();
+        let count = self.cluster.script().lines().len();
         if self.stopped.is_some() {
             return None;
         }
@@ -213,26 +196,30 @@ impl<H: Hasher<Digest = Digest32>> Turning<H> {
         clash_laws();
         script_laws();
         ruled_tells::<H>();
-        self.script.script().is_cluster();
-        let _backlog = self.script.script().backlog();
-        let _lines = self.script.script().lines();
         let Turning {
-            script: _,
-            faulty: _,
-            places,
-            known: _,
-            opening,
-            pool,
+            cluster,
+            numbers: _,
+            sizes: _,
             cursors: _,
             order,
             stopped,
         } = self;
+        let plain = cluster.script();
+        plain.is_cluster();
+        let _backlog = plain.backlog();
+        let _lines = plain.lines();
         match stopped {
-            None => match report_of::<H, Chunked>(alloc, places, opening, pool.into_entries()) {
-                Ok(report) => Ok((order, report)),
-                Err(NoMemory) => Err((Items::new(alloc), RunError::NoMemory)),
-            },
-            Some(error) => Err((order_beside(alloc, order, &error), error)),
+            None => {
+                cluster.goes_on();
+                match cluster.end(alloc) {
+                    Ok(Ran { script: _, report }) => Ok((order, report)),
+                    Err(NoMemory) => Err((Items::new(alloc), RunError::NoMemory)),
+                }
+            }
+            Some(error) => {
+                drop(cluster);
+                Err((order_beside(alloc, order, &error), error))
+            }
         }
     }
 }
@@ -258,113 +245,72 @@ fn met(error: RunError, told: &RunError) -> RunError
     }
 }
 
-// The lines before all lanes have their turns.
+// The lines before all lanes have their turns, under these numbers.
 fn play_before<H: Hasher<Digest = Digest32>, R: Threads + Sync, S: Strategy>(
     rt: &R,
     alloc: Global,
-    script: &LaneScript,
-    faulty: &[bool],
-    places: &mut [Place<Seat<H, Chunked>>],
-    known: &mut KnownBlocks,
+    cluster: &mut Cluster<H, Chunked>,
+    numbers: &[u64],
     before: usize,
     strategy: &S,
-) -> Result<Pool, RunError>
-    requires within { before ≤ length script.now.script.lines }
-    requires members { SitAs places.old (opened H.digest_of script.now.script).members }
-    requires flags { faulty.now ≡ map is_none (opened H.digest_of script.now.script).members }
-    requires sound { WorkBy (rules_of H.digest_of script.now.script) 0 places.old }
-    requires count { length places.old ≡ script.now.script.committees.total }
-    requires knows { Knows (rules_of H.digest_of script.now.script) known.old
-        (opened H.digest_of script.now.script) }
-    ensures ok { IfOk result
-        (λ pool. HavePlayed (rules_of H.digest_of script.now.script)
-        (opened H.digest_of script.now.script)
-        (take before (rows script.now)) pool places.new known.new faulty.now) }
-    ensures sound { OnOk result (WorkBy (rules_of H.digest_of script.now.script) 0 places.new) }
-    ensures err { IfErr result
-        (λ e. IsStopped (rules_of H.digest_of script.now.script)
-        (opened H.digest_of script.now.script) (lines_of (take before (rows script.now))) e) }
+) -> Result<(), RunError>
+    requires first { cluster.old.rows ≡ [] }
+    requires whole { cluster.old.over ≡ false }
+    requires within { before ≤ length cluster.old.script.lines }
+    ensures ok { (x : Laned) → x.script ≡ cluster.old.script → x.numbers ≡ numbers.now
+        → OnOk result (cluster.new ≡ record cluster.old { rows = take before (rows x) }) }
+    ensures err { (x : Laned) → x.script ≡ cluster.old.script → x.numbers ≡ numbers.now
+        → IfErr result
+        (λ e. IsStopped (rules_of H.digest_of x.script) (opened H.digest_of x.script)
+        (lines_of (take before (rows x))) e) }
 {
-    script.travels_in_chunks();
-    let plain = script.script();
-    plain.is_cluster();
-    let lines = plain.lines();
-    let mut pool = Pool::new(alloc);
-    for index in 0..before {
-        let number = number_of(script.numbers(), index);
-        let entry = match turn_line::<H, Chunked, R, S>(
-            rt,
-            alloc,
-            plain,
-            faulty,
-            places,
-            known,
-            &pool,
-            number,
-            &lines[index],
-            strategy,
-        ) {
-            Ok(entry) => entry,
+    for at in 0..before {
+        let number = number_of(numbers, at);
+        match cluster.turn(rt, alloc, at, number, strategy) {
+            Ok(()) => {}
             Err(error) => return Err(error),
-        };
-        pool = pool.with(alloc, entry)?;
+        }
     }
-    Ok(pool)
+    Ok(())
 }
 
-// The next line of a lane has its turn, where its cursor is this one. Its entry is given twice.
-fn advance<H: Hasher<Digest = Digest32>, R: Threads + Sync, S: Strategy>(
+// The line at a place of the script has its turn, under this number. Its entry is given twice.
+fn play_twice<H: Hasher<Digest = Digest32>, R: Threads + Sync, S: Strategy>(
     rt: &R,
     alloc: Global,
-    script: &LaneScript,
-    faulty: &[bool],
-    places: &mut [Place<Seat<H, Chunked>>],
-    known: &mut KnownBlocks,
-    pool: &mut Pool,
-    cursors: &mut [(usize, usize)],
-    order: &mut Items<u64>,
-    lane: u64,
-    from: usize,
-    end: usize,
+    cluster: &mut Cluster<H, Chunked>,
+    at: usize,
+    number: u64,
     strategy: &S,
 ) -> Result<(Entry, Entry), RunError>
-    requires cursor { slice_get cursors.old lane ≡ Some (from, end) }
-    requires there { lane < length cursors.old }
-    requires some { from < end }
-    requires within { from < length script.now.script.lines }
-    requires between { IsBetween H.digest_of script.now order.old cursors.old pool.old places.old
-        known.old faulty.now }
-    ensures ok { IfOk result (λ r. HasAdvanced H.digest_of script.now order.old lane r.0
-        × IsBetween H.digest_of script.now
-        (order.old ++ lane ∷ []) cursors.new pool.new places.new known.new faulty.now) }
-    ensures order { OnOk result (order.new ≡ order.old ++ lane ∷ []) }
+    requires whole { cluster.old.over ≡ false }
+    requires there { at < length cluster.old.script.lines }
+    ensures script { cluster.new.script ≡ cluster.old.script }
+    ensures ok { (line : Line) → slice_get cluster.old.script.lines at ≡ Some line
+        → OnOk result
+        (cluster.new ≡ record cluster.old { rows = cluster.old.rows ++ (number, line) ∷ [] }) }
+    ensures gives { (line : Line) → slice_get cluster.old.script.lines at ≡ Some line
+        → IfOk result
+        (λ r. r.0 ≡ entry_of (rules_of H.digest_of cluster.old.script)
+        (world_in H.digest_of cluster.old) number line) }
     ensures twice { IfOk result (λ r. r.0 ≡ r.1) }
-    ensures err { IfErr result (λ e. IsOver H.digest_of script.now order.new e) }
+    ensures err { (line : Line) → slice_get cluster.old.script.lines at ≡ Some line
+        → IfErr result
+        (λ e. IsStopped (rules_of H.digest_of cluster.old.script)
+        (opened H.digest_of cluster.old.script) (lines_of cluster.old.rows ++ line ∷ []) e) }
+    ensures before { outcome (rules_of H.digest_of cluster.old.script)
+        (opened H.digest_of cluster.old.script) (lines_of cluster.old.rows)
+        ≡ Ends (world_in H.digest_of cluster.old) }
 {
-    script.travels_in_chunks();
-    let plain = script.script();
-    plain.is_cluster();
-    let line = &plain.lines()[from];
-    let number = number_of(script.numbers(), from);
-    order.push(lane)?;
-    let entry = match turn_line::<H, Chunked, R, S>(
-        rt, alloc, plain, faulty, places, known, pool, number, line, strategy,
-    ) {
-        Ok(entry) => entry,
+    cluster.goes_on();
+    match cluster.turn(rt, alloc, at, number, strategy) {
+        Ok(()) => {}
         Err(error) => return Err(error),
-    };
-    let first = copy_entry(alloc, &entry)?;
-    let second = copy_entry(alloc, &entry)?;
-    put_entry(alloc, pool, entry)?;
-    cursors[lane as usize] = (from + 1, end);
+    }
+    let steps = cluster.steps();
+    let last = steps.len() - 1;
+    let entry = &steps[last];
+    let first = copy_entry(alloc, entry)?;
+    let second = copy_entry(alloc, entry)?;
     Ok((first, second))
-}
-
-// One entry more.
-fn put_entry(alloc: Global, pool: &mut Pool, entry: Entry) -> Result<(), NoMemory>
-    ensures { OnOk result (pool.new ≡ pool.old ++ entry ∷ []) }
-{
-    let entries = mem::replace(pool, Pool::new(alloc));
-    *pool = entries.with(alloc, entry)?;
-    Ok(())
 }

@@ -1,5 +1,8 @@
-use Rattle.std.proofs.Common.{◌≡◌, ◌<◌, ◌≤◌, refl, arith, true}
+use Rattle.std.proofs.Common.{◌≡◌, ◌<◌, ◌≤◌, Ok, Result, refl, sym, ap, subst, ◌∙◌, arith, true}
+use Rattle.hail_script.specs.Scenario.{Scenario}
+use Rattle.hail_script.specs.declared.error.RunError.{RunError}
 use Rattle.hail_world.specs.Places.{rules_of}
+use Rattle.hail_world.specs.Reports.{IsRun}
 use Rattle.hail_world.proofs.Known.{few_members}
 use Rattle.hail_world.proofs.Refusals.{refused}
 use Rattle.hail_world.proofs.Reporting.{caused, reported}
@@ -10,6 +13,17 @@ returns-in-Err-clause-err g c =
     refused g.W.Way.travel g.H.Hasher.digest_of c.args.text.now c.in-Err.error
     (rw c.travel.ensures at c.in-Err.ensures.err)
 
+pub returns-in-Ok-run_script-clause-spells : goal.returns-in-Ok-run_script-clause-spells
+returns-in-Ok-run_script-clause-spells g c =
+    (rw c.travel.ensures at c.in-Ok.ensures.ok)
+    ∙ ap (λ (s : Scenario). let o : Result Scenario RunError = Ok s in o)
+    (sym c.in-Ok-run_script.ensures.script)
+
+pub returns-in-Ok-run_script-clause-run : goal.returns-in-Ok-run_script-clause-run
+returns-in-Ok-run_script-clause-run g c =
+    subst (λ (s : Scenario). IsRun g.H.Hasher.digest_of s c.in-Ok-run_script.ran.report)
+    (sym c.in-Ok-run_script.ensures.script) c.in-Ok-run_script.ensures.ok
+
 pub returns-in-Ok-run_script-clause-report : goal.returns-in-Ok-run_script-clause-report
 returns-in-Ok-run_script-clause-report g c =
     let hash = g.H.Hasher.digest_of in
@@ -17,7 +31,7 @@ returns-in-Ok-run_script-clause-report g c =
     let h = c.in-Ok-run_script.ensures.ok in
     let some : 0 < (rules_of hash s).backlog =
     omega (arith, c.backlog-backlog.ensures.bound, c.backlog-backlog.ensures.value) in
-    reported g.W.Way.travel hash c.args.text.now s c.in-Ok-run_script.report
+    reported g.W.Way.travel hash c.args.text.now s c.in-Ok-run_script.ran.report
     (rw c.travel.ensures at c.in-Ok.ensures.ok) h
     (c.report_laws.ensures (rules_of hash s) s.lines h.world
     (c.is_cluster.ensures (rules_of hash s) refl) some h.ends)

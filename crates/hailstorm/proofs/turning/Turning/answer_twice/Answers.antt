@@ -1,28 +1,34 @@
-use Rattle.std.proofs.Common.{◌≡◌, ◌++◌, ℕ, [], List, None, length, take, drop, refl, ap, sym, subst, ◌∙◌}
-use Rattle.hail_script.specs.Lanes.{lanes}
+use Rattle.std.proofs.Common.{◌≡◌, ◌<◌, ◌++◌, ◌∷◌, ℕ, [], List, None, Option, Some, length, take, drop, refl, ap, sym, subst, ◌∙◌, arith}
+use Rattle.std.specs.Prelude.{slice_get, slice_index}
+use Rattle.cw_rules.specs.Report.{entry_of}
+use Rattle.cw_rules.specs.World.{Line}
+use Rattle.hail_script.specs.declared.error.RunError.{RunError}
+use Rattle.hail_script.specs.Lanes.{Laned, lanes}
 use Rattle.hail_script.specs.Scenario.{Scenario}
-use Rattle.hail_world.specs.declared.place.Place.{Place}
+use Rattle.hail_world.specs.Clusters.{Cluster, world_in}
+use Rattle.hail_world.specs.Places.{rules_of}
+use Rattle.hail_world.proofs.Clusters.{line_there}
+use Rattle.hail_world.proofs.Known.{count_lines}
 use Rattle.hailstorm.specs.Lanes.{lane_at, left}
-use Rattle.hail_world.specs.Seats.{Seat}
-use Rattle.hailstorm.specs.Turns.{Turning}
-use Rattle.hailstorm.proofs.Between.{nothing_next, rows_many, same_between, turns_none}
+use Rattle.hailstorm.specs.Turns.{IsOver, Turning}
+use Rattle.hailstorm.proofs.Between.{advanced, between_of, nothing_next, over_by, over_told, refused, replied, rows_many, turns_none}
 use Rattle.hail_world.proofs.Nothing.{none_when}
-use Rattle.hail_world.proofs.Running.{whole_front}
 use Rattle.hailstorm.proofs.turning.Turning.answer_twice.Goals as goal
 
 pub returns-in_default-cursor_at-clause-lawful : goal.returns-in_default-cursor_at-clause-lawful
 returns-in_default-cursor_at-clause-lawful g c =
     let i = c.self.inside in
+    let x : Laned =
+    record { script = i.cluster.script; numbers = i.numbers; sizes = i.sizes } in
     let hash = g.H.Hasher.digest_of in
     let none : i.stopped ≡ None = none_when i.stopped (λ x e. c.in_default.not-Some x e) in
     let none_at = none_when c.cursor_at.result (λ x e. c.in_default-cursor_at.not-Some x e) in
     let many =
-    rows_many i.script c.lines-count.result.now
+    rows_many x c.lines-count.result.now
     (c.lines-count.ensures.value ∙ ap (λ (s : Scenario). s.lines) c.script.ensures) in
     let nothing =
-    nothing_next hash i.script i.order i.stopped i.opening i.cursors.items i.pool i.places.items
-    i.known i.faulty.items c.self.invariant c.deref.result.now (length c.lines-count.result.now)
-    c.args.lane
+    nothing_next hash x i.order i.stopped i.cluster i.cursors.items c.self.invariant
+    c.deref.result.now (length c.lines-count.result.now) c.args.lane
     none c.deref.ensures.value many (c.cursor_at.ensures.none none_at)
     in (
       refl,
@@ -32,21 +38,93 @@ returns-in_default-cursor_at-clause-lawful g c =
           c.self.view_is nothing),
     )
 
-pub invariant_of-self : goal.invariant_of-self
-invariant_of-self g c =
+pub play_twice-requires-clause-whole : goal.play_twice-requires-clause-whole
+play_twice-requires-clause-whole g c =
     let i = c.self.inside in
+    let x : Laned =
+    record { script = i.cluster.script; numbers = i.numbers; sizes = i.sizes } in
+    let none : i.stopped ≡ None = none_when i.stopped (λ x e. c.in_default.not-Some x e) in
+    ap (λ (k : Cluster). k.over)
+    (between_of g.H.Hasher.digest_of x i.order i.stopped i.cluster i.cursors.items
+    c.self.invariant none).played
+
+pub play_twice-requires-clause-there : goal.play_twice-requires-clause-there
+play_twice-requires-clause-there g c =
+    let i = c.self.inside in
+    let all = c.lines-count.ensures.value ∙ ap (λ (s : Scenario). s.lines) c.script.ensures in
+    let many : length i.cluster.script.lines ≡ length c.lines-count.result.now =
+    ap (λ (l : List Line). length l) (sym all) ∙ count_lines c.lines-count.result.now in
+    omega (arith, many, c.in-Some-cursor_at.ensures.some.2)
+
+pub returns-in-Ok-play_twice-clause-lawful : goal.returns-in-Ok-play_twice-clause-lawful
+returns-in-Ok-play_twice-clause-lawful g c =
+    let i = c.self.inside in
+    let x : Laned =
+    record { script = i.cluster.script; numbers = i.numbers; sizes = i.sizes } in
     let hash = g.H.Hasher.digest_of in
-    let places : List (Place Seat) = c.advance.new.places in
-    let cursors : List (ℕ × ℕ) = c.advance.new.cursors in (
-      c.self.invariant.0,
-      same_between hash i.script _ c.advance.new.order cursors _ c.advance.new.pool places _
-          c.advance.new.known c.deref-2.result.now i.faulty.items
-          (sym c.in-Ok.ensures.order)
-          (sym
-          (whole_front cursors (drop (length cursors) i.cursors.items) i.cursors.len
-          (c.advance.auto.cursors ∙ c.deref_mut-2.ensures.len)))
-          (sym
-          (whole_front places (drop (length places) i.places.items) i.places.len
-          (c.advance.auto.places ∙ c.deref_mut.ensures.len)))
-          c.deref-2.ensures.value c.in-Ok.ensures.ok.1,
-    )
+    let none : i.stopped ≡ None = none_when i.stopped (λ x e. c.in_default.not-Some x e) in
+    let h =
+    between_of hash x i.order i.stopped i.cluster i.cursors.items c.self.invariant none in
+    let w = c.in-Some-cursor_at in
+    let from : ℕ = w.from in
+    let all = c.lines-count.ensures.value ∙ ap (λ (s : Scenario). s.lines) c.script.ensures in
+    let many : length i.cluster.script.lines ≡ length c.lines-count.result.now =
+    ap (λ (l : List Line). length l) (sym all) ∙ count_lines c.lines-count.result.now in
+    let there = line_there i.cluster.script.lines from (omega (arith, many, w.ensures.some.2)) in
+    let at : slice_get i.cursors.items c.args.lane ≡ Some (from, w.end) =
+    subst (λ (l : List (ℕ × ℕ)). slice_get l c.args.lane ≡ Some (from, w.end))
+    c.deref.ensures.value w.ensures.some.0 in
+    let number : c.number_of-number.result ≡ slice_index i.numbers from =
+    c.number_of-number.ensures ∙ ap (λ (l : List ℕ). slice_index l from) c.as_slice.ensures in
+    let old : Turning = record { laned = x; order = i.order; stopped = i.stopped } in
+    replied hash old c.args.self.now _ c.args.lane c.in-Ok-play_twice.first c.self.view_is
+    (ap
+    (λ (s : Scenario). let y : Laned =
+    record { script = s; numbers = i.numbers; sizes = i.sizes } in y)
+    c.play_twice.ensures.script)
+    none
+    (advanced hash x i.order i.cluster i.cursors.items h c.args.lane from w.end there.0 at
+    w.ensures.some.1 there.1 c.in-Ok-play_twice.first
+    (c.in-Ok-play_twice.ensures.gives there.0 there.1
+    ∙ ap
+    (λ (n : ℕ). entry_of (rules_of hash i.cluster.script) (world_in hash i.cluster) n there.0)
+    number))
+    c.in-Ok.ensures.ok refl
+
+pub returns-in-Err-play_twice-clause-lawful : goal.returns-in-Err-play_twice-clause-lawful
+returns-in-Err-play_twice-clause-lawful g c =
+    let i = c.self.inside in
+    let x : Laned =
+    record { script = i.cluster.script; numbers = i.numbers; sizes = i.sizes } in
+    let hash = g.H.Hasher.digest_of in
+    let none : i.stopped ≡ None = none_when i.stopped (λ x e. c.in_default.not-Some x e) in
+    let h =
+    between_of hash x i.order i.stopped i.cluster i.cursors.items c.self.invariant none in
+    let w = c.in-Some-cursor_at in
+    let from : ℕ = w.from in
+    let all = c.lines-count.ensures.value ∙ ap (λ (s : Scenario). s.lines) c.script.ensures in
+    let many : length i.cluster.script.lines ≡ length c.lines-count.result.now =
+    ap (λ (l : List Line). length l) (sym all) ∙ count_lines c.lines-count.result.now in
+    let there = line_there i.cluster.script.lines from (omega (arith, many, w.ensures.some.2)) in
+    let at : slice_get i.cursors.items c.args.lane ≡ Some (from, w.end) =
+    subst (λ (l : List (ℕ × ℕ)). slice_get l c.args.lane ≡ Some (from, w.end))
+    c.deref.ensures.value w.ensures.some.0 in
+    let old : Turning = record { laned = x; order = i.order; stopped = i.stopped } in
+    let same =
+    ap
+    (λ (s : Scenario). let y : Laned =
+    record { script = s; numbers = i.numbers; sizes = i.sizes } in y)
+    c.play_twice.ensures.script in
+    let over =
+    over_told hash x (i.order ++ c.args.lane ∷ []) c.in-Err-play_twice.error
+    c.errors_again-first-2.result.0 c.errors_again-first-2.ensures.value
+    (over_by hash x i.order i.cluster i.cursors.items h c.args.lane from w.end there.0 at
+    w.ensures.some.1 there.1 c.in-Err-play_twice.error c.play_twice.ensures.before
+    (c.in-Err-play_twice.ensures.err there.0 there.1)) in
+    refused hash old c.args.self.now _ c.args.lane c.errors_again-first-2.result.0 c.self.view_is
+    same none
+    (ap (λ (e : RunError). let o : Option RunError = Some e in o) c.met.ensures)
+    (subst (λ (y : Laned). IsOver hash y c.push.new.self c.errors_again-first-2.result.0)
+    (sym same)
+    (subst (λ (l : List ℕ). IsOver hash x l c.errors_again-first-2.result.0)
+    (sym c.in-Ok.ensures.ok) over))

@@ -1,0 +1,138 @@
+use Rattle.std.proofs.Common.{◌≡◌, ◌++◌, ◌∷◌, [], List, false, length, take, drop, refl, ap, subst, sym, ◌∙◌, arith}
+use Rattle.cw_rules.specs.World.{Line}
+use Rattle.hail_script.specs.Events.{line_of}
+use Rattle.hail_world.specs.declared.place.Place.{Place}
+use Rattle.hail_world.specs.Clusters.{Stands, rows_at}
+use Rattle.hail_world.specs.Places.{rules_of}
+use Rattle.hail_world.specs.Runs.{opened}
+use Rattle.hail_world.specs.Seats.{Seat}
+use Rattle.hail_world.proofs.Clusters.{begins, below_inside, event_there, same_played, seen_more, seen_stopped, turned, whole_inside}
+use Rattle.hail_world.proofs.Known.{known_at, later_at, line_at, short_at}
+use Rattle.hail_world.proofs.Running.{whole_front}
+use Rattle.hail_world.proofs.cluster.Cluster.turn.Goals as goal
+
+pub turn_line-requires-clause-there : goal.turn_line-requires-clause-there
+turn_line-requires-clause-there g c κs within =
+    let i = c.self.inside in
+    let hash = g.H.Hasher.digest_of in
+    let below =
+    below_inside hash i.script i.turns.items i.over c.args.self.now c.self.view_is c.args.at
+    c.requires.there in
+    let u =
+    c.self.invariant.2
+    (whole_inside hash i.script i.turns.items i.over c.args.self.now c.self.view_is
+    c.requires.whole) in
+    let at =
+    line_at c.lines.result.now i.script.lines c.args.at c.index-lines-at.result
+    c.index-lines-at.result c.lines.ensures.value
+    (event_there c.lines.result.now i.script.lines c.args.at c.lines.ensures.value below)
+    c.index-lines-at.is in
+    let known =
+    known_at i.script c.args.at (line_of c.index-lines-at.result) c.lines.ensures.runnable at in
+    let lent : length c.deref_mut.result.now ≡ length i.places.items =
+    ap (λ (l : List (Place Seat)). length l) c.deref_mut.ensures.value in
+    omega (arith, known, u.count, lent)
+
+pub turn_line-requires-clause-short : goal.turn_line-requires-clause-short
+turn_line-requires-clause-short g c κs within =
+    let i = c.self.inside in
+    let below =
+    below_inside g.H.Hasher.digest_of i.script i.turns.items i.over c.args.self.now c.self.view_is
+    c.args.at c.requires.there in
+    short_at i.script c.args.at (line_of c.index-lines-at.result) c.lines.ensures.runnable
+    (line_at c.lines.result.now i.script.lines c.args.at c.index-lines-at.result
+    c.index-lines-at.result c.lines.ensures.value
+    (event_there c.lines.result.now i.script.lines c.args.at c.lines.ensures.value below)
+    c.index-lines-at.is)
+
+pub turn_line-requires-clause-later : goal.turn_line-requires-clause-later
+turn_line-requires-clause-later g c κs within =
+    let i = c.self.inside in
+    let below =
+    below_inside g.H.Hasher.digest_of i.script i.turns.items i.over c.args.self.now c.self.view_is
+    c.args.at c.requires.there in
+    later_at i.script c.args.at (line_of c.index-lines-at.result) c.lines.ensures.runnable
+    (line_at c.lines.result.now i.script.lines c.args.at c.index-lines-at.result
+    c.index-lines-at.result c.lines.ensures.value
+    (event_there c.lines.result.now i.script.lines c.args.at c.lines.ensures.value below)
+    c.index-lines-at.is)
+
+pub returns-in-Err-clause-err : goal.returns-in-Err-clause-err
+returns-in-Err-clause-err g c = λ line there.
+    let i = c.self.inside in
+    let hash = g.H.Hasher.digest_of in
+    let s = i.script in
+    let r = rules_of hash s in
+    let rows = rows_at s.lines i.turns.items in
+    let below =
+    below_inside hash s i.turns.items i.over c.args.self.now c.self.view_is c.args.at
+    c.requires.there in
+    let u =
+    c.self.invariant.2
+    (whole_inside hash s i.turns.items i.over c.args.self.now c.self.view_is c.requires.whole) in
+    let at =
+    line_at c.lines.result.now s.lines c.args.at c.index-lines-at.result c.index-lines-at.result
+    c.lines.ensures.value
+    (event_there c.lines.result.now s.lines c.args.at c.lines.ensures.value below)
+    c.index-lines-at.is in
+    let begin =
+    begins r s.lines i.turns.items c.args.at (line_of c.index-lines-at.result) at
+    (c.is_cluster.ensures r refl) in
+    let played =
+    same_played r (opened hash s) rows i.pool i.places.items c.deref_mut.result.now i.known
+    i.faulty.items c.deref.result.now c.deref_mut.ensures.value c.deref.ensures.value u.played in
+    seen_stopped hash s i.turns.items i.over c.args.self.now c.self.view_is c.args.at
+    (line_of c.index-lines-at.result) line c.in-Err.error at
+    (c.in-Err.ensures.err (opened hash s) rows begin played) there
+
+pub returns-clause-ok : goal.returns-clause-ok
+returns-clause-ok g c = λ line there.
+    let i = c.self.inside in
+    seen_more g.H.Hasher.digest_of i.script i.turns.items i.over c.args.self.now c.self.view_is
+    c.put_turn.new.turns.items c.args.number c.args.at line c.requires.whole there
+    c.in_ok-put_turn.ensures.turn
+
+pub invariant_of-self-2 : goal.invariant_of-self-2
+invariant_of-self-2 g c =
+    let i = c.self.inside in
+    let hash = g.H.Hasher.digest_of in
+    let s = i.script in
+    let r = rules_of hash s in
+    let rows = rows_at s.lines i.turns.items in
+    let line : Line = line_of c.index-lines-at.result in
+    let below =
+    below_inside hash s i.turns.items i.over c.args.self.now c.self.view_is c.args.at
+    c.requires.there in
+    let u =
+    c.self.invariant.2
+    (whole_inside hash s i.turns.items i.over c.args.self.now c.self.view_is c.requires.whole) in
+    let at =
+    line_at c.lines.result.now s.lines c.args.at c.index-lines-at.result c.index-lines-at.result
+    c.lines.ensures.value
+    (event_there c.lines.result.now s.lines c.args.at c.lines.ensures.value below)
+    c.index-lines-at.is in
+    let begin = begins r s.lines i.turns.items c.args.at line at (c.is_cluster.ensures r refl) in
+    let played =
+    same_played r (opened hash s) rows i.pool i.places.items c.deref_mut.result.now i.known
+    i.faulty.items c.deref.result.now c.deref_mut.ensures.value c.deref.ensures.value u.played in
+    let places : List (Place Seat) = c.turn_line.new.places in
+    let count : length places ≡ s.committees.total =
+    c.turn_line.auto.places ∙ ap (λ (l : List (Place Seat)). length l) c.deref_mut.ensures.value
+    ∙ u.count in
+    let back : take i.places.len (places ++ drop (length places) i.places.items) ≡ places =
+    whole_front places (drop (length places) i.places.items) i.places.len
+    (c.turn_line.auto.places ∙ c.deref_mut.ensures.len) in
+    let plays =
+    same_played r (opened hash s) (rows ++ (c.args.number, line) ∷ [])
+    (i.pool ++ c.in-Ok.entry ∷ []) places places c.turn_line.new.known c.deref.result.now
+    i.faulty.items refl (sym c.deref.ensures.value)
+    (c.in-Ok.ensures.played (opened hash s) rows begin played) in
+    subst
+    (λ (l : List (Place Seat)). Stands hash g.W.Way.travel s i.opening
+    (rows_at s.lines c.put_turn.new.turns.items) false c.put_turn.new.pool l c.turn_line.new.known
+    i.faulty.items)
+    (sym back)
+    (turned hash g.W.Way.travel s i.opening i.turns.items c.put_turn.new.turns.items i.pool
+    c.put_turn.new.pool places c.turn_line.new.known i.faulty.items c.args.number c.args.at line
+    c.in-Ok.entry c.self.invariant.0 c.self.invariant.1 at plays c.in-Ok.ensures.sound count
+    c.in_ok-put_turn.ensures.turn c.in_ok-put_turn.ensures.entry)
