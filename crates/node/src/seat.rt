@@ -15,8 +15,8 @@ use std::marker::Model;
 use std::sync::Wait;
 use std::thread::Threads;
 
-/// A member beside its verifier and its strategy; a [`Seat`] is that of a node. Contracts see the node, the verifier, and whether
-/// an answer was lost.
+/// A member beside its verifier and its strategy; a [`Seat`] is that of a node. Contracts see the
+/// node, the verifier, and whether an answer was lost.
 ///
 /// Its turns may start threads, so a mailbox of it is stepped by [`step_seat`].
 ///

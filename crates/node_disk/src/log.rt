@@ -83,8 +83,8 @@ impl From<DiskError> for StoreError {
     }
 }
 
-/// A log of frames on a disk, as [`RecordLog`] has them, for whoever wants their bytes: it holds them
-/// in memory too.
+/// A log of frames on a disk, as [`RecordLog`] has them, for whoever wants their bytes: it holds
+/// them in memory too.
 ///
 /// ```text
 /// let mut log = match Log::start(alloc, MemoryDisk::new(alloc, Vec::new(alloc))) {

@@ -57,8 +57,8 @@ impl<D: Disk> RecordLog<D> {
     ) -> Result<RecordLog<D>, (D, StoreError)>
         requires { K.keeps records.old [] }
 
-        // The frames are those of the bytes that it found, each of a record that is kept; or a frame
-        // there is cut or no record.
+        // The frames are those of the bytes that it found, each of a record that is kept; or a
+        // frame there is cut or no record.
         ensures ok { IfOk result (λ log. (has_failed log ≡ false)
             × Finds (log_frames log) (D.state disk).now.seen) }
         ensures kept { IfOk result (λ log. K.keeps records.new (log_frames log)) }
@@ -268,8 +268,8 @@ fn bytes_of(alloc: Global, frame: &[u8]) -> Result<Vec<u8>, NoMemory>
     Ok(bytes)
 }
 
-// What an append of a frame needs: what is written, and how many frames there are and where the last
-// gate stands after it.
+// What an append of a frame needs: what is written, and how many frames there are and where the
+// last gate stands after it.
 fn prepare(
     alloc: Global,
     count: usize,
