@@ -31,15 +31,16 @@ pub type NodeError = StoreError;
 /// number, the committees, the backlog, the application, the member of the rules and the log of its
 /// notes.
 ///
-/// `tools/use_cluster` runs four members; a part of it:
+/// `use_cluster` runs four members; parts of it:
 ///
 /// ```text
 /// // on an empty disk, or on what a crash left
-/// let started = Node::start(self.rt, self.alloc, id, all, 3, disk, Rising, &Sequential);
-/// let (member, out) = started.map_err(|(_disk, error)| error)?;
+/// match Node::start(rt, alloc, id, all, 3, disk, Rising, &Sequential) {
+///     Ok(started) => Ok(started), // the member, and what it sends and hands out
+///     Err((_disk, error)) => Err(error.into()),
+/// }
 /// // once it answers, the notes of the step lie on the disk
-/// let out = member.step(self.rt, self.alloc, &event, &self.signed, &Sequential)?;
-/// self.take(id, &out)?; // sends, hands out, then gives `Event::Ack`
+/// let out = member.step(self.rt, self.alloc, event, &self.signed, &Sequential)?;
 /// ```
 #[derive(Drop)]
 pub struct Member<H: Hasher<Digest = Digest32>, D: Disk, A: Application + Drop, W: Way> {
