@@ -1,5 +1,5 @@
 //! Four members in one process: a block is proposed, voted on, finalized and handed out at each.
-//! Then one crashes and starts again from its disk, and a second block follows. The third is shorter
+//! Then one crashes and starts again from its disk, and a second block follows. A third is shorter
 //! than the second, which the application doesn't accept.
 //!
 //! What owns a member, an event or what a step answered lets it go by `drop`: what a scope lets go
