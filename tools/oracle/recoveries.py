@@ -1,5 +1,5 @@
 #!/usr/bin/env python3
-"""The table of crates/code_tests/src/code/many.rs, from the definition of a codeword alone.
+"""The table of crates/code_tests/src/code/many.rt, from the definition of a codeword alone.
 usage: recoveries.py K M WIDTH ..     prints the rows of the table for these sizes"""
 import hashlib
 import sys
