@@ -23,6 +23,22 @@ overflow_sub-last g c =
     let both = length-append (steps_in hash k) (entry ∷ []) in
     omega (arith, many, both)
 
+pub bounds-steps-last : goal.bounds-steps-last
+bounds-steps-last g c =
+    let hash = g.H.Hasher.digest_of in
+    let k : Cluster = c.args.cluster.now in
+    let there = line_there k.script.lines c.args.at c.requires.there in
+    let is = c.in-Ok.ensures.ok there.0 there.1 in
+    let whole = ap (λ (x : Cluster). x.over) is ∙ c.requires.whole in
+    let all =
+    steps_more hash k c.turn.new.self c.args.number there.0 c.steps-steps.result.now is
+    (c.steps-steps.ensures whole) in
+    let entry : Entry = entry_of (rules_of hash k.script) (world_in hash k) c.args.number there.0 in
+    let many : length c.steps-steps.result.now ≡ length (steps_in hash k ++ entry ∷ []) =
+    ap (λ (l : List Entry). length l) all in
+    let both = length-append (steps_in hash k) (entry ∷ []) in
+    omega (arith, many, both)
+
 pub returns-clause-gives : goal.returns-clause-gives
 returns-clause-gives g c = λ line there.
     let hash = g.H.Hasher.digest_of in

@@ -27,14 +27,14 @@ returns-in-Ok-clause-ok g c = λ text spells.
     c.backlog-backlog.ensures.value ∙ ap (λ (s : Scenario). s.backlog) c.script-plain.ensures in
     let h =
     between_of hash x i.order i.stopped i.cluster i.cursors.items c.self.invariant c.in-None.is in
-    lanes_reported hash text x i.order i.cluster i.cursors.items c.in-Ok.report
+    lanes_reported hash text x i.order i.cluster i.cursors.items c.in-Ok.ran.report
     (subst (λ (t : Turning). laned_of text ≡ Ok t.laned) (sym c.self.view_is) spells) h nothing
     (c.goes_on.ensures (ap (λ (k : Cluster). k.over) h.played)) c.in-Ok.ensures.report
     ((rw c.script-plain.ensures at c.is_cluster.ensures) (rules_of hash i.cluster.script) refl)
     (omega (arith, backlog, c.backlog-backlog.ensures.bound)) c.report_laws.ensures
 
 pub end-requires : goal.end-requires
-end-requires g c =
+end-requires g c _ =
     let i = c.self.inside in
     let x : Laned =
     record { script = i.cluster.script; numbers = i.numbers; sizes = i.sizes } in
