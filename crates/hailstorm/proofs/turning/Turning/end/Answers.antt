@@ -34,7 +34,7 @@ returns-in-Ok-clause-ok g c = λ text spells.
     (omega (arith, backlog, c.backlog-backlog.ensures.bound)) c.report_laws.ensures
 
 pub end-requires : goal.end-requires
-end-requires g c _ =
+end-requires g c = λ _.
     let i = c.self.inside in
     let x : Laned =
     record { script = i.cluster.script; numbers = i.numbers; sizes = i.sizes } in
