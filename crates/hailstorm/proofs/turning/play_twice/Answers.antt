@@ -1,6 +1,5 @@
-use Rattle.std.proofs.Common.{◌≡◌, ◌++◌, ◌∷◌, ℕ, [], List, length, sym, ap, ◌∙◌, arith, length-append}
+use Rattle.std.proofs.Common.{◌≡◌, ◌++◌, ◌∷◌, [], List, length, ap, ◌∙◌, arith, length-append}
 use Rattle.cw_rules.specs.Report.{Entry, entry_of}
-use Rattle.cw_rules.specs.World.{Line}
 use Rattle.hail_world.specs.Clusters.{Cluster, steps_in, world_in}
 use Rattle.hail_world.specs.Places.{rules_of}
 use Rattle.hail_world.proofs.Clusters.{line_there}

@@ -1,4 +1,4 @@
-use Rattle.std.proofs.Common.{◌≡◌, ◌+◌, ◌++◌, ◌∷◌, ℕ, [], List, None, Option, Some, length, take, drop, refl, ap, sym, subst, ◌∙◌, arith}
+use Rattle.std.proofs.Common.{◌≡◌, ◌+◌, ◌++◌, ◌∷◌, ℕ, [], List, None, Option, Some, length, refl, ap, sym, subst, ◌∙◌, arith}
 use Rattle.std.specs.Prelude.{slice_get, slice_index, slice_set}
 use Rattle.cw_rules.specs.Report.{entry_of}
 use Rattle.cw_rules.specs.World.{Line}
@@ -194,7 +194,9 @@ invariant_of-self-in-Err-play_twice g c =
     (over_by hash x i.order i.cluster i.cursors.items h c.args.lane from w.end there.0 at
     w.ensures.some.1 there.1 c.in-Err-play_twice.error c.play_twice.ensures.before
     (c.in-Err-play_twice.ensures.err there.0 there.1)) in
-    subst (λ (e : RunError). IsOver hash _ c.push.new.self e) (sym c.met.ensures)
+    let now : Laned =
+    record { script = c.play_twice.new.cluster.script; numbers = i.numbers; sizes = i.sizes } in
+    subst (λ (e : RunError). IsOver hash now c.push.new.self e) (sym c.met.ensures)
     (subst
     (λ (y : Laned). IsOver hash y c.push.new.self c.errors_again-first-in-Err-play_twice.result.0)
     (sym same)

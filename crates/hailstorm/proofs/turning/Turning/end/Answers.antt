@@ -1,4 +1,4 @@
-use Rattle.std.proofs.Common.{◌≡◌, ◌≤◌, [], None, Ok, refl, sym, ap, subst, ◌∙◌, arith, true}
+use Rattle.std.proofs.Common.{◌≡◌, ◌≤◌, [], None, Ok, refl, sym, ap, subst, ◌∙◌, arith, rules, true}
 use Rattle.hail_script.specs.Grammar.{IsRunnable}
 use Rattle.std.specs.Prelude.{flat_map}
 use Rattle.hail_script.specs.Lanes.{Laned, laned_of, lanes}
@@ -34,13 +34,14 @@ returns-in-Ok-clause-ok g c = λ text spells.
     (omega (arith, backlog, c.backlog-backlog.ensures.bound)) c.report_laws.ensures
 
 pub end-requires : goal.end-requires
-end-requires g c = λ _.
+end-requires g c =
     let i = c.self.inside in
     let x : Laned =
     record { script = i.cluster.script; numbers = i.numbers; sizes = i.sizes } in
-    ap (λ (k : Cluster). k.over)
-    (between_of g.H.Hasher.digest_of x i.order i.stopped i.cluster i.cursors.items
-    c.self.invariant c.in-None.is).played
+    let h =
+    between_of g.H.Hasher.digest_of x i.order i.stopped i.cluster i.cursors.items c.self.invariant
+    c.in-None.is in
+    (search rules, (search rules, ap (λ (k : Cluster). k.over) h.played))
 
 pub returns-clause-err : goal.returns-clause-err
 returns-clause-err g c = λ text spells.

@@ -1,4 +1,4 @@
-use Rattle.std.proofs.Common.{◌≡◌, ◌≤◌, ◌++◌, ◌∷◌, ℕ, List, [], None, length, map, take, false, refl, ap, subst, sym, ◌∙◌, arith}
+use Rattle.std.proofs.Common.{◌≡◌, ◌∷◌, ℕ, List, [], length, map, take, false, refl, ap, subst, sym, ◌∙◌, arith}
 use Rattle.hail_script.specs.Lanes.{Laned, cut, rows}
 use Rattle.hail_script.specs.Scenario.{Scenario}
 use Rattle.cw_rules.specs.World.{Line}
@@ -7,7 +7,7 @@ use Rattle.hail_world.specs.Played.{lines_of}
 use Rattle.hail_world.specs.Places.{rules_of}
 use Rattle.hail_world.specs.Runs.{IsStopped, opened}
 use Rattle.hail_world.proofs.Known.{count_lines}
-use Rattle.hailstorm.specs.Turns.{Turning, between}
+use Rattle.hailstorm.specs.Turns.{between}
 use Rattle.hailstorm.proofs.Between.{between_seen, rows_many}
 use Rattle.hailstorm.proofs.Prefixed.{opens_between, prefix_is}
 use Rattle.hailstorm.proofs.turning.Turning.open.Goals as goal
