@@ -23,7 +23,7 @@ use cw_rules::{clash_laws, report_laws};
 use cw_rules_coded::ruled_tells;
 use hail_report::Entry;
 use hail_script::{LaneScript, RunError, script_laws};
-use hail_world::{Cluster, Ran};
+use hail_world::Cluster;
 use node::Chunked;
 use std::alloc::Global;
 use std::marker::Model;
@@ -212,7 +212,7 @@ impl<H: Hasher<Digest = Digest32>> Turning<H> {
             None => {
                 cluster.goes_on();
                 match cluster.end(alloc) {
-                    Ok(Ran { script: _, report }) => Ok((order, report)),
+                    Ok(ran) => Ok((order, ran.report)),
                     Err(NoMemory) => Err((Items::new(alloc), RunError::NoMemory)),
                 }
             }

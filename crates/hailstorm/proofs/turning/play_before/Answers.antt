@@ -1,7 +1,7 @@
-use Rattle.std.proofs.Common.{◌≡◌, ◌<◌, ◌+◌, ◌++◌, ◌∷◌, ℕ, [], List, Some, length, take, refl, ap, subst, sym, ◌∙◌, arith}
+use Rattle.std.proofs.Common.{◌≡◌, ◌+◌, ◌++◌, ◌∷◌, ℕ, [], List, Some, length, take, refl, ap, subst, sym, ◌∙◌, arith}
 use Rattle.std.specs.Prelude.{slice_get, slice_index}
 use Rattle.cw_rules.specs.World.{Line}
-use Rattle.hail_script.specs.Lanes.{Laned, rows}
+use Rattle.hail_script.specs.Lanes.{rows}
 use Rattle.hail_script.specs.Scenario.{Scenario}
 use Rattle.hail_world.specs.Clusters.{Cluster}
 use Rattle.hail_world.specs.Places.{rules_of}

@@ -1,4 +1,4 @@
-use Rattle.std.proofs.Common.{◌≡◌, ◌≤◌, [], None, Ok, refl, sym, ap, subst, ◌∙◌, arith, true}
+use Rattle.std.proofs.Common.{◌≡◌, ◌≤◌, [], None, Ok, refl, sym, ap, subst, ◌∙◌, arith, rules, true}
 use Rattle.hail_script.specs.Grammar.{IsRunnable}
 use Rattle.std.specs.Prelude.{flat_map}
 use Rattle.hail_script.specs.Lanes.{Laned, laned_of, lanes}
@@ -27,7 +27,7 @@ returns-in-Ok-clause-ok g c = λ text spells.
     c.backlog-backlog.ensures.value ∙ ap (λ (s : Scenario). s.backlog) c.script-plain.ensures in
     let h =
     between_of hash x i.order i.stopped i.cluster i.cursors.items c.self.invariant c.in-None.is in
-    lanes_reported hash text x i.order i.cluster i.cursors.items c.in-Ok.report
+    lanes_reported hash text x i.order i.cluster i.cursors.items c.in-Ok.ran.report
     (subst (λ (t : Turning). laned_of text ≡ Ok t.laned) (sym c.self.view_is) spells) h nothing
     (c.goes_on.ensures (ap (λ (k : Cluster). k.over) h.played)) c.in-Ok.ensures.report
     ((rw c.script-plain.ensures at c.is_cluster.ensures) (rules_of hash i.cluster.script) refl)
@@ -38,9 +38,10 @@ end-requires g c =
     let i = c.self.inside in
     let x : Laned =
     record { script = i.cluster.script; numbers = i.numbers; sizes = i.sizes } in
-    ap (λ (k : Cluster). k.over)
-    (between_of g.H.Hasher.digest_of x i.order i.stopped i.cluster i.cursors.items
-    c.self.invariant c.in-None.is).played
+    let h =
+    between_of g.H.Hasher.digest_of x i.order i.stopped i.cluster i.cursors.items c.self.invariant
+    c.in-None.is in
+    (search rules, (search rules, ap (λ (k : Cluster). k.over) h.played))
 
 pub returns-clause-err : goal.returns-clause-err
 returns-clause-err g c = λ text spells.

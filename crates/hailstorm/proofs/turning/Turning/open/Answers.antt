@@ -1,4 +1,4 @@
-use Rattle.std.proofs.Common.{◌≡◌, ◌≤◌, ◌++◌, ◌∷◌, ℕ, List, [], None, length, map, take, false, refl, ap, subst, sym, ◌∙◌, arith}
+use Rattle.std.proofs.Common.{◌≡◌, ◌∷◌, ℕ, List, [], length, map, take, false, refl, ap, subst, sym, ◌∙◌, arith}
 use Rattle.hail_script.specs.Lanes.{Laned, cut, rows}
 use Rattle.hail_script.specs.Scenario.{Scenario}
 use Rattle.cw_rules.specs.World.{Line}
@@ -7,7 +7,7 @@ use Rattle.hail_world.specs.Played.{lines_of}
 use Rattle.hail_world.specs.Places.{rules_of}
 use Rattle.hail_world.specs.Runs.{IsStopped, opened}
 use Rattle.hail_world.proofs.Known.{count_lines}
-use Rattle.hailstorm.specs.Turns.{Turning, between}
+use Rattle.hailstorm.specs.Turns.{between}
 use Rattle.hailstorm.proofs.Between.{between_seen, rows_many}
 use Rattle.hailstorm.proofs.Prefixed.{opens_between, prefix_is}
 use Rattle.hailstorm.proofs.turning.Turning.open.Goals as goal
@@ -19,22 +19,22 @@ play_before-requires-clause-within g c =
     ap (λ (l : List Line). length l)
     (sym
     (c.lines.ensures.value
-    ∙ ap (λ (p : Scenario × (List ℕ × List ℕ)). p.0.lines) parts))
+    ∙ ap (λ (p : Scenario × List ℕ × List ℕ). p.0.lines) parts))
     ∙ count_lines c.lines.result.now in
     let same : length c.in_ok-cluster.cluster.script.lines ≡ length c.args.script.script.lines =
     ap (λ (k : Cluster). length k.script.lines) c.in_ok-cluster.ensures
-    ∙ ap (λ (p : Scenario × (List ℕ × List ℕ)). length p.0.lines) parts in
+    ∙ ap (λ (p : Scenario × List ℕ × List ℕ). length p.0.lines) parts in
     omega (arith, many, same, c.in_ok-before.ensures.within)
 
 -- the parts are those of the script
-script_is : (a b : Scenario × (List ℕ × List ℕ)) → a ≡ b → a.0 ≡ b.0
-script_is a b e = ap (λ (p : Scenario × (List ℕ × List ℕ)). p.0) e
+script_is : (a b : Scenario × List ℕ × List ℕ) → a ≡ b → a.0 ≡ b.0
+script_is a b e = ap (λ (p : Scenario × List ℕ × List ℕ). p.0) e
 
-numbers_are : (a b : Scenario × (List ℕ × List ℕ)) → a ≡ b → a.1.0 ≡ b.1.0
-numbers_are a b e = ap (λ (p : Scenario × (List ℕ × List ℕ)). p.1.0) e
+numbers_are : (a b : Scenario × List ℕ × List ℕ) → a ≡ b → a.1 ≡ b.1
+numbers_are a b e = ap (λ (p : Scenario × List ℕ × List ℕ). p.1) e
 
-sizes_are : (a b : Scenario × (List ℕ × List ℕ)) → a ≡ b → a.1.1 ≡ b.1.1
-sizes_are a b e = ap (λ (p : Scenario × (List ℕ × List ℕ)). p.1.1) e
+sizes_are : (a b : Scenario × List ℕ × List ℕ) → a ≡ b → a.2 ≡ b.2
+sizes_are a b e = ap (λ (p : Scenario × List ℕ × List ℕ). p.2) e
 
 -- how the lines were cut
 cut_is : (x : Laned) (sizes seen : List ℕ) (before count : ℕ) (cursors : List (ℕ × ℕ))
