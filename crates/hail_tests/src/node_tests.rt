@@ -26,7 +26,11 @@ use whole_tables::{WHOLE_FRONTS, WHOLE_MEMBERS};
 #[test]
 fn members_answer_by_the_tables(rt: HostRuntime) -> Result<(), Fail> {
     for part in MEMBERS.split("== ").skip(1) {
-        assert_eq!(rt; chunked_wrong(&rt, rt.alloc(), part)?.as_str(), "", "{part}");
+        assert_eq!(rt;
+            chunked_wrong(&rt, rt.alloc(), part)?.as_str(),
+            "",
+            "{part}"
+        );
     }
     assert_eq!(rt; count_of(MEMBERS), 28);
     Ok(())

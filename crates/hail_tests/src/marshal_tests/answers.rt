@@ -101,12 +101,7 @@ fn answer<R: Threads + Sync>(
 }
 
 // What a call answers that notes a certificate, or several.
-fn reported(
-    alloc: Global,
-    store: &mut Store,
-    blocks: &[Made],
-    call: Call,
-) -> Result<String, Fail> {
+fn reported(alloc: Global, store: &mut Store, blocks: &[Made], call: Call) -> Result<String, Fail> {
     let (first, view, _) = call.numbers;
     let place = first as usize;
     match call.name {
@@ -114,7 +109,7 @@ fn reported(
         "report" => told(alloc, store.report(alloc, blocks, place, view)),
         // Notes its notarization in a view: whether it did.
         "notarize" => told(alloc, store.notarize(alloc, blocks, place, view)),
-        // Notes the finalizations of the blocks at 1 to a place, each in its block's view: how many.
+        // Notes those of the blocks at 1 to a place, each in its block's view: how many it did.
         "report_to" => told(alloc, store.report_to(alloc, blocks, place)),
         // Asks for the floor of a block's finalization in a view: whether it stands at once.
         "set_floor" => told(alloc, store.set_floor(alloc, blocks, place, view)),

@@ -188,10 +188,7 @@ impl Store {
     }
 
     /// The first and the last of them, and how many they are; none where one isn't above the other.
-    pub(crate) fn deliver_run(
-        &mut self,
-        alloc: Global,
-    ) -> Result<Option<(u64, u64, usize)>, Fail> {
+    pub(crate) fn deliver_run(&mut self, alloc: Global) -> Result<Option<(u64, u64, usize)>, Fail> {
         Ok(run_of(&self.deliver(alloc)?))
     }
 
@@ -308,8 +305,10 @@ impl Store {
     /// Whether the block is found under its commitment and, as the first of it, by its digest.
     pub(crate) fn has(&self, blocks: &[Made], place: usize) -> Result<bool, Fail> {
         let made = at(blocks, place)?;
-        Ok(self.is_found(made, Identifier::Commitment(made.commitment))
-            && self.is_found(made, Identifier::Digest(made.commitment.block)))
+        Ok(
+            self.is_found(made, Identifier::Commitment(made.commitment))
+                && self.is_found(made, Identifier::Digest(made.commitment.block)),
+        )
     }
 
     fn is_found(&self, made: &Made, id: Identifier) -> bool {

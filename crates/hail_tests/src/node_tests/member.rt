@@ -57,7 +57,7 @@ impl<W: Way> Member<W> {
         Ok(Member { id, node, opening })
     }
 
-    // Starts it again on what a crash leaves of its disk. Another node stands in its place meanwhile.
+    // Starts it again on what a crash leaves of its disk. Another stands in its place meanwhile.
     fn restart<R: Threads + Sync>(
         &mut self,
         rt: &R,

@@ -34,11 +34,7 @@ fn push_sent<W: Way>(text: &mut String, scene: &Scene<W>, sent: &[Out]) -> Resul
     Ok(())
 }
 
-fn push_handed<W: Way>(
-    text: &mut String,
-    scene: &Scene<W>,
-    handed: &[Handed],
-) -> Result<(), Fail> {
+fn push_handed<W: Way>(text: &mut String, scene: &Scene<W>, handed: &[Handed]) -> Result<(), Fail> {
     for handed in handed {
         push_block_handed(text, scene, handed)?;
     }
