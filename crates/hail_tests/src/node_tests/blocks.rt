@@ -11,13 +11,12 @@ use cw_types::{
     Cert, ChainBlock, Commitment, Committees, Context, Payload, Proposal, Verifier, Vote, genesis,
     genesis_commitment,
 };
-use node::Way;
+use node::{Way, whole_commit};
 use shards::cut_block;
 use std::alloc::Global;
 use std::marker::{Model, PhantomData};
 use std::test::Fail;
 use std::thread::Threads;
-use whole_node::whole_commit;
 
 /// A block with what names it, and its chunks with what these name it by, which is the same where
 /// blocks travel in chunks. The first block has none.
