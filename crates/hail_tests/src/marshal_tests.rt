@@ -2,7 +2,6 @@
 
 mod answers;
 mod blocks;
-mod calls;
 mod store;
 mod tables;
 

@@ -1,8 +1,8 @@
 //! Blocks, certificates and disks for the tests of a store.
 
-use cw_base::{Items, Sequential, SumHasher};
+use cw_base::{Digest32, Items, Sequential, SumHasher};
 use cw_types::{
-    Cert, ChainBlock, Commitment, Context, Payload, Proposal, Vote, commit, genesis,
+    Cert, ChainBlock, Commitment, Context, Height, Payload, Proposal, Vote, commit, genesis,
     genesis_commitment,
 };
 use std::alloc::Global;
@@ -99,26 +99,60 @@ pub(crate) fn at(blocks: &[Made], place: usize) -> Result<&Made, Fail> {
     }
 }
 
-/// The finalization of a block in a view, by members 0, 1 and 2.
-pub(crate) fn finalization(alloc: Global, made: &Made, view: u64) -> Result<Cert, Fail> {
-    signed(alloc, Vote::Finalize(proposal(made, view)))
-}
-
-/// Its notarization in a view, by the same.
-pub(crate) fn notarization(alloc: Global, made: &Made, view: u64) -> Result<Cert, Fail> {
-    signed(alloc, Vote::Notarize(proposal(made, view)))
-}
-
-fn proposal(made: &Made, view: u64) -> Proposal {
-    Proposal {
+/// The proposal of a block in a view.
+pub(crate) fn proposal(blocks: &[Made], place: usize, view: u64) -> Result<Proposal, Fail> {
+    let made = at(blocks, place)?;
+    Ok(Proposal {
         epoch: 0,
         view,
         parent: made.block.context().parent_view,
         payload: made.commitment,
+    })
+}
+
+/// The certificate of a vote by members 0, 1 and 2.
+pub(crate) fn signed(alloc: Global, vote: Vote) -> Result<Cert, Fail> {
+    let signers = Items::from_vec(vec![in alloc; 0, 1, 2]?);
+    Ok(Cert { vote, signers })
+}
+
+/// The view of the block at a place, and 0 where there is none.
+pub(crate) fn view_of(blocks: &[Made], place: usize) -> u64 {
+    match blocks.get(place) {
+        Some(made) => made.block.context().view,
+        None => 0,
     }
 }
 
-fn signed(alloc: Global, vote: Vote) -> Result<Cert, Fail> {
-    let signers = Items::from_vec(vec![in alloc; 0, 1, 2]?);
-    Ok(Cert { vote, signers })
+/// The place of the block under a commitment.
+pub(crate) fn named(blocks: &[Made], commitment: &Commitment) -> Result<usize, Fail> {
+    match blocks
+        .iter()
+        .position(|made| made.commitment == *commitment)
+    {
+        Some(place) => Ok(place),
+        None => Err("a commitment of the list".into()),
+    }
+}
+
+/// The place of a block.
+pub(crate) fn place_among(blocks: &[Made], block: &ChainBlock) -> Result<usize, Fail> {
+    match blocks.iter().position(|made| *block == made.block) {
+        Some(place) => Ok(place),
+        None => Err("a block of the list".into()),
+    }
+}
+
+/// The place of a block that is told with its height and its digest.
+pub(crate) fn place_of(
+    blocks: &[Made],
+    info: (Height, Digest32),
+    block: &ChainBlock,
+) -> Result<usize, Fail> {
+    let place = place_among(blocks, block)?;
+    let made = at(blocks, place)?;
+    if info != (Height::new(made.block.height()), made.commitment.block) {
+        return Err("the height and the digest of the block".into());
+    }
+    Ok(place)
 }

@@ -2,7 +2,7 @@
 
 /// A line `== NAME` begins a table. The next line has the backlog and the blocks of the list: the
 /// chain of these heights over the first block; two rivals of height 1; or the chain with a block
-/// of height 5 behind it. Each further line is a call, as `StoreCall` names it, with its numbers,
+/// of height 5 behind it. Each further line is a call, which `answers.rt` says, with its numbers,
 /// and the answer. Names that speak of recovery, subscriptions and infos are the harness's own.
 pub(crate) const STORES: &str = "== proposed_success_implies_recoverable_after_restart
 3 chain 1 1

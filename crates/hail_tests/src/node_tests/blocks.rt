@@ -11,13 +11,12 @@ use cw_types::{
     Cert, ChainBlock, Commitment, Committees, Context, Payload, Proposal, Verifier, Vote, genesis,
     genesis_commitment,
 };
-use node::Way;
+use node::{Way, whole_commit};
 use shards::cut_block;
 use std::alloc::Global;
 use std::marker::{Model, PhantomData};
 use std::test::Fail;
 use std::thread::Threads;
-use whole_node::whole_commit;
 
 /// A block with what names it, and its chunks with what these name it by, which is the same where
 /// blocks travel in chunks. The first block has none.
@@ -120,30 +119,47 @@ impl<W: Way> Scene<W> {
         block_of(alloc, context, under.commitment.block, height, payload)
     }
 
-    // What names the block, and its chunks.
+    // The block with what names it, and its chunks.
     fn made<R: Threads + Sync>(
         &self,
         rt: &R,
         alloc: Global,
         block: ChainBlock,
     ) -> Result<Made, Fail> {
+        match self.names(rt, alloc, &block) {
+            Ok((commitment, cut, chunks)) => Ok(Made {
+                block,
+                commitment,
+                cut,
+                chunks,
+            }),
+            Err(error) => {
+                drop(block);
+                Err(error)
+            }
+        }
+    }
+
+    // What names the block, and what its chunks name it by, with these.
+    fn names<R: Threads + Sync>(
+        &self,
+        rt: &R,
+        alloc: Global,
+        block: &ChainBlock,
+    ) -> Result<(Commitment, Commitment, Vec<Chunk<Digest32>>), Fail> {
+        let whole = whole_commit::<SumHasher>(alloc, block)?;
         let (cut, chunks) = cut_block::<SumHasher, R, Sequential>(
             rt,
             alloc,
             &self.committees,
-            &block,
+            block,
             &Sequential,
         )?;
         let commitment = match W::travel() {
             Travel::Chunked => cut,
-            Travel::Uncut => whole_commit::<SumHasher>(alloc, &block)?,
+            Travel::Uncut => whole,
         };
-        Ok(Made {
-            block,
-            commitment,
-            cut,
-            chunks,
-        })
+        Ok((commitment, cut, chunks))
     }
 
     // Members 0, 1 and 2 sign votes on the block at a place, in its view and the next.
@@ -199,23 +215,20 @@ impl<W: Way> Scene<W> {
         })
     }
 
-    /// The place of the block under a commitment.
-    pub(crate) fn named(&self, commitment: &Commitment) -> Result<usize, Fail> {
-        match self
-            .blocks
-            .iter()
-            .position(|made| made.commitment == *commitment)
-        {
-            Some(place) => Ok(place),
-            None => Err("a commitment of the list".into()),
+    /// The place of the block under a commitment, and how many blocks there are where it is none.
+    pub(crate) fn named(&self, commitment: &Commitment) -> usize {
+        let mut places = self.blocks.iter();
+        match places.position(|made| made.commitment == *commitment) {
+            Some(place) => place,
+            None => self.blocks.len(),
         }
     }
 
-    /// The place of a block.
-    pub(crate) fn place(&self, block: &ChainBlock) -> Result<usize, Fail> {
+    /// The place of a block, and how many there are where it is none.
+    pub(crate) fn place(&self, block: &ChainBlock) -> usize {
         match self.blocks.iter().position(|made| made.block == *block) {
-            Some(place) => Ok(place),
-            None => Err("a block of the list".into()),
+            Some(place) => place,
+            None => self.blocks.len(),
         }
     }
 }

@@ -1,31 +1,18 @@
 //! Copies of all that a member takes, notes and gives.
 
 use super::blocks::Scene;
-use super::calls::{NodeCall, event_of, told_by};
+use super::calls::event_of;
 use super::member::Member;
+use crate::tables::{Call, call_and_answer};
 use cw_types::{ChainBlock, Event, Message, Note, StepOut};
 use node::Way;
 use std::alloc::Global;
 use std::test::Fail;
 use std::thread::Threads;
 
-/// The place of the first line of a table at which a copy is another thing for a new member: of an
-/// event, of what it gives, or, where its notes are counted, of one of these; none where all are
-/// equal.
+/// The place of the first line of a table at which a copy is another thing: of an event, of what
+/// the member gives, or, where its notes are counted, of one of these; none where all are equal.
 pub(crate) fn first_uncopied<W: Way, R: Threads + Sync>(
-    rt: &R,
-    alloc: Global,
-    scene: &Scene<W>,
-    id: u16,
-    table: &str,
-) -> Result<Option<usize>, Fail> {
-    let mut member = Member::new(rt, alloc, scene, id)?;
-    let place = uncopied_at(rt, alloc, scene, &mut member, table);
-    drop(member);
-    place
-}
-
-fn uncopied_at<W: Way, R: Threads + Sync>(
     rt: &R,
     alloc: Global,
     scene: &Scene<W>,
@@ -33,7 +20,7 @@ fn uncopied_at<W: Way, R: Threads + Sync>(
     table: &str,
 ) -> Result<Option<usize>, Fail> {
     for (place, line) in table.lines().enumerate() {
-        let (call, _) = told_by(line)?;
+        let (call, _) = call_and_answer(line)?;
         if !is_copied(rt, alloc, scene, member, call)? {
             return Ok(Some(place));
         }
@@ -46,17 +33,15 @@ fn is_copied<W: Way, R: Threads + Sync>(
     alloc: Global,
     scene: &Scene<W>,
     member: &mut Member<W>,
-    call: NodeCall,
+    call: Call,
 ) -> Result<bool, Fail> {
-    match call {
-        NodeCall::Notes => are_notes_copied(alloc, member.all_notes()),
-        _ => {
-            let event = event_of(alloc, scene, call)?;
-            let same = is_step_copied(rt, alloc, scene, member, &event);
-            drop(event);
-            same
-        }
+    if call.name == "notes" {
+        return are_notes_copied(alloc, member.all_notes());
     }
+    let event = event_of(alloc, scene, call)?;
+    let same = is_step_copied(rt, alloc, scene, member, &event);
+    drop(event);
+    same
 }
 
 // Whether the copies of an event and of what the member answers to it equal them.

@@ -1,9 +1,10 @@
 //! A member alone, over a disk in memory, and what it answers, as text.
 
 use super::blocks::Scene;
-use super::calls::{NodeCall, event_of};
+use super::calls::event_of;
 use super::said::text_of;
 use crate::disks::{Started, crashed, start};
+use crate::tables::Call;
 use cw_base::{Sequential, SumHasher};
 use cw_types::{AcceptAll, Event, Note, StepOut};
 use node::{Member as Node, NodeError, Way};
@@ -56,20 +57,17 @@ impl<W: Way> Member<W> {
         Ok(Member { id, node, opening })
     }
 
-    // Starts it again on what a crash leaves of its disk. Another node stands in its place meanwhile.
+    // Starts it again on what a crash leaves of its disk. Another stands in its place meanwhile.
     fn restart<R: Threads + Sync>(
         &mut self,
         rt: &R,
         alloc: Global,
         scene: &Scene<W>,
     ) -> Result<(), Fail> {
-        let new_disk = MemoryDisk::new(alloc, Vec::new(alloc));
-        let (other, opening) = started(rt, alloc, scene, self.id, new_disk)?;
-        drop(opening);
-        let disk = crashed(mem::replace(&mut self.node, other).into_disk())?;
-        let (node, opening) = started(rt, alloc, scene, self.id, disk)?;
-        drop(mem::replace(&mut self.node, node));
-        drop(mem::replace(&mut self.opening, opening));
+        let other = Member::new(rt, alloc, scene, self.id)?;
+        let before = mem::replace(self, other);
+        let after = reopened(rt, alloc, scene, before)?;
+        drop(mem::replace(self, after));
         Ok(())
     }
 
@@ -81,10 +79,6 @@ impl<W: Way> Member<W> {
     /// Its notes.
     pub(crate) fn all_notes(&self) -> &[Note] {
         self.node.notes()
-    }
-
-    fn stop_at(&mut self, call: u64, cut: u64, fill: u8) {
-        self.node.stop_at(call, cut, fill);
     }
 
     /// What it answers to an event.
@@ -99,30 +93,29 @@ impl<W: Way> Member<W> {
             .step(rt, alloc, event, scene.signed(), &Sequential)
     }
 
-    // What it answers to the event of a call.
-    fn step<R: Threads + Sync>(
-        &mut self,
-        rt: &R,
-        alloc: Global,
-        scene: &Scene<W>,
-        call: NodeCall,
-    ) -> Result<Result<StepOut, NodeError>, Fail> {
-        let event = event_of(alloc, scene, call)?;
-        Ok(self.take(rt, alloc, scene, &event))
-    }
-
-    // The text of what it answers to an event.
+    // What it says to an event.
     fn said<R: Threads + Sync>(
         &mut self,
         rt: &R,
         alloc: Global,
         scene: &Scene<W>,
-        call: NodeCall,
+        call: Call,
     ) -> Result<String, Fail> {
-        match self.step(rt, alloc, scene, call)? {
-            Ok(out) => text_of(alloc, scene, &out),
-            Err(error) => Ok(format!(in alloc; "{error:?}")?),
-        }
+        let event = event_of(alloc, scene, call)?;
+        let answer = self.take(rt, alloc, scene, &event);
+        drop(event);
+        said_of(alloc, scene, answer)
+    }
+
+    // What its start gives on what a crash leaves of its disk.
+    fn said_again<R: Threads + Sync>(
+        &mut self,
+        rt: &R,
+        alloc: Global,
+        scene: &Scene<W>,
+    ) -> Result<String, Fail> {
+        self.restart(rt, alloc, scene)?;
+        text_of(alloc, scene, &self.opening)
     }
 
     /// What it answers to a call.
@@ -131,20 +124,52 @@ impl<W: Way> Member<W> {
         rt: &R,
         alloc: Global,
         scene: &Scene<W>,
-        call: NodeCall,
+        call: Call,
     ) -> Result<String, Fail> {
-        match call {
-            NodeCall::StopAt(device_call, cut, fill) => {
-                self.stop_at(device_call, cut, fill);
+        let (first, cut, fill) = call.numbers;
+        match call.name {
+            // Its disk is to stop at a device call from now, behind so many bytes, and fills the
+            // rest.
+            "stop_at" => {
+                self.node.stop_at(first, cut, (fill % 256) as u8);
                 Ok(String::new(alloc))
             }
-            NodeCall::Restart => {
-                self.restart(rt, alloc, scene)?;
-                text_of(alloc, scene, &self.opening)
-            }
-            NodeCall::Notes => Ok(format!(in alloc; "{}", self.notes())?),
-            NodeCall::Disk => Ok(format!(in alloc; "{:?}", self.node.bytes())?),
+            // It is started on its disk again: what the start gives.
+            "restart" => self.said_again(rt, alloc, scene),
+            // How many notes it has.
+            "notes" => Ok(format!(in alloc; "{}", self.notes())?),
+            // The bytes that a read of its disk gives.
+            "disk" => Ok(format!(in alloc; "{:?}", self.node.bytes())?),
             _ => self.said(rt, alloc, scene, call),
         }
+    }
+}
+
+// A member on what a crash leaves of another one's disk.
+fn reopened<W: Way, R: Threads + Sync>(
+    rt: &R,
+    alloc: Global,
+    scene: &Scene<W>,
+    before: Member<W>,
+) -> Result<Member<W>, Fail> {
+    let Member { id, node, opening } = before;
+    drop(opening);
+    let disk = crashed(node.into_disk())?;
+    let (node, opening) = started(rt, alloc, scene, id, disk)?;
+    Ok(Member { id, node, opening })
+}
+
+fn said_of<W: Way>(
+    alloc: Global,
+    scene: &Scene<W>,
+    answer: Result<StepOut, NodeError>,
+) -> Result<String, Fail> {
+    match answer {
+        Ok(out) => {
+            let text = text_of(alloc, scene, &out);
+            drop(out);
+            text
+        }
+        Err(error) => Ok(format!(in alloc; "{error:?}")?),
     }
 }

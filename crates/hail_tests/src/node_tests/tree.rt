@@ -118,12 +118,13 @@ fn all_sent<R: Threads + Sync>(
     alloc: Global,
     member: &mut First,
     events: &[Event],
-) -> Result<(Vec<usize>, usize), Fail> {
-    let mut sent = Vec::new(alloc);
+) -> Result<String, Fail> {
+    let mut sent = String::new(alloc);
     for event in events {
-        sent.push(member.count_sent(rt, alloc, event)?)?;
+        write!(sent, "{}", member.count_sent(rt, alloc, event)?)?;
     }
-    Ok((sent, member.notes()))
+    write!(sent, ", {} notes", member.notes())?;
+    Ok(sent)
 }
 
 /// How many messages member 0 of four sends as each of these rows comes, and how many notes it has
@@ -132,10 +133,16 @@ pub(crate) fn sent_for_rows<R: Threads + Sync>(
     rt: &R,
     alloc: Global,
     rows: &[u16],
-) -> Result<(Vec<usize>, usize), Fail> {
+) -> Result<String, Fail> {
     let events = all_coming(alloc, rows)?;
+    let sent = sent_by_new(rt, alloc, &events);
+    drop(events);
+    sent
+}
+
+fn sent_by_new<R: Threads + Sync>(rt: &R, alloc: Global, events: &[Event]) -> Result<String, Fail> {
     let mut member = First::new(rt, alloc)?;
-    let sent = all_sent(rt, alloc, &mut member, &events);
+    let sent = all_sent(rt, alloc, &mut member, events);
     drop(member);
     sent
 }
