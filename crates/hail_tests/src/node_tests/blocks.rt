@@ -95,8 +95,13 @@ impl<W: Way> Scene<W> {
         let block = self.over(alloc, below, round, payload)?;
         let made = self.made(rt, alloc, block)?;
         let place = self.blocks.len();
-        self.blocks.push(made)?;
+        self.push(made)?;
         self.sign(place, round.1)
+    }
+
+    /// Adds a block on which nobody signed anything.
+    pub(crate) fn push(&mut self, made: Made) -> Result<(), Fail> {
+        Ok(self.blocks.push(made)?)
     }
 
     // A block over the one at a place.

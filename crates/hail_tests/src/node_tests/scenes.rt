@@ -1,6 +1,7 @@
-//! Clusters with two blocks, one over the other.
+//! Clusters with blocks, one over the other, or with chunks of no block.
 
 use super::blocks::Scene;
+use super::tree::no_codeword;
 use cw_base::SumHasher;
 use cw_types::{Committees, genesis_commitment};
 use node::{Chunked, Uncut, Way};
@@ -18,6 +19,7 @@ pub(crate) fn chunked_scene<R: Threads + Sync>(
         "one epoch" => of_one_epoch(rt, alloc),
         "short epochs" => short_epochs(rt, alloc),
         "two epochs" => two_epochs(rt, alloc),
+        "no codeword" => of_no_codeword(alloc),
         _ => Err("a scene".into()),
     }
 }
@@ -74,6 +76,17 @@ fn two_epochs<R: Threads + Sync>(rt: &R, alloc: Global) -> Result<Scene<Chunked>
     lists.push([0u16, 1, 2, 3].to_vec(alloc)?)?;
     lists.push([1u16, 2, 3, 4].to_vec(alloc)?)?;
     of_two_blocks(rt, alloc, Committees::new(alloc, 5, 1, &lists)?, (1, 1, 2))
+}
+
+// Four members in one committee, and chunks of no block.
+fn of_no_codeword(alloc: Global) -> Result<Scene<Chunked>, Fail> {
+    let mut scene = Scene::new(alloc, Committees::single(alloc, 4)?)?;
+    let added = add_no_codeword(alloc, &mut scene);
+    with_added(scene, added)
+}
+
+fn add_no_codeword(alloc: Global, scene: &mut Scene<Chunked>) -> Result<(), Fail> {
+    scene.push(no_codeword(alloc)?)
 }
 
 fn of_two_blocks<W: Way, R: Threads + Sync>(
