@@ -1,7 +1,6 @@
 //! Tests of a member alone: what it answers to each event, by a table of votes that were signed,
 //! where blocks come in chunks and where they come whole.
 
-mod blocks;
 mod calls;
 mod copies;
 mod member;

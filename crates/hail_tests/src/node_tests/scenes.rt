@@ -1,7 +1,7 @@
 //! Clusters with blocks, one over the other, or with chunks of no block.
 
-use super::blocks::Scene;
 use super::tree::no_codeword;
+use crate::blocks::Scene;
 use cw_base::SumHasher;
 use cw_types::{Committees, genesis_commitment};
 use node::{Chunked, Uncut, Way};
@@ -55,7 +55,7 @@ fn add_as_genesis<R: Threads + Sync>(
     alloc: Global,
     scene: &mut Scene<Uncut>,
 ) -> Result<(), Fail> {
-    scene.add(rt, alloc, 0, (0, 62, 2), &[190])?;
+    scene.add(rt, alloc, 0, 1, (0, 62, 2), &[190])?;
     if scene.block(1)?.commitment != genesis_commitment::<SumHasher>() {
         return Err("the commitment of the first block".into());
     }
@@ -106,8 +106,8 @@ fn add_two<W: Way, R: Threads + Sync>(
     scene: &mut Scene<W>,
     second: (u64, u64, u16),
 ) -> Result<(), Fail> {
-    scene.add(rt, alloc, 0, (0, 1, 1), &[0x68, 0x69])?;
-    scene.add(rt, alloc, 1, second, &[0x62])
+    scene.add(rt, alloc, 0, 1, (0, 1, 1), &[0x68, 0x69])?;
+    scene.add(rt, alloc, 1, 2, second, &[0x62])
 }
 
 // The scene to which blocks were added.

@@ -2,7 +2,7 @@
 
 ghost use Rattle.std.specs.Prelude.{◌≡◌, ◌<◌, IfOk, length};
 
-use super::blocks::Made;
+use crate::blocks::Made;
 use bytes::Bytes;
 use cw_base::{Config, Digest32, Hasher, Items, SumHasher};
 use cw_coding::Chunk;

@@ -83,16 +83,18 @@ impl<W: Way> Scene<W> {
         })
     }
 
-    /// Adds a block over the one at a place, proposed in an epoch and a view by its leader.
+    /// Adds a block of a height over the one at a place, proposed in an epoch and a view by its
+    /// leader.
     pub(crate) fn add<R: Threads + Sync>(
         &mut self,
         rt: &R,
         alloc: Global,
         below: usize,
+        height: u64,
         round: (u64, u64, u16),
         payload: &[u8],
     ) -> Result<(), Fail> {
-        let block = self.over(alloc, below, round, payload)?;
+        let block = self.over(alloc, below, height, round, payload)?;
         let made = self.made(rt, alloc, block)?;
         let place = self.blocks.len();
         self.push(made)?;
@@ -109,6 +111,7 @@ impl<W: Way> Scene<W> {
         &self,
         alloc: Global,
         below: usize,
+        height: u64,
         (epoch, view, leader): (u64, u64, u16),
         payload: &[u8],
     ) -> Result<ChainBlock, Fail> {
@@ -120,7 +123,6 @@ impl<W: Way> Scene<W> {
             parent_view: view_in(&under.block, epoch),
             parent: under.commitment,
         };
-        let height = under.block.height().saturating_add(1);
         block_of(alloc, context, under.commitment.block, height, payload)
     }
 
@@ -193,6 +195,11 @@ impl<W: Way> Scene<W> {
     /// Who signed what.
     pub(crate) fn signed(&self) -> &Signed {
         &self.signed
+    }
+
+    /// Its blocks.
+    pub(crate) fn blocks(&self) -> &[Made] {
+        self.blocks.as_slice()
     }
 
     /// The block at a place.
