@@ -47,15 +47,16 @@ impl<R: Print + Threads + Sync> Cluster<'_, R> {
     fn propose(&mut self, id: u16, text: &str) -> Result<()> {
         let bytes = Vec::from_slice(self.alloc, text.as_bytes())?;
         let payload = Payload::new(bytes).ok().context("too long a text")?;
-        self.network.due.push_back((id, Event::Propose(payload)))?;
-        for _ in 0..1_000 {
-            if let Some((id, event)) = self.network.due.pop_front() {
+        self.network.due.push((id, Event::Propose(payload)))?;
+        for place in 0..1_000 {
+            if let Some((id, event)) = self.network.due.get(place) {
+                let (id, signed) = (*id, &self.network.signed);
                 let member = self.members.get_mut(&id).context("no member")?;
-                let signed = &self.network.signed;
-                let out = member.step(self.rt, self.alloc, &event, signed, &Sequential)?;
+                let out = member.step(self.rt, self.alloc, event, signed, &Sequential)?;
                 self.take(id, &out)?;
             }
         }
+        self.network.due.clear();
         Ok(())
     }
 
@@ -71,7 +72,7 @@ impl<R: Print + Threads + Sync> Cluster<'_, R> {
             let block = member.marshal().get_block(named).context("no block")?;
             let text = str::from_utf8(block.payload().bytes())?;
             println!(self.rt; "member {id}: height {} is {text:?}", handed.height)?;
-            self.network.due.push_back((id, Event::Ack))?;
+            self.network.due.push((id, Event::Ack))?;
         }
         Ok(())
     }

@@ -4,7 +4,6 @@
 use anyhow::Result;
 use cw_types::{Application, ChainBlock, Event, Message, Out, To, Verifier, Vote};
 use std::alloc::Global;
-use std::collections::VecDeque;
 
 /// The application: no payload is shorter than the one below.
 #[derive(Clone, Copy)]
@@ -42,7 +41,7 @@ impl Verifier for Signed {
 #[derive(Drop)]
 pub(crate) struct Network {
     pub(crate) signed: Signed,
-    pub(crate) due: VecDeque<(u16, Event)>,
+    pub(crate) due: Vec<(u16, Event)>,
 }
 
 impl Network {
@@ -50,7 +49,7 @@ impl Network {
     pub(crate) fn new(alloc: Global) -> Network {
         Network {
             signed: Signed(Vec::new(alloc)),
-            due: VecDeque::new(alloc),
+            due: Vec::new(alloc),
         }
     }
 
@@ -62,7 +61,7 @@ impl Network {
         for to in 0..4 {
             if out.to == To::All || out.to == To::One(to) {
                 let message = out.message.copy(alloc)?;
-                self.due.push_back((to, Event::Deliver(message)))?;
+                self.due.push((to, Event::Deliver(message)))?;
             }
         }
         Ok(())
