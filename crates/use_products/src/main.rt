@@ -7,9 +7,7 @@ use cw_archive::Archive;
 use cw_base::{Items, Sequential, Sha256};
 use cw_ledger::Replica;
 use cw_light::{Answer, light_check};
-use cw_types::{
-    Cert, ChainBlock, Committees, Payload, Proposal, Verifier, Vote, commit_with_chunks,
-};
+use cw_types::{Cert, ChainBlock, Committees, Payload, Proposal, Verifier, Vote};
 use node_disk::MemoryDisk;
 use std::alloc::Global;
 use std::thread::Threads;
@@ -43,7 +41,8 @@ fn ledger(rt: &impl Print, alloc: Global, block: &ChainBlock) -> Result<u64> {
 
 // An archive keeps the newest chunks. Any two of the four give the block back.
 fn archive(rt: &(impl Print + Threads + Sync), alloc: Global, block: &ChainBlock) -> Result<bool> {
-    let (named, chunks) = commit_with_chunks::<Sha256, _, _>(rt, alloc, 4, block, &Sequential)?;
+    let cut = cw_types::commit_with_chunks::<Sha256, _, _>(rt, alloc, 4, block, &Sequential)?;
+    let (named, chunks) = cut;
     let mut archive = Archive::<Sha256>::new(alloc, 250)?;
     for chunk in chunks {
         let answer = archive.put(rt, &named, chunk, &Sequential)?;
