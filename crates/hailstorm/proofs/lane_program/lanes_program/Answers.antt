@@ -1,6 +1,5 @@
 use Rattle.cw_rules.specs.declared.travel.Travel.TheVariants as travel
 use Rattle.hail_report.specs.declared.exit.Early.TheVariants as early
-use Rattle.hail_world.proofs.Framing.{early_fault, early_silent}
 use Rattle.hailstorm.proofs.LanesMeaning.{fault_means, long_means, short_means, whole_fault, whole_read, whole_silent}
 use Rattle.hailstorm.specs.LanesProgram.{IsRunInLanes}
 use Rattle.hail_world.proofs.Meaning.{too_long_early}
