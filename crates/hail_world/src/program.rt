@@ -47,13 +47,12 @@ pub fn run_input<
 }
 
 // Reads a script, runs it, and makes the text of its report.
-fn made_of_source<
-    H: Hasher<Digest = Digest32>,
-    W: Way,
-    R: Threads + Sync,
-    I: Source,
-    S: Strategy,
->(rt: &R, alloc: Global, input: &mut I, strategy: &S) -> Result<Made<Report<H, W>>, Early>
+fn made_of_source<H: Hasher<Digest = Digest32>, W: Way, R: Threads + Sync, I: Source, S: Strategy>(
+    rt: &R,
+    alloc: Global,
+    input: &mut I,
+    strategy: &S,
+) -> Result<Made<Report<H, W>>, Early>
     ensures { IsMade W.travel H.digest_of
         (IsRunOf W.travel (spec.report_text H.digest_of) H.digest_of) (I.left input.old)
         (I.left input.new) (I.faults input.old) (I.faults input.new) result }
