@@ -1,4 +1,10 @@
 //! The frame of each program that reads a script, runs it, and writes what it makes of the run.
+//!
+//! A program asks its words, and ends with [`end_usage`] where they aren't its own. Else it runs its
+//! source's script by [`run_source`], makes of the run what it hands back and the text that it
+//! writes, or passes on why there is no report, and ends with [`end_made`]. Its own function between
+//! the two promises `IsMade` of what done means for it; from that and `EndsMade` the lemmas
+//! `made_answers` and `made_run` of `proofs/Framing.antt` give what each of its answers means.
 
 ghost use Rattle.std.specs.Prelude.{◌≡◌, ◌≢◌, List, ℕ, Some, IfOk, IfErr};
 ghost use Rattle.hail_report.specs.Exits.{HasFault, HasReadFault, IsSilent, UsageOf};
