@@ -1,15 +1,15 @@
 //! The program: from the bytes of a script to the picture of its run.
 
-ghost use Rattle.std.specs.Prelude.{◌≡◌, ◌≢◌, List, Option, Some, length, ℕ};
+ghost use Rattle.std.specs.Prelude.{◌≡◌, ◌≢◌, List, Some, length, ℕ};
 ghost use Rattle.cw_rules.specs.declared.travel.Travel.TheVariants as travel;
-ghost use Rattle.hail_report.specs.Exits.{HasFault, IsSilent, UsageOf};
-ghost use Rattle.hail_world.specs.Programs.{AnswersBy, WasRun};
+ghost use Rattle.hail_report.specs.Exits.{HasFault, HasRun, IsSilent, UsageOf};
+ghost use Rattle.hail_world.specs.Programs.{AnswersBy, IsMade};
 ghost use Rattle.hail_picture.specs.Drawing.{IsDrawn, usage_line};
 
 use crate::drawing::picture_of;
 use cw_base::{Digest32, Hasher, NoMemory, Sink, Source, Strategy};
-use hail_report::{Exit, end_early, finish};
-use hail_world::{Ran, Report, run_source};
+use hail_report::{Early, Exit};
+use hail_world::{Made, Report, end_made, end_usage, run_source};
 use node::Chunked;
 use std::alloc::Global;
 use std::thread::Threads;
@@ -43,6 +43,14 @@ pub fn picture_program<
         → AnswersBy travel.Chunked H.digest_of (IsDrawn H.digest_of) text (I.left input.new)
         (O.held output.old) (O.held output.new) result }
 
+    // Whether or not the source tells its bytes: the usage is the answer to words alone.
+    ensures usage_only { result ≡ Exit.Usage → length words.now ≢ 0 }
+
+    // Whether or not the source tells its bytes: done is told with the report of some text's run,
+    // whose picture was written.
+    ensures run { length words.now ≡ 0
+        → HasRun (IsDrawn H.digest_of) (O.held output.old) (O.held output.new) result }
+
     // A fault is told only where the source or the sink has failed in this call.
     ensures fault { HasFault (I.faults input.old) (I.faults input.new) (O.faults output.old)
         (O.faults output.new) result }
@@ -51,50 +59,31 @@ pub fn picture_program<
     // tells its bytes.
     ensures silent { IsSilent (O.held output.old) (O.held output.new) result }
 {
-    if words.is_empty() {
-        run_input(rt, alloc, input, output, strategy)
-    } else {
-        finish(output, USAGE, Exit::Usage)
+    if !words.is_empty() {
+        return end_usage(output, USAGE);
     }
+    let made = made_of_source::<H, R, I, S>(rt, alloc, input, strategy);
+    end_made(alloc, output, made)
 }
 
-// Reads a script, runs it, and writes the picture of its run or why there is no report.
-fn run_input<H: Hasher<Digest = Digest32>, R: Threads + Sync, I: Source, O: Sink, S: Strategy>(
+// Reads a script, runs it, and draws the picture of its run.
+fn made_of_source<H: Hasher<Digest = Digest32>, R: Threads + Sync, I: Source, S: Strategy>(
     rt: &R,
     alloc: Global,
     input: &mut I,
-    output: &mut O,
     strategy: &S,
-) -> Exit<Report<H, Chunked>>
-    ensures answer { (text : List ℕ) → I.left input.old ≡ Some text
-        → AnswersBy travel.Chunked H.digest_of (IsDrawn H.digest_of) text (I.left input.new)
-        (O.held output.old) (O.held output.new) result }
-    ensures fault { HasFault (I.faults input.old) (I.faults input.new) (O.faults output.old)
-        (O.faults output.new) result }
-    ensures silent { IsSilent (O.held output.old) (O.held output.new) result }
+) -> Result<Made<Report<H, Chunked>>, Early>
+    ensures { IsMade travel.Chunked H.digest_of (IsDrawn H.digest_of) (I.left input.old)
+        (I.left input.new) (I.faults input.old) (I.faults input.new) result }
 {
     match run_source::<H, Chunked, R, I, S>(rt, alloc, input, strategy) {
-        Ok(ran) => write_run(alloc, ran, output),
-        Err(early) => end_early(alloc, output, early),
-    }
-}
-
-// Writes the picture of a run.
-fn write_run<H: Hasher<Digest = Digest32>, O: Sink>(
-    alloc: Global,
-    ran: Ran<H, Chunked>,
-    output: &mut O,
-) -> Exit<Report<H, Chunked>>
-    ensures answer { (text : List ℕ) (rest : Option (List ℕ))
-        → WasRun travel.Chunked H.digest_of text rest ran
-        → AnswersBy travel.Chunked H.digest_of (IsDrawn H.digest_of) text rest (O.held output.old)
-        (O.held output.new) result }
-    ensures fault { (reads later : ℕ)
-        → HasFault reads later (O.faults output.old) (O.faults output.new) result }
-    ensures silent { IsSilent (O.held output.old) (O.held output.new) result }
-{
-    match picture_of::<H>(alloc, &ran) {
-        Ok(text) => finish(output, &text, Exit::Done(ran.report)),
-        Err(NoMemory) => Exit::NoMemory,
+        Ok(ran) => match picture_of::<H>(alloc, &ran) {
+            Ok(text) => Ok(Made {
+                done: ran.report,
+                text,
+            }),
+            Err(NoMemory) => Err(Early::NoMemory),
+        },
+        Err(early) => Err(early),
     }
 }

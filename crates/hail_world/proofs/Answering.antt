@@ -11,15 +11,20 @@ use Rattle.hail_report.specs.declared.exit.Early.TheVariants as early
 use Rattle.hail_report.specs.declared.exit.Exit.{Exit}
 use Rattle.hail_report.specs.declared.exit.Exit.TheVariants.{Clash, Done, NoMemory, ReadFault, Refused, TooLong, Usage, WriteFault}
 use Rattle.hail_world.specs.declared.report.Report.{Report}
-use Rattle.hail_world.specs.Headline.{Answers, IsRunOf, Means}
-use Rattle.hail_report.specs.Exits.{EndsEarly, HasRun, RunsOn}
-use Rattle.hail_world.specs.Programs.{AnswersBy}
-use Rattle.hail_report.specs.Text.{report_text}
+use Rattle.hail_world.specs.Headline.{Answers, IsRunOf}
+use Rattle.hail_report.specs.Exits.{EndsEarly, Finishes, HasRun, RunsOn}
 
 module _ {X : Type 0} (IsDone : List ℕ → X → List ℕ → Type 0) (held written : Option (List ℕ)) where
   -- the usage is none of the answers
   pub no_usage : (result : Exit X) → HasRun IsDone held written result → result ≡ Usage → ⊥
   no_usage result h e = subst (HasRun IsDone held written) e h
+
+  -- an end behind a text tells its run
+  pub done_run : (w later : ℕ) (x : X) (due : List ℕ) (result : Exit X)
+      → (text : List ℕ) × IsDone text x due → Finishes held written w later due (Done x) result
+      → HasRun IsDone held written result
+  done_run w later x due result read (inl h) = rw h.0 (read.0, (due, read.1, h.1))
+  done_run w later x due result read (inr h) = rw h.0 tt
 
   -- an early end tells no run
   pub early_run : (w later : ℕ) (e : Early) (result : Exit X)
@@ -35,21 +40,6 @@ module _ {X : Type 0} (IsDone : List ℕ → X → List ℕ → Type 0) (held wr
   early_run w later early.ReadFault result ends = rw ends.0 tt
   early_run w later early.NoMemory result ends = rw ends.0 tt
 
-  -- an answer for a text tells that of the text
-  pub answers_run : (travel : Travel) (hash : List ℕ → Digest32) (text : List ℕ)
-      (rest : Option (List ℕ))
-      (result : Exit X)
-      → AnswersBy travel hash IsDone text rest held written result
-      → HasRun IsDone held written result
-  answers_run travel hash text rest (Done x) h = (text, h.2)
-  answers_run travel hash text rest Usage h = h
-  answers_run travel hash text rest TooLong h = tt
-  answers_run travel hash text rest (Refused e) h = tt
-  answers_run travel hash text rest (Clash earlier later) h = tt
-  answers_run travel hash text rest ReadFault h = tt
-  answers_run travel hash text rest WriteFault h = tt
-  answers_run travel hash text rest NoMemory h = tt
-
 module _ {H W : Type 0} (travel : Travel) (hash : List ℕ → Digest32)
     (held written : Option (List ℕ)) where
   -- an answer for a script tells its run
@@ -64,19 +54,6 @@ module _ {H W : Type 0} (travel : Travel) (hash : List ℕ → Digest32)
   answer_run tell text ReadFault h = tt
   answer_run tell text WriteFault h = tt
   answer_run tell text NoMemory h = tt
-
-  -- and so one for what a source gave
-  pub input_run : (text : List ℕ) (rest : Option (List ℕ)) (result : Exit (Report H W))
-      → Means travel hash text rest held written result
-      → HasRun (IsRunOf travel (report_text hash) hash) held written result
-  input_run text rest (Done r) h = (text, (_, (h.2, refl), h.3))
-  input_run text rest Usage h = h
-  input_run text rest TooLong h = tt
-  input_run text rest (Refused e) h = tt
-  input_run text rest (Clash earlier later) h = tt
-  input_run text rest ReadFault h = tt
-  input_run text rest WriteFault h = tt
-  input_run text rest NoMemory h = tt
 
   -- a script that is run is done, or ends in a clash
   pub runs_on : (tell : Reported → List ℕ) (text : List ℕ) (result : Exit (Report H W))

@@ -19,10 +19,11 @@ use Rattle.hail_report.specs.declared.exit.Exit.{Exit}
 use Rattle.hail_report.specs.declared.exit.Exit.TheVariants.{Clash, Done, NoMemory, ReadFault, Refused, TooLong, Usage, WriteFault}
 use Rattle.hail_world.specs.declared.report.Ran.{Ran}
 use Rattle.hail_world.specs.declared.report.Report.{Report}
-use Rattle.hail_world.specs.Headline.{Answers, EndsWith, Means, due_for, due_input, due_of, due_text}
+use Rattle.hail_world.specs.Headline.{Answers, EndsWith, IsRunOf, Means, due_for, due_input, due_of, due_text}
 use Rattle.hail_world.specs.Places.{rules_of}
 use Rattle.hail_report.specs.Exits.{EndsEarly, HasFault, early_of}
-use Rattle.hail_world.specs.Programs.{HasNoReport, WasRun}
+use Rattle.hail_world.specs.Programs.{AnswersBy, HasNoReport, IsDue, WasRun}
+use Rattle.hail_world.specs.Programs.IsDue.{OfClash, OfExcess, OfRefusal, OfRun}
 use Rattle.hail_report.specs.Reading.{script_limit}
 use Rattle.hail_world.specs.Reports.{Clashing, IsCause, IsReport, IsRun, shown_report}
 use Rattle.hail_report.specs.Text.{error_line, report_text, too_long_line}
@@ -120,42 +121,31 @@ due_long : (travel : Travel) (hash : List ℕ → Digest32) (text : List ℕ) �
 due_long travel hash text h = rw (is_above script_limit (length text) h) refl
 
 module _ {H W : Type 0} (travel : Travel) (hash : List ℕ → Digest32) (text : List ℕ)
-    (rest held written : Option (List ℕ)) (w later : ℕ) where
-  meaning : (result : Exit (Report H W)) → IsAtEnd rest → length text ≤ script_limit
-      → Answers travel (report_text hash) hash text held written result
-      → Means travel hash text rest held written result
-  meaning (Done r) e l a = (e, l, a.0, a.1)
-  meaning (Refused x) e l a = (e, l, a.0, a.1)
-  meaning (Clash x y) e l a = (e, l, a.0, a.1)
-  meaning WriteFault e l a = same_front held written _ _ (due_short travel hash text l) a
-  meaning NoMemory e l a = a
-  meaning Usage e l a = absurd a
-  meaning TooLong e l a = absurd a
-  meaning ReadFault e l a = absurd a
+    (rest held written : Option (List ℕ)) where
+  -- whatever is due for a program that writes the report is the text that is due for the input
+  is_due : (due : List ℕ) → IsDue travel hash (IsRunOf {H = H} {W = W} travel (report_text hash) hash) text due
+      → due ≡ due_input travel hash text
+  is_due due (OfRun r l done) =
+      done.1 ∙ due_done travel (report_text hash) hash text r done.0 ∙ due_short travel hash text l
+  is_due due (OfRefusal e l spells is) =
+      is ∙ due_refused travel (report_text hash) hash text e spells ∙ due_short travel hash text l
+  is_due due (OfClash earlier later l cause is) =
+      is ∙ due_clash travel (report_text hash) hash text earlier later cause
+      ∙ due_short travel hash text l
+  is_due due (OfExcess l is) = is ∙ sym (due_long travel hash text l)
 
-  pub done_means : (ran : Ran H W) (result : Exit (Report H W)) → WasRun travel hash text rest ran
-      → EndsWith (report_text hash) held written w later ran.report result
+  pub answers_mean : (result : Exit (Report H W))
+      → AnswersBy travel hash (IsRunOf travel (report_text hash) hash) text rest held written result
       → Means travel hash text rest held written result
-  done_means ran result read ends =
-      meaning result read.at_end read.short
-      (done_answer travel (report_text hash) hash text held written w later ran.report result
-      read.report ends)
-
-  pub early_means : (e : Early) (result : Exit (Report H W)) → HasNoReport travel hash text rest e
-      → EndsEarly held written w later e result → Means travel hash text rest held written result
-  early_means early.TooLong result cause (inl h) = rw h.0 (cause.0, cause.1, h.1)
-  early_means early.TooLong result cause (inr h) =
-      rw h.0 (same_front held written _ _ (sym (due_long travel hash text cause.0)) h.2)
-  early_means (early.Refused e) result cause ends =
-      meaning result cause.0 cause.1
-      (refused_answer travel (report_text hash) hash text held written w later e result cause.2
-      ends)
-  early_means (early.Clash earlier later') result cause ends =
-      meaning result cause.0 cause.1
-      (clash_answer travel (report_text hash) hash text held written w later earlier later' result
-      cause.2 ends)
-  early_means early.ReadFault result cause ends = rw ends.0 ends.1
-  early_means early.NoMemory result cause ends = rw ends.0 ends.1
+  answers_mean (Done r) a =
+      (a.0, a.1, a.2.1.0, subst (λ (t : List ℕ). Appends held written t) a.2.1.1 a.2.2)
+  answers_mean (Refused e) a = a
+  answers_mean (Clash x y) a = a
+  answers_mean TooLong a = a
+  answers_mean WriteFault a = same_front held written a.0 _ (is_due a.0 a.1) a.2
+  answers_mean ReadFault a = a
+  answers_mean NoMemory a = a
+  answers_mean Usage a = a
 
 -- ---- reading and running
 

@@ -1,8 +1,7 @@
 -- What each answer of a program means that reads a script, runs it, and writes what it makes of the
 -- report.
-use Rattle.std.specs.Prelude.{ℕ, ◌+◌, ◌<◌, ◌≡◌, ◌≤◌, ◌⊎◌, Err, List, Ok, Option, length}
+use Rattle.std.specs.Prelude.{ℕ, ◌+◌, ◌<◌, ◌≡◌, ◌≤◌, Err, IfErr, IfOk, List, Ok, Option, Result, Some, length}
 use Rattle.std.specs.Io.KnownBytes.{Appends, IsAtEnd, Keeps}
-use Rattle.cw_base.specs.Causes.{Rose}
 use Rattle.cw_base.specs.declared.hash.Digest32.{Digest32}
 use Rattle.cw_rules.specs.declared.travel.Travel.{Travel}
 use Rattle.hail_script.specs.declared.error.RunError.{RunError}
@@ -12,6 +11,8 @@ use Rattle.hail_report.specs.declared.exit.Early.{Early}
 use Rattle.hail_report.specs.declared.exit.Early.TheVariants as early
 use Rattle.hail_report.specs.declared.exit.Exit.{Exit}
 use Rattle.hail_report.specs.declared.exit.Exit.TheVariants.{Clash, Done, NoMemory, ReadFault, Refused, TooLong, Usage, WriteFault}
+use Rattle.hail_report.specs.Exits.{EndsEarly, Finishes, HasReadFault}
+use Rattle.hail_world.specs.declared.frame.Made.{Made}
 use Rattle.hail_world.specs.declared.report.Ran.{Ran}
 use Rattle.hail_report.specs.Reading.{HasRead, script_limit}
 use Rattle.hail_world.specs.Reports.{Clashing, IsReport, IsRun}
@@ -78,3 +79,26 @@ module _ {X : Type 0} (travel : Travel) (hash : List ℕ → Digest32)
   AnswersBy text rest held written ReadFault = Keeps held written
   AnswersBy text rest held written NoMemory = Keeps held written
   AnswersBy text rest held written Usage = ⊥
+
+-- What a program made of a source's script, for what the source had left, if it tells its bytes, its
+-- rest, and its count of faults before and after.
+pub record IsMade {X : Type 0} (travel : Travel) (hash : List ℕ → Digest32)
+    (IsDone : List ℕ → X → List ℕ → Type 0) (left rest : Option (List ℕ)) (reads later_reads : ℕ)
+    (made : Result (Made X) Early) : Type 0 where
+  -- the source was read to its end, and this is made of the run of its text
+  pub done : (text : List ℕ) → left ≡ Some text
+      → IfOk made
+      (λ m. IsAtEnd rest × (length text ≤ script_limit) × IsDone text m.done m.text.items)
+  -- whether or not the source tells its bytes: of the run of some text
+  pub read : IfOk made (λ m. (text : List ℕ) × IsDone text m.done m.text.items)
+  pub early : (text : List ℕ) → left ≡ Some text
+      → IfErr made (λ e. HasNoReport travel hash text rest e)
+  pub fault : IfErr made (λ e. HasReadFault reads later_reads e)
+
+-- what was made was written and handed back, or the line of the cause was written, or a front of
+-- either
+pub record EndsMade {X : Type 0} (held written : Option (List ℕ)) (writes later_writes : ℕ)
+    (made : Result (Made X) Early) (exit : Exit X) : Type 0 where
+  pub done : IfOk made
+      (λ m. Finishes held written writes later_writes m.text.items (Done m.done) exit)
+  pub early : IfErr made (λ e. EndsEarly held written writes later_writes e exit)

@@ -1,17 +1,30 @@
-//! The frame of a program that reads a script and runs it.
+//! The frame of each program that reads a script, runs it, and writes what it makes of the run.
+//!
+//! A program asks its words, and ends with [`end_usage`] where they aren't its own. Else it runs its
+//! source's script by [`run_source`], makes of the run what it hands back and the text that it
+//! writes, or passes on why there is no report, and ends with [`end_made`]. Its own function between
+//! the two promises `IsMade` of what done means for it; from that and `EndsMade` the lemmas
+//! `made_answers` and `made_run` of `proofs/Framing.antt` give what each of its answers means.
 
-ghost use Rattle.std.specs.Prelude.{◌≡◌, List, ℕ, Some, IfOk, IfErr};
-ghost use Rattle.hail_report.specs.Exits.{HasReadFault};
-ghost use Rattle.hail_world.specs.Programs.{HasNoReport, WasRun};
+ghost use Rattle.std.specs.Prelude.{◌≡◌, ◌≢◌, List, ℕ, Some, IfOk, IfErr};
+ghost use Rattle.hail_report.specs.Exits.{HasFault, HasReadFault, IsSilent, UsageOf};
+ghost use Rattle.hail_world.specs.Programs.{EndsMade, HasNoReport, WasRun};
 ghost use Rattle.hail_world.specs.Reports.{IsRun};
 
 use crate::report::Ran;
 use crate::world::run_text;
-use cw_base::{Digest32, Hasher, Source, Strategy};
-use hail_report::{Early, Reading, early_of, read_script};
+use cw_base::{Digest32, Hasher, Sink, Source, Strategy};
+use hail_report::{Early, Exit, Reading, early_of, end_early, finish, read_script};
 use node::Way;
 use std::alloc::Global;
 use std::thread::Threads;
+
+/// What a program makes of a run: what it hands back, and the text that it writes.
+#[derive(Drop)]
+pub struct Made<X> {
+    pub done: X,
+    pub text: Vec<u8>,
+}
 
 /// Reads a script to its end and runs it. Of a source that gives more than 16,777,216 bytes one
 /// byte more than these is read.
@@ -50,4 +63,45 @@ pub fn run_source<H: Hasher<Digest = Digest32>, W: Way, R: Threads + Sync, I: So
         Reading::Fault => Err(Early::ReadFault),
         Reading::NoMemory => Err(Early::NoMemory),
     }
+}
+
+/// Writes what a program made of a script, or why there is no report, and ends so. All text was made
+/// before the first byte is written.
+pub fn end_made<X: Drop, O: Sink>(
+    alloc: Global,
+    output: &mut O,
+    made: Result<Made<X>, Early>,
+) -> Exit<X>
+    // The text, or the line of the cause, was written, or a front of it.
+    ensures ends { EndsMade (O.held output.old) (O.held output.new) (O.faults output.old)
+        (O.faults output.new) made result }
+
+    // The usage is none of the answers.
+    ensures not_usage { result ≢ Exit.Usage }
+
+    // A write fault is told only where the sink has failed in this call.
+    ensures fault { (reads later_reads : ℕ)
+        → IfErr made (λ early. HasReadFault reads later_reads early)
+        → HasFault reads later_reads (O.faults output.old) (O.faults output.new) result }
+
+    // Where the source failed, or memory is short, nothing is written.
+    ensures silent { IsSilent (O.held output.old) (O.held output.new) result }
+{
+    match made {
+        Ok(Made { done, text }) => finish(output, &text, Exit::Done(done)),
+        Err(early) => end_early(alloc, output, early),
+    }
+}
+
+/// Writes the line of a program's usage, and ends so.
+pub fn end_usage<X: Drop, O: Sink>(output: &mut O, line: &[u8]) -> Exit<X>
+    ensures usage { UsageOf line.now (O.held output.old) (O.held output.new) result }
+
+    // A write fault is told only where the sink has failed in this call.
+    ensures fault { (reads : ℕ)
+        → HasFault reads reads (O.faults output.old) (O.faults output.new) result }
+
+    ensures silent { IsSilent (O.held output.old) (O.held output.new) result }
+{
+    finish(output, line, Exit::Usage)
 }

@@ -19,7 +19,7 @@ mod turn;
 mod world;
 
 pub use cluster::Cluster;
-pub use frame::run_source;
+pub use frame::{Made, end_made, end_usage, run_source};
 pub use program::run_input;
 pub use report::{Ran, Report, report_text};
 pub use seat::{Seat, SeatNode};

@@ -1,15 +1,15 @@
 //! The program without words: from the bytes that come in to the bytes that go out.
 
 ghost use Rattle.std.specs.Prelude.{◌≡◌, List, ℕ, Some};
-ghost use Rattle.hail_world.specs.Headline as headline;
 ghost use Rattle.hail_world.specs.Headline.{IsRunOf, Means};
+ghost use Rattle.hail_world.specs.Programs.{IsMade};
 ghost use Rattle.hail_report.specs.Exits.{HasFault, HasRun, IsSilent};
 ghost use Rattle.hail_report.specs.Text as spec;
 
-use crate::frame::run_source;
-use crate::report::{Ran, Report, report_text};
-use cw_base::{Digest32, Hasher, Sink, Source, Strategy};
-use hail_report::{Exit, end_early, finish};
+use crate::frame::{Made, end_made, run_source};
+use crate::report::{Report, report_text};
+use cw_base::{Digest32, Hasher, NoMemory, Sink, Source, Strategy};
+use hail_report::{Early, Exit};
 use node::Way;
 use std::alloc::Global;
 use std::thread::Threads;
@@ -42,23 +42,29 @@ pub fn run_input<
     // tells its bytes.
     ensures silent { IsSilent (O.held output.old) (O.held output.new) result }
 {
-    match run_source::<H, W, R, I, S>(rt, alloc, input, strategy) {
-        Ok(Ran { script: _, report }) => end_with::<H, W, O>(alloc, output, report),
-        Err(early) => end_early(alloc, output, early),
-    }
+    let made = made_of_source::<H, W, R, I, S>(rt, alloc, input, strategy);
+    end_made(alloc, output, made)
 }
 
-// Writes the text of a report, and ends so.
-fn end_with<H: Hasher<Digest = Digest32>, W: Way, O: Sink>(
+// Reads a script, runs it, and makes the text of its report.
+fn made_of_source<H: Hasher<Digest = Digest32>, W: Way, R: Threads + Sync, I: Source, S: Strategy>(
+    rt: &R,
     alloc: Global,
-    output: &mut O,
-    report: Report<H, W>,
-) -> Exit<Report<H, W>>
-    ensures { headline.EndsWith (spec.report_text H.digest_of) (O.held output.old)
-        (O.held output.new) (O.faults output.old) (O.faults output.new) report result }
+    input: &mut I,
+    strategy: &S,
+) -> Result<Made<Report<H, W>>, Early>
+    ensures { IsMade W.travel H.digest_of
+        (IsRunOf W.travel (spec.report_text H.digest_of) H.digest_of) (I.left input.old)
+        (I.left input.new) (I.faults input.old) (I.faults input.new) result }
 {
-    match report_text::<H, W>(alloc, &report) {
-        Ok(text) => finish(output, &text, Exit::Done(report)),
-        Err(_) => Exit::NoMemory,
+    match run_source::<H, W, R, I, S>(rt, alloc, input, strategy) {
+        Ok(ran) => match report_text::<H, W>(alloc, &ran.report) {
+            Ok(text) => Ok(Made {
+                done: ran.report,
+                text,
+            }),
+            Err(NoMemory) => Err(Early::NoMemory),
+        },
+        Err(early) => Err(early),
     }
 }

@@ -1,5 +1,4 @@
 pub mod Reports
-pub mod Programs
 pub mod Headline
 pub mod Lanes
 pub mod Turns

@@ -3,7 +3,6 @@
 #![tactic(auto)]
 
 mod cursors;
-mod frame;
 mod lane_program;
 mod lanes;
 mod program;
@@ -12,7 +11,6 @@ mod text;
 mod turning;
 mod world;
 
-pub use frame::run_source;
 pub use hail_report::{
     Acked, Early, Entry, Exit, Sent, end_early, finish, opening_laws, storm_laws, storm_script,
     words_of,
@@ -21,4 +19,4 @@ pub use hail_script::{LaneScript, RunError, Script};
 pub use lane_program::lanes_program;
 pub use program::run_program;
 pub use text::report_text;
-pub use world::{Ran, Report, World};
+pub use world::{Report, World};

@@ -14,9 +14,6 @@ use std::thread::Threads;
 /// of their disks, their nodes as the run left them, none for a stopped one, and the chain.
 pub type Report<H> = hail_world::Report<H, Chunked>;
 
-/// A script that was run, and the report of its run.
-pub type Ran<H> = hail_world::Ran<H, Chunked>;
-
 /// A cluster of members.
 ///
 /// ```text

@@ -1,10 +1,10 @@
 //! The program: from the bytes that come in to the bytes that go out.
 
-ghost use Rattle.std.specs.Prelude.{◌≡◌, IfOk, List, None, Option, Some, map, string_bytes, ℕ};
+ghost use Rattle.std.specs.Prelude.{◌≡◌, IfOk, List, None, Some, map, string_bytes, ℕ};
 ghost use Rattle.cw_rules.specs.declared.travel.Travel.TheVariants as travel;
 ghost use Rattle.hail_world.specs.Reports.{shown_report};
 ghost use Rattle.hail_report.specs.Exits.{HasFault, HasRun, IsSilent, UsageOf};
-ghost use Rattle.hail_world.specs.Programs.{AnswersBy, WasRun};
+ghost use Rattle.hail_world.specs.Programs.{AnswersBy, IsMade};
 ghost use Rattle.run_archive.specs.Program as spec;
 ghost use Rattle.run_archive.specs.Program.{IsDone, usage_line};
 
@@ -12,9 +12,9 @@ use crate::filling::filled;
 use crate::text::archive_text;
 use cw_archive::Archive;
 use cw_base::{Digest32, Hasher, NoMemory, Sink, Source, Strategy};
-use hail_report::{Exit, end_early, finish};
+use hail_report::{Early, Exit};
 use hail_script::number_of;
-use hail_world::{Ran, Report, run_source};
+use hail_world::{Made, Ran, Report, end_made, end_usage, run_source};
 use node::Chunked;
 use std::alloc::Global;
 use std::thread::Threads;
@@ -66,10 +66,11 @@ pub fn archive_program<
     // tells its bytes.
     ensures silent { IsSilent (O.held output.old) (O.held output.new) result }
 {
-    match limit_of(words) {
-        Some(limit) => run_input(rt, alloc, limit, input, output, strategy),
-        None => finish(output, USAGE, Exit::Usage),
-    }
+    let Some(limit) = limit_of(words) else {
+        return end_usage(output, USAGE);
+    };
+    let made = made_of_source::<H, R, I, S>(rt, alloc, limit, input, strategy);
+    end_made(alloc, output, made)
 }
 
 // The limit, where the one word is a number.
@@ -82,91 +83,45 @@ fn limit_of(words: &[String]) -> Option<u64>
     }
 }
 
-// Reads a script, runs it, and writes what the archive gives back or why there is no report.
-fn run_input<H: Hasher<Digest = Digest32>, R: Threads + Sync, I: Source, O: Sink, S: Strategy>(
+// Reads a script, runs it, and fills an archive of that limit with what the run sent.
+fn made_of_source<H: Hasher<Digest = Digest32>, R: Threads + Sync, I: Source, S: Strategy>(
     rt: &R,
     alloc: Global,
     limit: u64,
     input: &mut I,
-    output: &mut O,
     strategy: &S,
-) -> Exit<(Report<H, Chunked>, Archive<H>)>
-    ensures answer { (text : List ℕ) → I.left input.old ≡ Some text
-        → AnswersBy travel.Chunked H.digest_of (IsDone H.digest_of limit) text (I.left input.new)
-        (O.held output.old) (O.held output.new) result }
-    ensures run { HasRun (IsDone H.digest_of limit) (O.held output.old) (O.held output.new)
-        result }
-    ensures fault { HasFault (I.faults input.old) (I.faults input.new)
-        (O.faults output.old) (O.faults output.new) result }
-    ensures silent { IsSilent (O.held output.old) (O.held output.new) result }
+) -> Result<Made<(Report<H, Chunked>, Archive<H>)>, Early>
+    ensures { IsMade travel.Chunked H.digest_of (IsDone H.digest_of limit) (I.left input.old)
+        (I.left input.new) (I.faults input.old) (I.faults input.new) result }
 {
     match run_source::<H, Chunked, R, I, S>(rt, alloc, input, strategy) {
-        Ok(ran) => write_run(rt, alloc, limit, ran, output, strategy),
-        Err(early) => end_early(alloc, output, early),
+        Ok(ran) => match archive_told::<H, R, S>(rt, alloc, limit, &ran, strategy) {
+            Ok((archive, text)) => Ok(Made {
+                done: (ran.report, archive),
+                text,
+            }),
+            Err(NoMemory) => Err(Early::NoMemory),
+        },
+        Err(early) => Err(early),
     }
 }
 
-// Fills an archive of that limit with what the run sent, and writes what it gives back.
-fn write_run<H: Hasher<Digest = Digest32>, R: Threads + Sync, O: Sink, S: Strategy>(
+// The archive that what a run sent fills, and the text of what it gives back of the run's chain.
+fn archive_told<H: Hasher<Digest = Digest32>, R: Threads + Sync, S: Strategy>(
     rt: &R,
     alloc: Global,
     limit: u64,
-    ran: Ran<H, Chunked>,
-    output: &mut O,
-    strategy: &S,
-) -> Exit<(Report<H, Chunked>, Archive<H>)>
-    ensures answer { (text : List ℕ) (rest : Option (List ℕ))
-        → WasRun travel.Chunked H.digest_of text rest ran
-        → AnswersBy travel.Chunked H.digest_of (IsDone H.digest_of limit) text rest
-        (O.held output.old) (O.held output.new) result }
-    ensures fault { (reads later : ℕ)
-        → HasFault reads later (O.faults output.old) (O.faults output.new) result }
-    ensures silent { IsSilent (O.held output.old) (O.held output.new) result }
-{
-    match filled::<H, R, S>(rt, alloc, limit, &ran.report, strategy) {
-        Ok(archive) => write_archive(rt, alloc, ran, archive, output, strategy),
-        Err(NoMemory) => Exit::NoMemory,
-    }
-}
-
-// Writes what the archive gives back.
-fn write_archive<H: Hasher<Digest = Digest32>, R: Threads + Sync, O: Sink, S: Strategy>(
-    rt: &R,
-    alloc: Global,
-    ran: Ran<H, Chunked>,
-    archive: Archive<H>,
-    output: &mut O,
-    strategy: &S,
-) -> Exit<(Report<H, Chunked>, Archive<H>)>
-    // whatever the limit for which what the run sent fills this archive
-    ensures answer { (limit : ℕ) (text : List ℕ) (rest : Option (List ℕ))
-        → archive ≡ spec.filled H.digest_of limit (shown_report ran.report)
-        → WasRun travel.Chunked H.digest_of text rest ran
-        → AnswersBy travel.Chunked H.digest_of (IsDone H.digest_of limit) text rest
-        (O.held output.old) (O.held output.new) result }
-    ensures fault { (reads later : ℕ)
-        → HasFault reads later (O.faults output.old) (O.faults output.new) result }
-    ensures silent { IsSilent (O.held output.old) (O.held output.new) result }
-{
-    match text_of(rt, alloc, &ran, &archive, strategy) {
-        Ok(text) => finish(output, &text, Exit::Done((ran.report, archive))),
-        Err(NoMemory) => Exit::NoMemory,
-    }
-}
-
-// The text of what the archive gives back of the run's chain.
-fn text_of<H: Hasher<Digest = Digest32>, R: Threads + Sync, S: Strategy>(
-    rt: &R,
-    alloc: Global,
     ran: &Ran<H, Chunked>,
-    archive: &Archive<H>,
     strategy: &S,
-) -> Result<Vec<u8>, NoMemory>
-    ensures { IfOk result (λ text. text.items
-        ≡ spec.archive_text H.digest_of ran.now.script.committees archive.now
-        ran.now.report.chain) }
+) -> Result<(Archive<H>, Vec<u8>), NoMemory>
+    ensures archive { IfOk result
+        (λ told. told.0 ≡ spec.filled H.digest_of limit (shown_report ran.now.report)) }
+    ensures text { IfOk result (λ told. told.1.items
+        ≡ spec.archive_text H.digest_of ran.now.script.committees told.0 ran.now.report.chain) }
 {
+    let archive = filled::<H, R, S>(rt, alloc, limit, &ran.report, strategy)?;
     let committees = ran.script.committees(alloc)?;
     let chain = ran.report.chain.as_slice();
-    archive_text::<H, R, S>(rt, alloc, &committees, archive, chain, strategy)
+    let text = archive_text::<H, R, S>(rt, alloc, &committees, &archive, chain, strategy)?;
+    Ok((archive, text))
 }

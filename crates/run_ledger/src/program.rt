@@ -1,21 +1,19 @@
 //! The program: from the bytes of a script to the balances of each honest member.
 
-ghost use Rattle.std.specs.Prelude.{◌≡◌, ◌≢◌, List, Option, Some, length, map, ℕ};
-ghost use Rattle.std.specs.List.{AllByRecursion};
+ghost use Rattle.std.specs.Prelude.{◌≡◌, ◌≢◌, IfOk, List, Some, length, ℕ};
 ghost use Rattle.cw_rules.specs.declared.travel.Travel.TheVariants as travel;
 ghost use Rattle.hail_report.specs.Exits.{HasFault, HasRun, IsSilent, UsageOf};
-ghost use Rattle.hail_world.specs.Programs.{AnswersBy, WasRun};
-ghost use Rattle.hail_world.specs.Reports.{shown_report};
-ghost use Rattle.run_ledger.specs.Giving.{payloads_of_all};
-ghost use Rattle.run_ledger.specs.Ledgers.{AreDone, NeverFails};
+ghost use Rattle.hail_world.specs.Programs.{AnswersBy, IsMade};
+ghost use Rattle.hail_world.specs.Reports.{IsReport};
+ghost use Rattle.run_ledger.specs.Ledgers.{AreDone};
 ghost use Rattle.run_ledger.specs.Text.{usage_line};
 
 use crate::giving::replicas_of;
 use crate::text::ledger_text;
 use cw_base::{Digest32, Hasher, Items, NoMemory, Sink, Source, Strategy};
 use cw_ledger::Replica;
-use hail_report::{Exit, end_early, finish};
-use hail_world::{Ran, Report, run_source};
+use hail_report::{Early, Exit};
+use hail_world::{Made, Report, end_made, end_usage, run_source};
 use node::Chunked;
 use node_disk::MemoryDisk;
 use std::alloc::Global;
@@ -67,74 +65,44 @@ pub fn ledger_program<
     // tells its bytes.
     ensures silent { IsSilent (O.held output.old) (O.held output.new) result }
 {
-    if words.is_empty() {
-        run_input(rt, alloc, input, output, strategy)
-    } else {
-        finish(output, USAGE, Exit::Usage)
+    if !words.is_empty() {
+        return end_usage(output, USAGE);
     }
+    let made = made_of_source::<H, R, I, S>(rt, alloc, input, strategy);
+    end_made(alloc, output, made)
 }
 
-// Reads a script, runs it, and writes what the replicas came to or why there is no report.
-fn run_input<H: Hasher<Digest = Digest32>, R: Threads + Sync, I: Source, O: Sink, S: Strategy>(
+// Reads a script, runs it, and gives the replicas their blocks.
+fn made_of_source<H: Hasher<Digest = Digest32>, R: Threads + Sync, I: Source, S: Strategy>(
     rt: &R,
     alloc: Global,
     input: &mut I,
-    output: &mut O,
     strategy: &S,
-) -> Exit<(Report<H, Chunked>, Items<Replica<MemoryDisk>>)>
-    ensures answer { (text : List ℕ) → I.left input.old ≡ Some text
-        → AnswersBy travel.Chunked H.digest_of (AreDone H.digest_of) text (I.left input.new)
-        (O.held output.old) (O.held output.new) result }
-    ensures run { HasRun (AreDone H.digest_of) (O.held output.old) (O.held output.new) result }
-    ensures fault { HasFault (I.faults input.old) (I.faults input.new) (O.faults output.old)
-        (O.faults output.new) result }
-    ensures silent { IsSilent (O.held output.old) (O.held output.new) result }
+) -> Result<Made<(Report<H, Chunked>, Items<Replica<MemoryDisk>>)>, Early>
+    ensures { IsMade travel.Chunked H.digest_of (AreDone H.digest_of) (I.left input.old)
+        (I.left input.new) (I.faults input.old) (I.faults input.new) result }
 {
     match run_source::<H, Chunked, R, I, S>(rt, alloc, input, strategy) {
-        Ok(ran) => write_run(alloc, ran, output),
-        Err(early) => end_early(alloc, output, early),
+        Ok(ran) => match replicas_told::<H>(alloc, &ran.report) {
+            Ok((replicas, text)) => Ok(Made {
+                done: (ran.report, replicas),
+                text,
+            }),
+            Err(NoMemory) => Err(Early::NoMemory),
+        },
+        Err(early) => Err(early),
     }
 }
 
-// Gives the replicas their blocks, and writes what they came to.
-fn write_run<H: Hasher<Digest = Digest32>, O: Sink>(
+// The replicas of a run, and the text of what they came to.
+fn replicas_told<H: Hasher<Digest = Digest32>>(
     alloc: Global,
-    ran: Ran<H, Chunked>,
-    output: &mut O,
-) -> Exit<(Report<H, Chunked>, Items<Replica<MemoryDisk>>)>
-    ensures answer { (text : List ℕ) (rest : Option (List ℕ))
-        → WasRun travel.Chunked H.digest_of text rest ran
-        → AnswersBy travel.Chunked H.digest_of (AreDone H.digest_of) text rest (O.held output.old)
-        (O.held output.new) result }
-    ensures fault { (reads later : ℕ)
-        → HasFault reads later (O.faults output.old) (O.faults output.new) result }
-    ensures silent { IsSilent (O.held output.old) (O.held output.new) result }
+    report: &Report<H, Chunked>,
+) -> Result<(Items<Replica<MemoryDisk>>, Vec<u8>), NoMemory>
+    ensures { (text : List ℕ) → IsReport travel.Chunked H.digest_of text report.now
+        → IfOk result (λ told. AreDone H.digest_of text (report.now, told.0) told.1.items) }
 {
-    match replicas_of::<H>(alloc, &ran.report) {
-        Ok(replicas) => write_replicas(alloc, ran, replicas, output),
-        Err(NoMemory) => Exit::NoMemory,
-    }
-}
-
-// Writes what the replicas of a run came to.
-fn write_replicas<H: Hasher<Digest = Digest32>, O: Sink>(
-    alloc: Global,
-    ran: Ran<H, Chunked>,
-    replicas: Items<Replica<MemoryDisk>>,
-    output: &mut O,
-) -> Exit<(Report<H, Chunked>, Items<Replica<MemoryDisk>>)>
-    requires given { map (λ r. r.payloads) replicas ≡ payloads_of_all (shown_report ran.report) }
-    requires works { AllByRecursion NeverFails replicas }
-    ensures answer { (text : List ℕ) (rest : Option (List ℕ))
-        → WasRun travel.Chunked H.digest_of text rest ran
-        → AnswersBy travel.Chunked H.digest_of (AreDone H.digest_of) text rest (O.held output.old)
-        (O.held output.new) result }
-    ensures fault { (reads later : ℕ)
-        → HasFault reads later (O.faults output.old) (O.faults output.new) result }
-    ensures silent { IsSilent (O.held output.old) (O.held output.new) result }
-{
-    match ledger_text(alloc, ran.report.acked.as_slice(), replicas.as_slice()) {
-        Ok(text) => finish(output, &text, Exit::Done((ran.report, replicas))),
-        Err(NoMemory) => Exit::NoMemory,
-    }
+    let replicas = replicas_of::<H>(alloc, report)?;
+    let text = ledger_text(alloc, report.acked.as_slice(), replicas.as_slice())?;
+    Ok((replicas, text))
 }

@@ -1,9 +1,9 @@
 //! The program: from the bytes of a script to the line of what is shown.
 
-ghost use Rattle.std.specs.Prelude.{◌≡◌, List, ℕ, None, Option, Some, IfOk, map, string_bytes};
+ghost use Rattle.std.specs.Prelude.{◌≡◌, List, ℕ, None, Some, IfOk, map, string_bytes};
 ghost use Rattle.cw_rules.specs.declared.travel.Travel.TheVariants as travel;
 ghost use Rattle.hail_report.specs.Exits.{HasFault, HasRun, IsSilent, UsageOf};
-ghost use Rattle.hail_world.specs.Programs.{AnswersBy, WasRun};
+ghost use Rattle.hail_world.specs.Programs.{AnswersBy, IsMade};
 ghost use Rattle.hail_world.specs.Reports.{IsRun};
 ghost use Rattle.run_light.specs.Telling.{IsToldRun, asked_height, TellsOf, usage_line};
 
@@ -12,9 +12,9 @@ use crate::table::Table;
 use crate::text::{none_text, yes_text};
 use crate::told::told_of;
 use cw_base::{Digest32, Hasher, NoMemory, Sink, Source, Strategy};
-use hail_report::{Exit, end_early, finish};
+use hail_report::{Early, Exit};
 use hail_script::{Script, number_of, script_laws};
-use hail_world::{Ran, Report, run_source};
+use hail_world::{Made, Ran, Report, end_made, end_usage, run_source};
 use node::Chunked;
 use std::alloc::Global;
 use std::thread::Threads;
@@ -69,10 +69,11 @@ pub fn light_program<
     // tells its bytes.
     ensures silent { IsSilent (O.held output.old) (O.held output.new) result }
 {
-    match height_of(words) {
-        None => finish(output, USAGE, Exit::Usage),
-        Some(height) => run_input(rt, alloc, height, input, output, strategy),
-    }
+    let Some(height) = height_of(words) else {
+        return end_usage(output, USAGE);
+    };
+    let made = made_of_source::<H, R, I, S>(rt, alloc, height, input, strategy);
+    end_made(alloc, output, made)
 }
 
 // The height that the words ask for.
@@ -85,53 +86,26 @@ fn height_of(words: &[String]) -> Option<u64>
     }
 }
 
-// Reads a script, runs it, and writes what is shown of a height or why there is no report.
-fn run_input<H: Hasher<Digest = Digest32>, R: Threads + Sync, I: Source, O: Sink, S: Strategy>(
+// Reads a script, runs it, and makes the line of what is shown of a height.
+fn made_of_source<H: Hasher<Digest = Digest32>, R: Threads + Sync, I: Source, S: Strategy>(
     rt: &R,
     alloc: Global,
     height: u64,
     input: &mut I,
-    output: &mut O,
     strategy: &S,
-) -> Exit<Report<H, Chunked>>
-    ensures answer { (text : List ℕ) → I.left input.old ≡ Some text
-        → AnswersBy travel.Chunked H.digest_of (IsToldRun H.digest_of height) text
-        (I.left input.new) (O.held output.old) (O.held output.new) result }
-    ensures run { HasRun (IsToldRun H.digest_of height) (O.held output.old) (O.held output.new)
-        result }
-    ensures fault { HasFault (I.faults input.old) (I.faults input.new)
-        (O.faults output.old) (O.faults output.new) result }
-    ensures silent { IsSilent (O.held output.old) (O.held output.new) result }
+) -> Result<Made<Report<H, Chunked>>, Early>
+    ensures { IsMade travel.Chunked H.digest_of (IsToldRun H.digest_of height) (I.left input.old)
+        (I.left input.new) (I.faults input.old) (I.faults input.new) result }
 {
     script_laws();
     match run_source::<H, Chunked, R, I, S>(rt, alloc, input, strategy) {
-        Ok(ran) => write_light(rt, alloc, height, ran, output, strategy),
-        Err(early) => end_early(alloc, output, early),
-    }
-}
-
-// Writes what a run shows of a height.
-fn write_light<H: Hasher<Digest = Digest32>, R: Threads + Sync, O: Sink, S: Strategy>(
-    rt: &R,
-    alloc: Global,
-    height: u64,
-    ran: Ran<H, Chunked>,
-    output: &mut O,
-    strategy: &S,
-) -> Exit<Report<H, Chunked>>
-    requires run { IsRun H.digest_of ran.script ran.report }
-    requires way { ran.script.travel ≡ travel.Chunked }
-    ensures answer { (text : List ℕ) (rest : Option (List ℕ))
-        → WasRun travel.Chunked H.digest_of text rest ran
-        → AnswersBy travel.Chunked H.digest_of (IsToldRun H.digest_of height) text rest
-        (O.held output.old) (O.held output.new) result }
-    ensures fault { (reads later : ℕ)
-        → HasFault reads later (O.faults output.old) (O.faults output.new) result }
-    ensures silent { IsSilent (O.held output.old) (O.held output.new) result }
-{
-    match light_text::<H, R, S>(rt, alloc, height, &ran.script, &ran.report, strategy) {
-        Ok(text) => finish(output, &text, Exit::Done(ran.report)),
-        Err(NoMemory) => Exit::NoMemory,
+        Ok(Ran { script, report }) => {
+            match light_text::<H, R, S>(rt, alloc, height, &script, &report, strategy) {
+                Ok(text) => Ok(Made { done: report, text }),
+                Err(NoMemory) => Err(Early::NoMemory),
+            }
+        }
+        Err(early) => Err(early),
     }
 }
 

@@ -5,7 +5,6 @@
 mod program;
 mod run;
 
-pub use hail_report::{Acked, Early, Entry, Exit, Sent};
 pub use hail_script::RunError;
 pub use program::whole_program;
 pub use run::{Report, whole_run};

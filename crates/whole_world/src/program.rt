@@ -9,8 +9,8 @@ ghost use Rattle.whole_world.specs.Usage.{whole_usage_line};
 
 use crate::run::Report;
 use cw_base::{Digest32, Hasher, Sink, Source, Strategy};
-use hail_report::{Exit, finish};
-use hail_world::run_input;
+use hail_report::Exit;
+use hail_world::{end_usage, run_input};
 use node::Uncut;
 use std::alloc::Global;
 use std::thread::Threads;
@@ -62,7 +62,7 @@ pub fn whole_program<
     ensures silent { IsSilent (O.held output.old) (O.held output.new) result }
 {
     if !words.is_empty() {
-        return finish(output, USAGE, Exit::Usage);
+        return end_usage(output, USAGE);
     }
     run_input::<H, Uncut, R, I, O, S>(rt, alloc, input, output, strategy)
 }

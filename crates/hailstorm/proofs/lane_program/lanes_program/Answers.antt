@@ -1,6 +1,5 @@
 use Rattle.cw_rules.specs.declared.travel.Travel.TheVariants as travel
 use Rattle.hail_report.specs.declared.exit.Early.TheVariants as early
-use Rattle.hail_world.proofs.Framing.{early_fault, early_silent}
 use Rattle.hailstorm.proofs.LanesMeaning.{fault_means, long_means, short_means, whole_fault, whole_read, whole_silent}
 use Rattle.hailstorm.specs.LanesProgram.{IsRunInLanes}
 use Rattle.hail_world.proofs.Meaning.{too_long_early}
@@ -50,3 +49,7 @@ returns-in-TooLong-clause-usage_only g c = λ is.
     (early_run (IsRunInLanes g.H.Hasher.digest_of) _ _ _ _ early.TooLong c.end_early.result
     c.end_early.ensures)
     is)
+
+pub returns-then-not-is_empty-clause-fault : goal.returns-then-not-is_empty-clause-fault
+returns-then-not-is_empty-clause-fault g c =
+    c.end_usage.ensures.fault (g.I.Source.faults c.args.input.now)
