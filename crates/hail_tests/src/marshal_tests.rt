@@ -1,7 +1,7 @@
 //! Tests of a store: its disk, the contracts of the harness, and the worked rows.
 
 mod answers;
-mod chains;
+mod blocks;
 mod store;
 mod tables;
 

@@ -1,6 +1,7 @@
 //! Tests of a member alone: what it answers to each event, by a table of votes that were signed,
 //! where blocks come in chunks and where they come whole.
 
+mod blocks;
 mod calls;
 mod copies;
 mod member;
@@ -19,6 +20,7 @@ use std::alloc::Global;
 use std::test::Fail;
 use std::thread::Threads;
 use tables::{FRONTS, MEMBERS};
+use tree::sent_for_rows;
 use whole_tables::{WHOLE_FRONTS, WHOLE_MEMBERS};
 
 #[test]
@@ -30,7 +32,7 @@ fn members_answer_by_the_tables(rt: HostRuntime) -> Result<(), Fail> {
             "{part}"
         );
     }
-    assert_eq!(rt; count_of(MEMBERS), 29);
+    assert_eq!(rt; count_of(MEMBERS), 28);
     Ok(())
 }
 
@@ -67,4 +69,11 @@ fn scene_and_task<'a>(part: &'a str) -> Result<(&'a str, (&'a str, &'a str)), Fa
     let (head, lines) = head_and_rest(table)?;
     let (scene, task) = two(head, ": ")?;
     Ok((scene, (task, lines)))
+}
+
+#[test]
+fn rows_that_are_no_codeword_are_no_block(rt: HostRuntime) -> Result<(), Fail> {
+    let told = sent_for_rows(&rt, rt.alloc(), &[0, 1, 2, 0])?;
+    assert_eq!(rt; told.as_str(), "1000, 0 notes");
+    Ok(())
 }

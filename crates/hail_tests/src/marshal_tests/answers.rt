@@ -1,7 +1,7 @@
 //! What a store answers to the calls of a table, as text. Blocks are named by their places in the
 //! table's list.
 
-use super::chains::{Chain, add_chain, add_chain_and_one, add_rivals, new_chain};
+use super::blocks::{Made, chain, chain_and_one, rivals};
 use super::store::Store;
 use crate::tables::{Call, call_and_answer, call_in, head_and_rest, two};
 use marshal::Identifier;
@@ -19,12 +19,9 @@ pub(crate) fn first_wrong<R: Threads + Sync>(
 ) -> Result<Option<(usize, String)>, Fail> {
     let (head, lines) = head_and_rest(table)?;
     let (backlog, list) = two(head, " ")?;
-    let mut chain = new_chain(alloc)?;
-    let wrong = match add_blocks(rt, alloc, &mut chain, list) {
-        Ok(()) => wrong_on_new(rt, alloc, backlog, &chain, lines),
-        Err(error) => Err(error),
-    };
-    drop(chain);
+    let blocks = blocks_of(rt, alloc, call_in(list)?)?;
+    let wrong = wrong_on_new(rt, alloc, backlog, &blocks, lines);
+    drop(blocks);
     wrong
 }
 
@@ -32,11 +29,11 @@ fn wrong_on_new<R: Threads + Sync>(
     rt: &R,
     alloc: Global,
     backlog: &str,
-    chain: &Chain,
+    blocks: &[Made],
     lines: &str,
 ) -> Result<Option<(usize, String)>, Fail> {
     let mut store = Store::new(alloc, backlog.parse::<u64>()?)?;
-    let wrong = play(rt, alloc, &mut store, chain, lines);
+    let wrong = play(rt, alloc, &mut store, blocks, lines);
     drop(store);
     wrong
 }
@@ -46,12 +43,12 @@ fn play<R: Threads + Sync>(
     rt: &R,
     alloc: Global,
     store: &mut Store,
-    chain: &Chain,
+    blocks: &[Made],
     lines: &str,
 ) -> Result<Option<(usize, String)>, Fail> {
     for (number, line) in lines.lines().enumerate() {
         let (call, want) = call_and_answer(line)?;
-        let said = answer(rt, alloc, store, chain, call)?;
+        let said = answer(rt, alloc, store, blocks, call)?;
         if said.as_str() != want {
             return Ok(Some((number, said)));
         }
@@ -59,19 +56,13 @@ fn play<R: Threads + Sync>(
     Ok(None)
 }
 
-// Adds the blocks that a table is about.
-fn add_blocks<R: Threads + Sync>(
-    rt: &R,
-    alloc: Global,
-    chain: &mut Chain,
-    list: &str,
-) -> Result<(), Fail> {
-    let list = call_in(list)?;
+// The blocks that a table is about.
+fn blocks_of<R: Threads + Sync>(rt: &R, alloc: Global, list: Call) -> Result<Vec<Made>, Fail> {
     let (first, last, _) = list.numbers;
     match list.name {
-        "chain" => add_chain(rt, alloc, chain, first, last),
-        "rivals" => add_rivals(rt, alloc, chain),
-        "behind" => add_chain_and_one(rt, alloc, chain, first, last),
+        "chain" => chain(rt, alloc, first, last),
+        "rivals" => rivals(rt, alloc),
+        "behind" => chain_and_one(rt, alloc, first, last),
         _ => Err("a list of blocks".into()),
     }
 }
@@ -93,41 +84,41 @@ fn answer<R: Threads + Sync>(
     rt: &R,
     alloc: Global,
     store: &mut Store,
-    chain: &Chain,
+    blocks: &[Made],
     call: Call,
 ) -> Result<String, Fail> {
     let (first, view, _) = call.numbers;
     let place = first as usize;
     match call.name {
         // Notes a block as verified: whether it did.
-        "verify" => told(alloc, store.verify(rt, chain, place)),
+        "verify" => told(alloc, store.verify(rt, blocks, place)),
         // Notes the blocks at 1 to a place as verified: how many of them it did.
-        "verify_to" => told(alloc, store.verify_to(rt, chain, place)),
+        "verify_to" => told(alloc, store.verify_to(rt, blocks, place)),
         // Notes a block as certified in a view: whether it did.
-        "certify" => told(alloc, store.certify(rt, chain, place, view)),
-        _ => reported(alloc, store, chain, call),
+        "certify" => told(alloc, store.certify(rt, blocks, place, view)),
+        _ => reported(alloc, store, blocks, call),
     }
 }
 
 // What a call answers that notes a certificate, or several.
-fn reported(alloc: Global, store: &mut Store, chain: &Chain, call: Call) -> Result<String, Fail> {
+fn reported(alloc: Global, store: &mut Store, blocks: &[Made], call: Call) -> Result<String, Fail> {
     let (first, view, _) = call.numbers;
     let place = first as usize;
     match call.name {
         // Notes the finalization of a block in a view: whether it did.
-        "report" => told(alloc, store.report(alloc, chain, place, view)),
+        "report" => told(alloc, store.report(alloc, blocks, place, view)),
         // Notes its notarization in a view: whether it did.
-        "notarize" => told(alloc, store.notarize(alloc, chain, place, view)),
+        "notarize" => told(alloc, store.notarize(alloc, blocks, place, view)),
         // Notes those of the blocks at 1 to a place, each in its block's view: how many it did.
-        "report_to" => told(alloc, store.report_to(alloc, chain, place)),
+        "report_to" => told(alloc, store.report_to(alloc, blocks, place)),
         // Asks for the floor of a block's finalization in a view: whether it stands at once.
-        "set_floor" => told(alloc, store.set_floor(alloc, chain, place, view)),
-        _ => passed(alloc, store, chain, call),
+        "set_floor" => told(alloc, store.set_floor(alloc, blocks, place, view)),
+        _ => passed(alloc, store, blocks, call),
     }
 }
 
 // What a call answers that moves what is held or handed out.
-fn passed(alloc: Global, store: &mut Store, chain: &Chain, call: Call) -> Result<String, Fail> {
+fn passed(alloc: Global, store: &mut Store, blocks: &[Made], call: Call) -> Result<String, Fail> {
     let (first, _, _) = call.numbers;
     match call.name {
         // Acknowledges the least pending height: which.
@@ -142,65 +133,65 @@ fn passed(alloc: Global, store: &mut Store, chain: &Chain, call: Call) -> Result
         "deliver" => told(alloc, store.deliver(alloc)),
         // The first and the last of them, and how many they are, each one above the other.
         "deliver_run" => told(alloc, store.deliver_run(alloc)),
-        _ => watched(alloc, store, chain, call),
+        _ => watched(alloc, store, blocks, call),
     }
 }
 
 // What a call answers about tickets.
-fn watched(alloc: Global, store: &mut Store, chain: &Chain, call: Call) -> Result<String, Fail> {
+fn watched(alloc: Global, store: &mut Store, blocks: &[Made], call: Call) -> Result<String, Fail> {
     let (first, _, _) = call.numbers;
     let place = first as usize;
     match call.name {
         // A ticket for the block of a digest.
-        "watch_digest" => told(alloc, store.watch_digest(chain, place)),
+        "watch_digest" => told(alloc, store.watch_digest(blocks, place)),
         // A ticket for the block under a commitment.
-        "watch_commitment" => told(alloc, store.watch_commitment(chain, place)),
+        "watch_commitment" => told(alloc, store.watch_commitment(blocks, place)),
         // Lets a ticket go: whether it waited.
         "cancel" => said(alloc, store.cancel(first)),
         // The tickets that are served, each with the place of its block.
-        "tickets" => told(alloc, store.take_tickets(alloc, chain)),
-        _ => found(alloc, store, chain, call),
+        "tickets" => told(alloc, store.take_tickets(alloc, blocks)),
+        _ => found(alloc, store, blocks, call),
     }
 }
 
 // What a call answers that looks for a block.
-fn found(alloc: Global, store: &Store, chain: &Chain, call: Call) -> Result<String, Fail> {
+fn found(alloc: Global, store: &Store, blocks: &[Made], call: Call) -> Result<String, Fail> {
     let (first, last, _) = call.numbers;
     let place = first as usize;
     match call.name {
         // The block that was verified last in a view.
-        "verified" => said(alloc, store.verified_in(chain, first)),
+        "verified" => told(alloc, store.verified_in(blocks, first)),
         // The height that was acknowledged last, or the floor, with its block.
-        "anchor" => said(alloc, store.anchor(chain)),
+        "anchor" => told(alloc, store.anchor(blocks)),
         // The block of the greatest finalized height.
-        "latest" => told(alloc, store.found(chain, Identifier::Latest)),
+        "latest" => told(alloc, store.found(blocks, Identifier::Latest)),
         // The block at a height.
-        "at" => told(alloc, store.found(chain, Identifier::Height(first))),
+        "at" => told(alloc, store.found(blocks, Identifier::Height(first))),
         // How many heights from one to another have a block.
         "count_at" => said(alloc, store.count_at(first, last)),
         // The block of the digest of a block of the list.
-        "of" => told(alloc, store.found_by_digest(chain, place)),
-        _ => known(alloc, store, chain, call),
+        "of" => told(alloc, store.found_by_digest(blocks, place)),
+        _ => known(alloc, store, blocks, call),
     }
 }
 
 // What a call answers that only reads.
-fn known(alloc: Global, store: &Store, chain: &Chain, call: Call) -> Result<String, Fail> {
+fn known(alloc: Global, store: &Store, blocks: &[Made], call: Call) -> Result<String, Fail> {
     let (first, _, _) = call.numbers;
     let place = first as usize;
     match call.name {
         // Whether a block is found by its commitment and by its digest.
-        "has" => told(alloc, store.has(chain, place)),
+        "has" => told(alloc, store.has(blocks, place)),
         // The blocks that are noted, each with the place of the first such note.
-        "places" => told(alloc, store.places(alloc, chain)),
+        "places" => told(alloc, store.places(alloc, blocks)),
         // How many of the blocks are at their heights.
-        "final" => said(alloc, store.count_final(chain)),
+        "final" => said(alloc, store.count_final(blocks)),
         // The view of the finalization of a height.
         "finalization" => said(alloc, store.finalized_in(first)),
         // The floor.
         "floor" => said(alloc, store.floor()),
         // The heights from a block down, as far as they are held.
-        "ancestry" => told(alloc, store.heights_down(alloc, chain, place)),
+        "ancestry" => told(alloc, store.heights_down(alloc, blocks, place)),
         _ => Err("a call of a store".into()),
     }
 }

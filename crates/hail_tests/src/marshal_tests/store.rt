@@ -4,13 +4,10 @@ ghost use Rattle.std.specs.Prelude.{◌≡◌, [], IfOk};
 ghost use Rattle.cw_types.specs.Values as values;
 ghost use Rattle.cw_types.specs.declared.note.Note.{Note};
 
-use super::chains::Chain;
-use crate::blocks::{Made, certificate};
+use super::blocks::{Made, at, named, place_among, place_of, proposal, signed, view_of};
 use crate::disks::crashed;
-use cw_base::{Digest32, Sequential, SumHasher};
-use cw_types::{
-    Cert, ChainBlock, Committees, Epoch, Handed, Height, Round, View, Vote, well_formed,
-};
+use cw_base::{Sequential, SumHasher};
+use cw_types::{Cert, Committees, Epoch, Handed, Height, Round, View, Vote, well_formed};
 use marshal::{Identifier, Marshal, MarshalError};
 use node_disk::MemoryDisk;
 use std::alloc::Global;
@@ -46,10 +43,10 @@ impl Store {
     pub(crate) fn verify<R: Threads + Sync>(
         &mut self,
         rt: &R,
-        chain: &Chain,
+        blocks: &[Made],
         place: usize,
     ) -> Result<bool, Fail> {
-        let block = &chain.block(place)?.block;
+        let block = &at(blocks, place)?.block;
         let context = block.context();
         let round = Round::new(Epoch::new(context.epoch), View::new(context.view));
         Ok(self.marshal.verified(rt, round, block, &Sequential)?)
@@ -59,12 +56,12 @@ impl Store {
     pub(crate) fn verify_to<R: Threads + Sync>(
         &mut self,
         rt: &R,
-        chain: &Chain,
+        blocks: &[Made],
         last: usize,
     ) -> Result<u64, Fail> {
         let mut count = 0u64;
         for place in 1..=last {
-            if self.verify(rt, chain, place)? {
+            if self.verify(rt, blocks, place)? {
                 count = count.saturating_add(1);
             }
         }
@@ -75,11 +72,11 @@ impl Store {
     pub(crate) fn certify<R: Threads + Sync>(
         &mut self,
         rt: &R,
-        chain: &Chain,
+        blocks: &[Made],
         place: usize,
         view: u64,
     ) -> Result<bool, Fail> {
-        let block = &chain.block(place)?.block;
+        let block = &at(blocks, place)?.block;
         let context = block.context();
         if view == u64::MAX || view < context.view || view <= context.parent_view {
             return Err("a view to certify in".into());
@@ -92,24 +89,24 @@ impl Store {
     pub(crate) fn report(
         &mut self,
         alloc: Global,
-        chain: &Chain,
+        blocks: &[Made],
         place: usize,
         view: u64,
     ) -> Result<bool, Fail> {
-        let vote = Vote::Finalize(chain.proposal(place, view)?);
-        self.note(&certificate(alloc, vote)?)
+        let vote = Vote::Finalize(proposal(blocks, place, view)?);
+        self.note(&signed(alloc, vote)?)
     }
 
     /// Notes the notarization of a block in a view.
     pub(crate) fn notarize(
         &mut self,
         alloc: Global,
-        chain: &Chain,
+        blocks: &[Made],
         place: usize,
         view: u64,
     ) -> Result<bool, Fail> {
-        let vote = Vote::Notarize(chain.proposal(place, view)?);
-        self.note(&certificate(alloc, vote)?)
+        let vote = Vote::Notarize(proposal(blocks, place, view)?);
+        self.note(&signed(alloc, vote)?)
     }
 
     // Notes a certificate.
@@ -125,13 +122,12 @@ impl Store {
     pub(crate) fn report_to(
         &mut self,
         alloc: Global,
-        chain: &Chain,
+        blocks: &[Made],
         last: usize,
     ) -> Result<u64, Fail> {
         let mut count = 0u64;
         for place in 1..=last {
-            let view = chain.block(place)?.block.context().view;
-            if self.report(alloc, chain, place, view)? {
+            if self.report(alloc, blocks, place, view_of(blocks, place))? {
                 count = count.saturating_add(1);
             }
         }
@@ -142,11 +138,11 @@ impl Store {
     pub(crate) fn set_floor(
         &mut self,
         alloc: Global,
-        chain: &Chain,
+        blocks: &[Made],
         place: usize,
         view: u64,
     ) -> Result<bool, Fail> {
-        let cert = certificate(alloc, Vote::Finalize(chain.proposal(place, view)?))?;
+        let cert = signed(alloc, Vote::Finalize(proposal(blocks, place, view)?))?;
         self.note_floor(&cert)
     }
 
@@ -197,14 +193,14 @@ impl Store {
     }
 
     /// A ticket for the block of a digest.
-    pub(crate) fn watch_digest(&mut self, chain: &Chain, place: usize) -> Result<u64, Fail> {
-        let digest = chain.block(place)?.commitment.block;
+    pub(crate) fn watch_digest(&mut self, blocks: &[Made], place: usize) -> Result<u64, Fail> {
+        let digest = at(blocks, place)?.commitment.block;
         Ok(self.marshal.subscribe_by_digest(digest)?)
     }
 
     /// A ticket for the block under a commitment.
-    pub(crate) fn watch_commitment(&mut self, chain: &Chain, place: usize) -> Result<u64, Fail> {
-        let commitment = chain.block(place)?.commitment;
+    pub(crate) fn watch_commitment(&mut self, blocks: &[Made], place: usize) -> Result<u64, Fail> {
+        let commitment = at(blocks, place)?.commitment;
         Ok(self.marshal.subscribe_by_commitment(commitment)?)
     }
 
@@ -217,37 +213,37 @@ impl Store {
     pub(crate) fn take_tickets(
         &mut self,
         alloc: Global,
-        chain: &Chain,
+        blocks: &[Made],
     ) -> Result<Vec<(u64, usize)>, Fail> {
         let mut served = Vec::new(alloc);
         for (ticket, commitment) in &self.marshal.take_tickets(alloc)? {
-            served.push((*ticket, chain.named(commitment)))?;
+            served.push((*ticket, named(blocks, commitment)?))?;
         }
         Ok(served)
     }
 
     /// The place of the block that was verified last in a view.
-    pub(crate) fn verified_in(&self, chain: &Chain, view: u64) -> Option<usize> {
+    pub(crate) fn verified_in(&self, blocks: &[Made], view: u64) -> Result<Option<usize>, Fail> {
         let round = Round::new(Epoch::new(0), View::new(view));
         match self.marshal.get_verified(round) {
-            Some(block) => Some(chain.place(block)),
-            None => None,
+            Some(block) => Ok(Some(place_among(blocks, block)?)),
+            None => Ok(None),
         }
     }
 
     /// The height that was acknowledged last, or the floor, with its block's place.
-    pub(crate) fn anchor(&self, chain: &Chain) -> Option<(u64, usize)> {
+    pub(crate) fn anchor(&self, blocks: &[Made]) -> Result<Option<(u64, usize)>, Fail> {
         match self.marshal.get_anchor() {
-            Some((height, block)) => Some((height.get(), chain.place(block))),
-            None => None,
+            Some((height, block)) => Ok(Some((height.get(), place_among(blocks, block)?))),
+            None => Ok(None),
         }
     }
 
     /// The place of the block that is found, by its height, its digest and itself.
-    pub(crate) fn found(&self, chain: &Chain, id: Identifier) -> Result<Option<usize>, Fail> {
+    pub(crate) fn found(&self, blocks: &[Made], id: Identifier) -> Result<Option<usize>, Fail> {
         match (self.marshal.get_info(id), self.marshal.get_block(id)) {
             (None, None) => Ok(None),
-            (Some(info), Some(block)) => Ok(Some(place_of(chain, info, block)?)),
+            (Some(info), Some(block)) => Ok(Some(place_of(blocks, info, block)?)),
             _ => Err("a block with its height, or neither".into()),
         }
     }
@@ -255,11 +251,11 @@ impl Store {
     /// The same of the digest of a block of the list.
     pub(crate) fn found_by_digest(
         &self,
-        chain: &Chain,
+        blocks: &[Made],
         place: usize,
     ) -> Result<Option<usize>, Fail> {
-        let digest = chain.block(place)?.commitment.block;
-        self.found(chain, Identifier::Digest(digest))
+        let digest = at(blocks, place)?.commitment.block;
+        self.found(blocks, Identifier::Digest(digest))
     }
 
     /// How many heights from one to another have a block.
@@ -274,10 +270,10 @@ impl Store {
     }
 
     /// The blocks that are noted, each with the place of the first such note.
-    pub(crate) fn places(&self, alloc: Global, chain: &Chain) -> Result<Vec<(usize, u64)>, Fail> {
+    pub(crate) fn places(&self, alloc: Global, blocks: &[Made]) -> Result<Vec<(usize, u64)>, Fail> {
         let mut places = Vec::new(alloc);
         for (commitment, place) in self.marshal.places() {
-            places.push((chain.named(commitment), *place))?;
+            places.push((named(blocks, commitment)?, *place))?;
         }
         Ok(places)
     }
@@ -307,8 +303,8 @@ impl Store {
     }
 
     /// Whether the block is found under its commitment and, as the first of it, by its digest.
-    pub(crate) fn has(&self, chain: &Chain, place: usize) -> Result<bool, Fail> {
-        let made = chain.block(place)?;
+    pub(crate) fn has(&self, blocks: &[Made], place: usize) -> Result<bool, Fail> {
+        let made = at(blocks, place)?;
         Ok(
             self.is_found(made, Identifier::Commitment(made.commitment))
                 && self.is_found(made, Identifier::Digest(made.commitment.block)),
@@ -323,12 +319,8 @@ impl Store {
     }
 
     /// How many of the blocks are at their heights.
-    pub(crate) fn count_final(&self, chain: &Chain) -> usize {
-        chain
-            .blocks()
-            .iter()
-            .filter(|made| self.is_final(made))
-            .count()
+    pub(crate) fn count_final(&self, blocks: &[Made]) -> usize {
+        blocks.iter().filter(|made| self.is_final(made)).count()
     }
 
     // Whether the block is at its height, with its digest, and has a finalization there.
@@ -345,25 +337,15 @@ impl Store {
     pub(crate) fn heights_down(
         &self,
         alloc: Global,
-        chain: &Chain,
+        blocks: &[Made],
         place: usize,
     ) -> Result<Vec<u64>, Fail> {
         let mut heights = Vec::new(alloc);
-        for block in self.marshal.ancestry(&chain.block(place)?.commitment) {
+        for block in self.marshal.ancestry(&at(blocks, place)?.commitment) {
             heights.push(block.height())?;
         }
         Ok(heights)
     }
-}
-
-// The place of a block that is told with its height and its digest.
-fn place_of(chain: &Chain, info: (Height, Digest32), block: &ChainBlock) -> Result<usize, Fail> {
-    let place = chain.place(block);
-    let made = chain.block(place)?;
-    if info != (Height::new(made.block.height()), made.commitment.block) {
-        return Err("the height and the digest of the block".into());
-    }
-    Ok(place)
 }
 
 // The heights that are handed out.

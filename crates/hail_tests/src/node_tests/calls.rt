@@ -1,7 +1,7 @@
 //! The calls of a table, and the events of a member that they spell. Blocks are named by their
 //! places in the scene's list.
 
-use crate::blocks::{Made, Scene, certificate};
+use super::blocks::{Made, Scene, certificate};
 use crate::tables::Call;
 use cw_types::{Event, Message, Vote};
 use node::Way;

@@ -1,8 +1,8 @@
 //! Copies of all that a member takes, notes and gives.
 
+use super::blocks::Scene;
 use super::calls::event_of;
 use super::member::Member;
-use crate::blocks::Scene;
 use crate::tables::{Call, call_and_answer};
 use cw_types::{ChainBlock, Event, Message, Note, StepOut};
 use node::Way;

@@ -1,8 +1,8 @@
 //! A member alone, over a disk in memory, and what it answers, as text.
 
+use super::blocks::Scene;
 use super::calls::event_of;
 use super::said::text_of;
-use crate::blocks::Scene;
 use crate::disks::{Started, crashed, start};
 use crate::tables::Call;
 use cw_base::{Sequential, SumHasher};

@@ -4,9 +4,9 @@
 //! three numbers: which member it is given to, which of the fronts the member plays before, and how
 //! many lines of that. Each further line is a call with its answer, or what the task tells.
 
+use super::blocks::Scene;
 use super::copies::first_uncopied;
 use super::member::Member;
-use crate::blocks::Scene;
 use crate::tables::{Call, call_and_answer, call_in, two};
 use node::Way;
 use std::alloc::Global;

@@ -1,7 +1,7 @@
 //! What a step gives, as text: what is sent, handed out and served, in order. Blocks are named by
 //! their places in the scene's list.
 
-use crate::blocks::Scene;
+use super::blocks::Scene;
 use cw_base::Digest32;
 use cw_coding::Chunk;
 use cw_types::{Cert, Commitment, Handed, Message, Out, Proposal, StepOut, TicketOut, To, Vote};

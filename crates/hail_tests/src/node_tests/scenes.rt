@@ -1,7 +1,6 @@
-//! Clusters with blocks, one over the other, or with chunks of no block.
+//! Clusters with two blocks, one over the other.
 
-use super::tree::no_codeword;
-use crate::blocks::Scene;
+use super::blocks::Scene;
 use cw_base::SumHasher;
 use cw_types::{Committees, genesis_commitment};
 use node::{Chunked, Uncut, Way};
@@ -19,7 +18,6 @@ pub(crate) fn chunked_scene<R: Threads + Sync>(
         "one epoch" => of_one_epoch(rt, alloc),
         "short epochs" => short_epochs(rt, alloc),
         "two epochs" => two_epochs(rt, alloc),
-        "no codeword" => of_no_codeword(alloc),
         _ => Err("a scene".into()),
     }
 }
@@ -55,7 +53,7 @@ fn add_as_genesis<R: Threads + Sync>(
     alloc: Global,
     scene: &mut Scene<Uncut>,
 ) -> Result<(), Fail> {
-    scene.add(rt, alloc, 0, 1, (0, 62, 2), &[190])?;
+    scene.add(rt, alloc, 0, (0, 62, 2), &[190])?;
     if scene.block(1)?.commitment != genesis_commitment::<SumHasher>() {
         return Err("the commitment of the first block".into());
     }
@@ -78,17 +76,6 @@ fn two_epochs<R: Threads + Sync>(rt: &R, alloc: Global) -> Result<Scene<Chunked>
     of_two_blocks(rt, alloc, Committees::new(alloc, 5, 1, &lists)?, (1, 1, 2))
 }
 
-// Four members in one committee, and chunks of no block.
-fn of_no_codeword(alloc: Global) -> Result<Scene<Chunked>, Fail> {
-    let mut scene = Scene::new(alloc, Committees::single(alloc, 4)?)?;
-    let added = add_no_codeword(alloc, &mut scene);
-    with_added(scene, added)
-}
-
-fn add_no_codeword(alloc: Global, scene: &mut Scene<Chunked>) -> Result<(), Fail> {
-    scene.push(no_codeword(alloc)?)
-}
-
 fn of_two_blocks<W: Way, R: Threads + Sync>(
     rt: &R,
     alloc: Global,
@@ -106,8 +93,8 @@ fn add_two<W: Way, R: Threads + Sync>(
     scene: &mut Scene<W>,
     second: (u64, u64, u16),
 ) -> Result<(), Fail> {
-    scene.add(rt, alloc, 0, 1, (0, 1, 1), &[0x68, 0x69])?;
-    scene.add(rt, alloc, 1, 2, second, &[0x62])
+    scene.add(rt, alloc, 0, (0, 1, 1), &[0x68, 0x69])?;
+    scene.add(rt, alloc, 1, second, &[0x62])
 }
 
 // The scene to which blocks were added.

@@ -104,13 +104,6 @@ ask 3 0:
 block 1:
 notes: 2
 ask 3 1: 3 block 1
-== rows that are no codeword are no block
-no codeword: play 0 0 0
-shard 1 0: all shard 0 of 1
-shard 1 1:
-shard 1 2:
-shard 1 0:
-notes: 0
 == tickets are served once
 one epoch: play 0 0 0
 watch_digest 0: ticket 0; ticket 0 has 0
