@@ -29,7 +29,11 @@ fn asked_alone(word: &[u8], member: &[u8]) -> Option<(u64, RawAsk)>
     asking(number_of(member), Some(RawAsk::Ack))
 }
 
-fn proposing(alloc: Global, member: &[u8], payload: &[u8]) -> Result<Option<(u64, RawAsk)>, NoMemory>
+fn proposing(
+    alloc: Global,
+    member: &[u8],
+    payload: &[u8],
+) -> Result<Option<(u64, RawAsk)>, NoMemory>
     ensures { IfOk result
         (λ asked. option_map raw_asked_of asked ≡ lines.asking (number member.now)
         (option_map rule.Propose (bytes_in payload.now))) }

@@ -67,11 +67,7 @@ pub(crate) fn first_oversize(first: u64, events: &[RawLine]) -> Option<u64>
 }
 
 /// For each member, whether some line makes it faulty.
-pub(crate) fn marks_of(
-    alloc: Global,
-    total: u16,
-    events: &[RawLine],
-) -> Result<Vec<bool>, NoMemory>
+pub(crate) fn marks_of(alloc: Global, total: u16, events: &[RawLine]) -> Result<Vec<bool>, NoMemory>
     ensures { IfOk result
         (λ marks. marks.items ≡ grammar.marks (map raw_line_of events.now) total) }
 {

@@ -275,7 +275,8 @@ turn_is r w number e ps p out o pool entry honest there members makes gives send
         (λ (f : Option ℕ). entry_with number (rule.line_member e) f
         (sent_from (length w.pool) (rule.line_member e) done.sent) done.handed)
         (found_is w e p done makes.0) in
-        let kept = members_set ps w.members (rule.line_member e) p (Some done.member) members makes.0 in
+        let kept =
+        members_set ps w.members (rule.line_member e) p (Some done.member) members makes.0 in
         let sent =
         sends
         ∙ ap

@@ -95,8 +95,15 @@ fn play_fault<H: Hasher<Digest = Digest32>, R: Threads + Sync, S: Strategy>(
         }) }
 {
     let script = setting.script;
-    let outs =
-        fault::fault_sends::<H, R, S>(rt, alloc, script, setting.pool, member, fault, strategy)?;
+    let outs = fault::fault_sends::<H, R, S>(
+        rt,
+        alloc,
+        script,
+        setting.pool,
+        member,
+        fault,
+        strategy,
+    )?;
     enter_sent(alloc, setting.pool, setting.number, member, outs)
 }
 

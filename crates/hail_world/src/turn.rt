@@ -351,9 +351,7 @@ pub(crate) fn take_turn<H: Hasher<Digest = Digest32>, W: Way, R: Threads + Sync,
 {
     match setting.line.kind() {
         LineKind::Do(_, ask) => asked(rt, alloc, setting, id, place, ask, strategy),
-        LineKind::Cut(stop, _, ask) => {
-            cut(rt, alloc, setting, id, place, *stop, ask, strategy)
-        }
+        LineKind::Cut(stop, _, ask) => { cut(rt, alloc, setting, id, place, *stop, ask, strategy) }
         LineKind::Restart(_) => restarted(rt, alloc, setting, id, place, strategy),
         LineKind::Faulty(..) => Ok((place, None)),
     }

@@ -19,7 +19,7 @@ pub struct Step<'a> {
 }
 
 impl<'a> Model for Step<'a> {
-        ghost use Rattle.run_picture.specs.Steps.{Step};
+    ghost use Rattle.run_picture.specs.Steps.{Step};
 
     ghost Value = { Step };
 

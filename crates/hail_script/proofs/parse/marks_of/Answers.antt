@@ -14,6 +14,7 @@ loop-event-preserved c =
     let event = c.event-item.result in
     let more =
     map_more raw_line_of c.args.events.now c.loop-event.event-index event c.loop-event-test.true in
-    c.mark.ensures ∙ ap (λ (l : List Bool). admission.marked l (raw_line_of event)) c.loop-event.invariant
+    c.mark.ensures
+    ∙ ap (λ (l : List Bool). admission.marked l (raw_line_of event)) c.loop-event.invariant
     ∙ marks_more before total (raw_line_of event)
     ∙ sym (ap (λ (l : List Line). grammar.marks l total) (rw (← c.event-item.is) at more))

@@ -1,4 +1,4 @@
-use Rattle.std.proofs.Common.{◌≡◌, ◌++◌, ap, subst}
+use Rattle.std.proofs.Common.{◌≡◌, ◌++◌, ◌∙◌, refl, ap, subst}
 use Rattle.cw_rules.specs.Report.{Entry}
 use Rattle.cw_rules.specs.World.{Line, Faulty}
 use Rattle.hail_script.specs.Events.{line_of}

@@ -15,12 +15,15 @@ use Rattle.hail_world.proofs.cluster.Cluster.turn.Goals as goal
 pub invariant_of-setting : goal.invariant_of-setting
 invariant_of-setting g c =
     let i = c.self.inside in
-    known_at i.script c.args.at c.index-lines-at.result c.lines.ensures.runnable
-    (line_lent c.lines.result.now i.script.lines c.args.at c.index-lines-at.result
+    let at =
+    line_lent c.lines.result.now i.script.lines c.args.at c.index-lines-at.result
     c.lines.ensures.value
     (below_inside g.H.Hasher.digest_of i.script i.turns.items i.over c.args.self.now
     c.self.view_is c.args.at c.requires.there)
-    c.index-lines-at.is)
+    c.index-lines-at.is in
+    record {
+      known = known_at i.script c.args.at c.index-lines-at.result c.lines.ensures.runnable at;
+    }
 
 pub turn_line-requires-clause-count : goal.turn_line-requires-clause-count
 turn_line-requires-clause-count g c κs within =
