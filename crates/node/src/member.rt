@@ -38,7 +38,7 @@ pub type NodeError = StoreError;
 /// let started = Node::start(self.rt, self.alloc, id, all, 3, disk, Rising, &Sequential);
 /// let (member, out) = started.map_err(|(_disk, error)| error)?;
 /// // once it answers, the notes of the step lie on the disk
-/// let out = member.step(self.rt, self.alloc, &event, signed, &Sequential)?;
+/// let out = member.step(self.rt, self.alloc, event, signed, &Sequential)?;
 /// ```
 #[derive(Drop)]
 pub struct Member<H: Hasher<Digest = Digest32>, D: Disk, A: Application + Drop, W: Way> {
