@@ -1,6 +1,6 @@
 -- Rows in groups: a chunk of rows that stand end to end holds whole rows, and groups of rows that
 -- are right make all rows right.
-use Rattle.std.proofs.Common.{◌≡◌, ℕ, suc, ◌+◌, ◌-◌, ◌*◌, ◌/◌, ◌%◌, ◌<◌, ◌≤◌, min, List, length, get_or, sym, ap, ap₂, ◌∙◌, arith, ⊎_elim, div-add-mod', mod-lt, mul-le-mul_right}
+use Rattle.std.proofs.Common.{◌≡◌, ℕ, ◌+◌, ◌-◌, ◌*◌, ◌/◌, ◌%◌, ◌<◌, ◌≤◌, min, List, length, get_or, sym, ap, ap₂, ◌∙◌, arith, ⊎_elim, div-add-mod', mod-lt, mul-le-mul_right}
 use Rattle.std.proofs.Math.Nat.{mul_assoc, mul-div_cancel, mul-mod_left}
 use Rattle.std.proofs.lemmas.Bool.{cases_lt}
 use Rattle.std.specs.Fork.{IsChunk}
@@ -15,14 +15,6 @@ fewer a b width h =
     (let whole : b * width ≤ a * width = mul-le-mul_right width more in
     absurd (omega (arith, h, whole))))
     (cases_lt a b)
-
-fewer_or_same : (a b width : ℕ) → 0 < width → a * width ≤ b * width → a ≤ b
-fewer_or_same a b width some h =
-    ⊎_elim
-    (λ more.
-    (let whole : suc b * width ≤ a * width = mul-le-mul_right width more in
-    absurd (omega (arith, h, whole, some))))
-    (λ less. less) (cases_lt b a)
 
 -- the smaller number of rows has the smaller number of bytes
 smaller : (a b width : ℕ) → min (a * width) (b * width) ≡ min a b * width
