@@ -1,6 +1,6 @@
 -- Rows in groups: a chunk of rows that stand end to end holds whole rows, and groups of rows that
 -- are right make all rows right.
-use Rattle.std.proofs.Common.{◌≡◌, ℕ, suc, ◌+◌, ◌-◌, ◌*◌, ◌/◌, ◌%◌, ◌<◌, ◌≤◌, min, List, length, get_or, sym, ap, ap₂, ◌∙◌, arith, ⊎_elim, div-add-mod', mod-lt, mul-le-mul_right}
+use Rattle.std.proofs.Common.{◌≡◌, ℕ, ◌+◌, ◌-◌, ◌*◌, ◌/◌, ◌%◌, ◌<◌, ◌≤◌, min, List, length, get_or, sym, ap, ap₂, ◌∙◌, arith, ⊎_elim, div-add-mod', mod-lt, mul-le-mul_right}
 use Rattle.std.proofs.Math.Nat.{mul_assoc, mul-div_cancel, mul-mod_left}
 use Rattle.std.proofs.lemmas.Bool.{cases_lt}
 use Rattle.std.specs.Fork.{IsChunk}

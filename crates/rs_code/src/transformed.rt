@@ -13,8 +13,8 @@ use crate::subspaces::{STEPS, scales};
 use crate::transform::{forward, inverse, size};
 use std::alloc::{AllocError, Global};
 
-// How many coefficients are worked on at once: with their values they stay in the caches near the
-// processor.
+// How many coefficients are worked on at once. A factor's tables are made anew for each piece of the
+// columns; the steps go by halves, so most of them stay in the caches near the processor.
 const SYMBOLS: usize = 1048576;
 
 // For how many originals and recoveries rows are made, the exponent of the least power of two that
