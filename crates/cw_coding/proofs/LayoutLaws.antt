@@ -126,12 +126,6 @@ row_is rows part i w h = let e : i * w + w - i * w ≡ w = omega arith in rw e a
 pub whole_rows : (n w : ℕ) → 0 < w → n * w / w ≡ n
 whole_rows n w some = mul-div_cancel n some
 
-pub row_count : {D : Type 0} (hash : List ℕ → D) (n w : ℕ) (rows : List ℕ) → 0 < w
-    → length rows ≡ n * w → length (row_hashes hash w rows) ≡ n
-unfolding row_hashes
-row_count hash n w rows some long =
-    length-listed (length rows / w) _ ∙ ap (λ (x : ℕ). x / w) long ∙ whole_rows n w some
-
 -- what the rows of a text hash to
 pub text_hashes : {D : Type 0} (hash : List ℕ → D) (k m : ℕ) (text rows : List ℕ) (width : ℕ)
     → 1 ≤ k →

@@ -1,8 +1,10 @@
-ghost use Rattle.std.specs.Prelude.{[], ◌≡◌, ◌<◌, ◌∷◌, ◌-◌, ◌^◌, IfOk};
+ghost use Rattle.std.specs.Prelude.{◌≡◌, ◌<◌, ◌-◌, ◌^◌, IfOk, IsTrue, OnOk};
 ghost use Rattle.cw_types.specs.Epochs.{single};
 ghost use Rattle.cw_types.specs.declared.vote.Vote.TheVariants.{Nullify};
 ghost use Rattle.note_scans.specs.Countable.{is_countable};
+ghost use Rattle.voter.specs.Standing.{are_signers};
 
+use crate::tables::case_in;
 use cw_base::{Config, Digest32, Items, SumHasher};
 use cw_types::{
     Cert, ChainBlock, Commitment, Committees, Context, Note, Payload, Proposal, Vote,
@@ -30,12 +32,15 @@ fn take_vote(tally: &mut Tally<SumHasher>, signer: u16, vote: &Vote) -> Result<b
     Ok(tally.take_vote(signer, vote)?)
 }
 
-// members 1, 2 and 3 of a cluster of four nullified view 1
-fn take_cert(tally: &mut Tally<SumHasher>, cert: &Cert) -> Result<bool, Fail>
+// a certificate of these members of a cluster of four, that they nullified view 1; true exactly
+// where it wasn't there
+fn take_cert(alloc: Global, tally: &mut Tally<SumHasher>, signers: &[u16]) -> Result<bool, Fail>
     requires four { tally.old.epochs ≡ single 4 }
-    requires signed { cert.now ≡ record { vote = Nullify 0 1; signers = 1 ∷ 2 ∷ 3 ∷ [] } }
+    requires signed { IsTrue (are_signers (single 4) (Nullify 0 1) signers.now) }
+    ensures { OnOk result (tally.new.epochs ≡ single 4) }
 {
-    Ok(tally.take_cert(cert)?)
+    let fresh = tally.take_cert(&cert(alloc, NULLIFY, signers)?)?;
+    Ok(fresh)
 }
 
 // whether the votes of a note, and its proposals, may be counted
@@ -158,7 +163,7 @@ fn the_signers_of_a_vote_are_the_members_that_are_known(rt: HostRuntime) -> Resu
 // a certificate came, and then three votes of the same
 fn with_certificate(alloc: Global) -> Result<Tally<SumHasher>, Fail> {
     let mut tally = tally(alloc, 0)?;
-    take_cert(&mut tally, &cert(alloc, NULLIFY, &[1, 2, 3])?)?;
+    take_cert(alloc, &mut tally, &[1, 2, 3])?;
     with_votes(tally, &[0, 1, 2])
 }
 
@@ -166,6 +171,66 @@ fn with_certificate(alloc: Global) -> Result<Tally<SumHasher>, Fail> {
 fn is_kept(alloc: Global) -> Result<bool, Fail> {
     let mut tally = with_certificate(alloc)?;
     Ok(has_signers(alloc, &tally, &[1, 2, 3])? && !take_vote(&mut tally, 1, &NULLIFY)?)
+}
+
+// the certificate of this number
+fn take_numbered(alloc: Global, tally: &mut Tally<SumHasher>, number: u8) -> Result<bool, Fail>
+    requires { tally.old.epochs ≡ single 4 }
+    ensures { OnOk result (tally.new.epochs ≡ single 4) }
+{
+    match number {
+        0 => take_cert(alloc, tally, &[1, 2, 3]),
+        1 => take_cert(alloc, tally, &[0, 1, 2]),
+        2 => take_cert(alloc, tally, &[0, 1, 3]),
+        3 => take_cert(alloc, tally, &[0, 2, 3]),
+        _ => take_cert(alloc, tally, &[0, 1, 2, 3]),
+    }
+}
+
+// which of the certificates of these numbers were not there, and the signers of the one that is
+// owed then
+fn told_of(alloc: Global, numbers: &[u8]) -> Result<String, Fail> {
+    let mut tally = tally(alloc, 0)?;
+    let mut fresh = Vec::new(alloc);
+    for number in numbers {
+        fresh.push(take_numbered(alloc, &mut tally, *number)?)?;
+    }
+    match tally.owed_cert(alloc)? {
+        Some(cert) => {
+            let signers = cert.signers.as_slice();
+            Ok(format!(in alloc; "{:?} {signers:?}", fresh.as_slice())?)
+        }
+        None => Err("a certificate that is owed".into()),
+    }
+}
+
+// Certificates of one vote, by number, of which the first is owed.
+const CERTIFICATES: &str = "\
+one: 0: [true] [1, 2, 3]
+the same again: 0 0: [true, false] [1, 2, 3]
+other signers: 1 0 2: [true, true, true] [0, 1, 2]
+others between: 0 1 0 2 1: [true, true, false, true, false] [1, 2, 3]
+all that there are: 4 3 2 1 0: [true, true, true, true, true] [0, 1, 2, 3]
+all, and all again: 2 0 4 1 3 3 1 4 0 2: \
+[true, true, true, true, true, false, false, false, false, false] [0, 1, 3]
+";
+
+// whether that is told of a line of the table
+fn is_told_of(alloc: Global, line: &str) -> Result<bool, Fail> {
+    let case = case_in(alloc, line)?;
+    let told = told_of(alloc, &case.bytes)?;
+    Ok(told.as_str() == case.want)
+}
+
+#[test]
+fn certificates_of_one_vote_are_told_apart_by_their_signers(rt: HostRuntime) -> Result<(), Fail> {
+    let mut count = 0u8;
+    for line in CERTIFICATES.lines() {
+        assert!(rt; is_told_of(rt.alloc(), line)?, "{line}");
+        count = count.wrapping_add(1);
+    }
+    assert_eq!(rt; count, 6);
+    Ok(())
 }
 
 #[test]
@@ -280,6 +345,77 @@ fn third_view(alloc: Global) -> Result<([bool; 2], [bool; 2], u64, [bool; 2]), F
 fn a_parent_is_settled_and_followed_by_nullified_views(rt: HostRuntime) -> Result<(), Fail> {
     let want = ([true, false], [false, true], 3, [true, true]);
     assert_eq!(rt; third_view(rt.alloc())?, want);
+    Ok(())
+}
+
+// the nullification of view `number`, or from 100 on that the proposal of that view less 100 is
+// certified
+fn numbered_note(alloc: Global, number: u8) -> Result<Note, Fail> {
+    if number < 100 {
+        let view = u64::from(number);
+        return Ok(Note::Cert(cert(alloc, Vote::Nullify { epoch: 0, view }, &[0, 1, 2])?));
+    }
+    let payload = genesis_commitment::<SumHasher>();
+    Ok(Note::Certified(proposal(u64::from(number - 100), payload)))
+}
+
+// the views over which a member may propose that noted these, each asked below the one before
+fn parents_after(alloc: Global, numbers: &[u8]) -> Result<Vec<u64>, Fail> {
+    let mut tally = tally(alloc, 0)?;
+    for number in numbers {
+        take_note(&mut tally, numbered_note(alloc, *number)?)?;
+    }
+    let mut parents = Vec::new(alloc);
+    let mut below = u64::MAX;
+    for _ in 0..3 {
+        if let Some((view, _)) = tally.propose_parent(0, below) {
+            parents.push(view)?;
+            below = view;
+        }
+    }
+    Ok(parents)
+}
+
+// Views that are nullified in this order, those that are certified among them as 100 more, and the
+// parents of a proposal in the view behind all of them. A parent that is itself nullified has others
+// below it.
+const RUNS: &str = "\
+one after the other: 1 2 3: [0]
+the last one first: 3 2 1: [0]
+the one between at last: 1 3 2: [0]
+the one between at first: 2 3 1: [0]
+two runs that join: 1 2 4 5 3: [0]
+three runs that join: 5 1 3 2 4: [0]
+three runs, the upper two first: 1 3 5 4 2: [0]
+some again: 1 2 1 3 2: [0]
+a view between isn't: 1 3: []
+the first isn't: 2 3 4: []
+one of two between isn't: 1 5 3 2: []
+over a certified view: 101 2 3: [1]
+a certified view at last: 3 2 101: [1]
+a certified view with a gap behind it: 101 3: []
+a certified view that is nullified: 2 1 102 3: [2, 0]
+two certified views that are nullified: 3 102 1 103 2: [3, 2, 0]
+a certified view over one that isn't: 103 4: [3]
+nothing behind a certified view: 1 102: [2]
+";
+
+// whether these are the parents of a line of the table
+fn has_parents(alloc: Global, line: &str) -> Result<bool, Fail> {
+    let case = case_in(alloc, line)?;
+    let parents = parents_after(alloc, &case.bytes)?;
+    let told = format!(in alloc; "{:?}", parents.as_slice())?;
+    Ok(told.as_str() == case.want)
+}
+
+#[test]
+fn nullified_views_join_in_whatever_order_they_come(rt: HostRuntime) -> Result<(), Fail> {
+    let mut count = 0u8;
+    for line in RUNS.lines() {
+        assert!(rt; has_parents(rt.alloc(), line)?, "{line}");
+        count = count.wrapping_add(1);
+    }
+    assert_eq!(rt; count, 18);
     Ok(())
 }
 

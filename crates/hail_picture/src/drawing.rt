@@ -2,7 +2,6 @@
 
 ghost use Rattle.std.specs.Prelude.{◌≡◌, IfOk, map};
 ghost use Rattle.cw_types.specs.Encoding.{block_bytes};
-ghost use Rattle.hail_script.specs.Events.{line_of};
 ghost use Rattle.hail_world.specs.Reports.{shown_report};
 ghost use Rattle.run_picture.specs.Told as told;
 ghost use Rattle.hail_picture.specs.Drawing as spec;
@@ -37,8 +36,7 @@ fn steps_of<'a>(
     lines: &'a [EventLine],
     entries: &[Entry],
 ) -> Result<Vec<Step<'a>>, NoMemory>
-    ensures { IfOk result
-        (λ steps. steps.items ≡ spec.steps_of (map line_of lines.now) entries.now) }
+    ensures { IfOk result (λ steps. steps.items ≡ spec.steps_of lines.now entries.now) }
 {
     let mut steps = Vec::new(alloc);
     let mut rest = entries;
@@ -55,7 +53,7 @@ fn steps_of<'a>(
 
 // What a line did, by its entry.
 fn step_of<'a>(alloc: Global, line: &'a EventLine, entry: &Entry) -> Result<Step<'a>, NoMemory>
-    ensures { IfOk result (λ step. step ≡ spec.step_of (line_of line.now) entry.now) }
+    ensures { IfOk result (λ step. step ≡ spec.step_of line.now entry.now) }
 {
     let sent = said_all(alloc, entry.sent.as_slice())?;
     let handed = heights_of(alloc, entry.handed.as_slice())?;

@@ -29,38 +29,36 @@ fn number(alloc: Global, first: usize, from: u16, outs: Vec<Out>) -> Result<Vec<
     Ok(sent)
 }
 
-/// The entry of a line, whose messages are numbered behind those sent so far.
-pub fn enter(
+/// The entry of a faulty member's line, whose messages are numbered behind those sent so far.
+pub fn enter_sent(
     alloc: Global,
     pool: &Pool,
     line: u64,
-    member: Option<u16>,
-    found: Option<u64>,
     from: u16,
     outs: Items<Out>,
-    handed: Items<Handed>,
 ) -> Result<Entry, NoMemory>
     ensures { IfOk result
         (λ entry. entry
         ≡ record {
           line = line;
-          member = member;
-          found = found;
+          member = None;
+          found = None;
           sent = sent_from (length (sent_in pool.now)) from outs;
-          handed = handed;
+          handed = [];
         }) }
 {
     let sent = number(alloc, pool.count(), from, outs.into_vec())?;
     Ok(Entry {
         line,
-        member,
-        found,
+        member: None,
+        found: None,
         sent: Items::from_vec(sent),
-        handed,
+        handed: Items::new(alloc),
     })
 }
 
-/// The entry of a member's line: empty where nothing was done.
+/// The entry of a member's line, whose messages are numbered behind those sent so far: empty where
+/// nothing was done.
 pub fn enter_done(
     alloc: Global,
     pool: &Pool,
@@ -81,23 +79,30 @@ pub fn enter_done(
           handed = option_map_or (λ out. out.handed) done [];
         }) }
 {
+    let (outs, handed) = parts_of(alloc, done);
+    let sent = number(alloc, pool.count(), member, outs.into_vec())?;
+    Ok(Entry {
+        line,
+        member: Some(member),
+        found,
+        sent: Items::from_vec(sent),
+        handed,
+    })
+}
+
+// What was sent and handed out, where something was done.
+fn parts_of(alloc: Global, done: Option<StepOut>) -> (Items<Out>, Items<Handed>)
+    ensures sent { result.0 ≡ option_map_or (λ out. out.sent) done [] }
+    ensures handed { result.1 ≡ option_map_or (λ out. out.handed) done [] }
+{
     match done {
-        None => enter(
-            alloc,
-            pool,
-            line,
-            Some(member),
-            found,
-            member,
-            Items::new(alloc),
-            Items::new(alloc),
-        ),
+        None => (Items::new(alloc), Items::new(alloc)),
         Some(
             StepOut {
                 sent,
                 handed,
                 tickets: _,
             },
-        ) => enter(alloc, pool, line, Some(member), found, member, sent, handed),
+        ) => (sent, handed),
     }
 }

@@ -13,7 +13,7 @@ mod text;
 mod votes;
 mod words;
 
-pub use entry::{enter, enter_done};
+pub use entry::{enter_done, enter_sent};
 pub use exit::{Early, Exit, early_of, end_early, finish};
 pub use laws::{opening_laws, storm_laws};
 pub use pool::Pool;

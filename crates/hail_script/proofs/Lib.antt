@@ -4,6 +4,7 @@ pub mod Sequences
 pub mod Marks
 pub mod Sized
 pub mod Admitting
+pub mod Admitted
 pub mod Clusters
 pub mod Causes
 pub mod Fitting

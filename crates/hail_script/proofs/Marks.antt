@@ -10,10 +10,7 @@ use Rattle.std.proofs.lemmas.List.FromFn.{get_or-map-range_with_len, length-map-
 use Rattle.std.proofs.lemmas.Bool.{and_parts}
 use Rattle.cw_rules.specs.World as rule
 use Rattle.hail_script.specs.Admission as admission
-use Rattle.hail_script.specs.Events.{line_of}
 use Rattle.hail_script.specs.Grammar as grammar
-use Rattle.hail_script.specs.declared.event.EventLine.{EventLine}
-use Rattle.hail_script.specs.declared.event.EventLine.TheVariants as line
 
 -- whether a member is faulty, with one line more
 one_more : (lines : List rule.Line) (x : rule.Line) (i : ℕ)
@@ -102,12 +99,12 @@ mark_one lines total m fault =
         ∙ or_none (grammar.is_faulty_in lines i) (i == m) e ∙ after i h
 
 -- one line more
-pub marks_more : (lines : List rule.Line) (total : ℕ) (e : EventLine)
-    → admission.marked (grammar.marks lines total) e ≡ grammar.marks (lines ++ line_of e ∷ []) total
-marks_more lines total (line.Do m ask) = same_marks lines total _ (λ i. refl)
-marks_more lines total (line.Cut stop m ask) = same_marks lines total _ (λ i. refl)
-marks_more lines total (line.Restart m) = same_marks lines total _ (λ i. refl)
-marks_more lines total (line.Faulty m fault) = mark_one lines total m _
+pub marks_more : (lines : List rule.Line) (total : ℕ) (x : rule.Line)
+    → admission.marked (grammar.marks lines total) x ≡ grammar.marks (lines ++ x ∷ []) total
+marks_more lines total (rule.Do m ask) = same_marks lines total _ (λ i. refl)
+marks_more lines total (rule.Cut a c x m ask) = same_marks lines total _ (λ i. refl)
+marks_more lines total (rule.Restart m) = same_marks lines total _ (λ i. refl)
+marks_more lines total (rule.Faulty m fault) = mark_one lines total m _
 
 -- counting marks is counting faulty members
 counted : (lines : List rule.Line) (total : ℕ) (list : List ℕ)

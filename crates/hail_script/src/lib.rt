@@ -9,12 +9,15 @@ mod laws;
 mod lines;
 mod parse;
 mod pieces;
+mod raw;
 mod script;
+mod stop;
 
 pub use error::RunError;
-pub use event::{Ask, EventLine, Fault, Stop, member_of};
+pub use event::{Ask, AskKind, EventLine, Fault, FaultKind, LineKind};
 pub use headers::Header;
 pub use lanes::LaneScript;
 pub use laws::script_laws;
 pub use pieces::number_of;
 pub use script::Script;
+pub use stop::Stop;

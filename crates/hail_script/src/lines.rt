@@ -1,41 +1,45 @@
 //! Reading the event lines of a script.
 
-ghost use Rattle.std.specs.Prelude.{◌≡◌, IfOk, IfSome, IsTrue, Some, map, option_map};
-ghost use Rattle.hail_script.specs.Events.{ask_of, asked_of, fault_of, line_of};
-ghost use Rattle.hail_script.specs.Grammar.{is_later};
+ghost use Rattle.std.specs.Prelude.{◌≡◌, IfOk, Some, map, option_map};
 ghost use Rattle.hail_script.specs.Lines as lines;
 ghost use Rattle.hail_script.specs.Pieces.{bytes_in, fields, number};
+ghost use Rattle.hail_script.specs.Raw.{raw_ask_of, raw_asked_of, raw_fault_of, raw_line_of};
 ghost use Rattle.cw_rules.specs.World as rule;
 
-use crate::event::{Ask, EventLine, Fault, Stop};
 use crate::pieces::{bytes_of, number_of, pieces_of};
+use crate::raw::{RawAsk, RawFault, RawLine};
+use crate::stop::Stop;
 use cw_base::NoMemory;
 use std::alloc::Global;
 
-fn asking(member: Option<u64>, ask: Option<Ask>) -> Option<(u64, Ask)>
-    ensures { option_map asked_of result ≡ lines.asking member (option_map ask_of ask) }
+fn asking(member: Option<u64>, ask: Option<RawAsk>) -> Option<(u64, RawAsk)>
+    ensures { option_map raw_asked_of result ≡ lines.asking member (option_map raw_ask_of ask) }
 {
     let member = member?;
     let ask = ask?;
     Some((member, ask))
 }
 
-fn asked_alone(word: &[u8], member: &[u8]) -> Option<(u64, Ask)>
-    ensures { option_map asked_of result ≡ lines.asked_alone word.now member.now }
+fn asked_alone(word: &[u8], member: &[u8]) -> Option<(u64, RawAsk)>
+    ensures { option_map raw_asked_of result ≡ lines.asked_alone word.now member.now }
 {
     if word != b"ack".as_slice() {
         return None;
     }
-    asking(number_of(member), Some(Ask::Ack))
+    asking(number_of(member), Some(RawAsk::Ack))
 }
 
-fn proposing(alloc: Global, member: &[u8], payload: &[u8]) -> Result<Option<(u64, Ask)>, NoMemory>
+fn proposing(
+    alloc: Global,
+    member: &[u8],
+    payload: &[u8],
+) -> Result<Option<(u64, RawAsk)>, NoMemory>
     ensures { IfOk result
-        (λ asked. option_map asked_of asked ≡ lines.asking (number member.now)
+        (λ asked. option_map raw_asked_of asked ≡ lines.asking (number member.now)
         (option_map rule.Propose (bytes_in payload.now))) }
 {
     let payload = bytes_of(alloc, payload)?;
-    Ok(asking(number_of(member), payload.map(Ask::Propose)))
+    Ok(asking(number_of(member), payload.map(RawAsk::Propose)))
 }
 
 fn asked_with(
@@ -43,9 +47,9 @@ fn asked_with(
     word: &[u8],
     first: &[u8],
     second: &[u8],
-) -> Result<Option<(u64, Ask)>, NoMemory>
+) -> Result<Option<(u64, RawAsk)>, NoMemory>
     ensures { IfOk result
-        (λ asked. option_map asked_of asked ≡ lines.asked_with word.now first.now second.now) }
+        (λ asked. option_map raw_asked_of asked ≡ lines.asked_with word.now first.now second.now) }
 {
     if word == b"propose".as_slice() {
         return proposing(alloc, first, second);
@@ -53,30 +57,31 @@ fn asked_with(
     Ok(asked_number(word, first, second))
 }
 
-fn asked_number(word: &[u8], first: &[u8], second: &[u8]) -> Option<(u64, Ask)>
-    ensures { option_map asked_of result ≡ lines.asked_number word.now first.now second.now }
+fn asked_number(word: &[u8], first: &[u8], second: &[u8]) -> Option<(u64, RawAsk)>
+    ensures { option_map raw_asked_of result ≡ lines.asked_number word.now first.now second.now }
 {
     if word == b"timeout".as_slice() {
-        return asking(number_of(first), number_of(second).map(Ask::Timeout));
+        return asking(number_of(first), number_of(second).map(RawAsk::Timeout));
     }
     if word == b"deliver".as_slice() {
-        return asking(number_of(second), number_of(first).map(Ask::Deliver));
+        return asking(number_of(second), number_of(first).map(RawAsk::Deliver));
     }
     if word == b"prune".as_slice() {
-        return asking(number_of(first), number_of(second).map(Ask::Prune));
+        return asking(number_of(first), number_of(second).map(RawAsk::Prune));
     }
     if word == b"floor".as_slice() {
-        return asking(number_of(first), number_of(second).map(Ask::Floor));
+        return asking(number_of(first), number_of(second).map(RawAsk::Floor));
     }
     if word == b"hint".as_slice() {
-        return asking(number_of(first), number_of(second).map(Ask::Hint));
+        return asking(number_of(first), number_of(second).map(RawAsk::Hint));
     }
     None
 }
 
-fn asked_in(alloc: Global, parts: &[&[u8]]) -> Result<Option<(u64, Ask)>, NoMemory>
+fn asked_in(alloc: Global, parts: &[&[u8]]) -> Result<Option<(u64, RawAsk)>, NoMemory>
     ensures { IfOk result
-        (λ asked. option_map asked_of asked ≡ lines.asked_in (map (λ part. part.now) parts.now)) }
+        (λ asked. option_map raw_asked_of asked
+        ≡ lines.asked_in (map (λ part. part.now) parts.now)) }
 {
     match parts {
         [word, member] => Ok(asked_alone(word, member)),
@@ -89,11 +94,10 @@ fn cutting(
     call: Option<u64>,
     cut: Option<u64>,
     fill: Option<u64>,
-    asked: Option<(u64, Ask)>,
-) -> Option<EventLine>
-    ensures value { option_map line_of result ≡ lines.cutting call cut fill
-        (option_map asked_of asked) }
-    ensures later { IfSome result (λ event. IsTrue (is_later (line_of event))) }
+    asked: Option<(u64, RawAsk)>,
+) -> Option<RawLine>
+    ensures { option_map raw_line_of result ≡ lines.cutting call cut fill
+        (option_map raw_asked_of asked) }
 {
     let call = call?;
     let cut = cut?;
@@ -107,14 +111,12 @@ fn cutting(
         cut,
         fill: fill as u8,
     };
-    Some(EventLine::Cut(stop, member, ask))
+    Some(RawLine::Cut(stop, member, ask))
 }
 
-fn cut_in(alloc: Global, parts: &[&[u8]]) -> Result<Option<EventLine>, NoMemory>
-    ensures value { IfOk result
-        (λ event. option_map line_of event ≡ lines.cut_in (map (λ part. part.now) parts.now)) }
-    ensures later { IfOk result
-        (λ event. IfSome event (λ event. IsTrue (is_later (line_of event)))) }
+fn cut_in(alloc: Global, parts: &[&[u8]]) -> Result<Option<RawLine>, NoMemory>
+    ensures { IfOk result
+        (λ event. option_map raw_line_of event ≡ lines.cut_in (map (λ part. part.now) parts.now)) }
 {
     let [call, cut, fill, asked @ ..] = parts else {
         return Ok(None);
@@ -123,9 +125,9 @@ fn cut_in(alloc: Global, parts: &[&[u8]]) -> Result<Option<EventLine>, NoMemory>
     Ok(cutting(number_of(call), number_of(cut), number_of(fill), asked))
 }
 
-fn offering(alloc: Global, view: &[u8], payload: &[u8]) -> Result<Option<Fault>, NoMemory>
+fn offering(alloc: Global, view: &[u8], payload: &[u8]) -> Result<Option<RawFault>, NoMemory>
     ensures { IfOk result
-        (λ fault. option_map fault_of fault ≡ lines.offering (number view.now)
+        (λ fault. option_map raw_fault_of fault ≡ lines.offering (number view.now)
         (bytes_in payload.now)) }
 {
     let Some(view) = number_of(view) else {
@@ -133,30 +135,30 @@ fn offering(alloc: Global, view: &[u8], payload: &[u8]) -> Result<Option<Fault>,
     };
     match bytes_of(alloc, payload)? {
         None => Ok(None),
-        Some(payload) => Ok(Some(Fault::Offer(view, payload))),
+        Some(payload) => Ok(Some(RawFault::Offer(view, payload))),
     }
 }
 
-fn raw(alloc: Global, field: &[u8]) -> Result<Option<Fault>, NoMemory>
+fn raw(alloc: Global, field: &[u8]) -> Result<Option<RawFault>, NoMemory>
     ensures { IfOk result
-        (λ fault. option_map fault_of fault ≡ option_map rule.Raw (bytes_in field.now)) }
+        (λ fault. option_map raw_fault_of fault ≡ option_map rule.Raw (bytes_in field.now)) }
 {
     let bytes = bytes_of(alloc, field)?;
-    Ok(bytes.map(Fault::Raw))
+    Ok(bytes.map(RawFault::Raw))
 }
 
-fn fault_with(alloc: Global, word: &[u8], field: &[u8]) -> Result<Option<Fault>, NoMemory>
+fn fault_with(alloc: Global, word: &[u8], field: &[u8]) -> Result<Option<RawFault>, NoMemory>
     ensures { IfOk result
-        (λ fault. option_map fault_of fault ≡ lines.fault_with word.now field.now) }
+        (λ fault. option_map raw_fault_of fault ≡ lines.fault_with word.now field.now) }
 {
     if word == b"notarize".as_slice() {
-        return Ok(number_of(field).map(Fault::Notarize));
+        return Ok(number_of(field).map(RawFault::Notarize));
     }
     if word == b"finalize".as_slice() {
-        return Ok(number_of(field).map(Fault::Finalize));
+        return Ok(number_of(field).map(RawFault::Finalize));
     }
     if word == b"nullify".as_slice() {
-        return Ok(number_of(field).map(Fault::Nullify));
+        return Ok(number_of(field).map(RawFault::Nullify));
     }
     if word == b"raw".as_slice() {
         return raw(alloc, field);
@@ -164,13 +166,13 @@ fn fault_with(alloc: Global, word: &[u8], field: &[u8]) -> Result<Option<Fault>,
     Ok(None)
 }
 
-fn fault_alone(word: &[u8]) -> Option<Fault>
-    ensures { option_map fault_of result ≡ lines.fault_alone word.now }
+fn fault_alone(word: &[u8]) -> Option<RawFault>
+    ensures { option_map raw_fault_of result ≡ lines.fault_alone word.now }
 {
     if word != b"silent".as_slice() {
         return None;
     }
-    Some(Fault::Silent)
+    Some(RawFault::Silent)
 }
 
 fn offer_in(
@@ -178,9 +180,9 @@ fn offer_in(
     word: &[u8],
     view: &[u8],
     payload: &[u8],
-) -> Result<Option<Fault>, NoMemory>
+) -> Result<Option<RawFault>, NoMemory>
     ensures { IfOk result
-        (λ fault. option_map fault_of fault ≡ lines.offer_in word.now view.now payload.now) }
+        (λ fault. option_map raw_fault_of fault ≡ lines.offer_in word.now view.now payload.now) }
 {
     if word != b"offer".as_slice() {
         return Ok(None);
@@ -188,9 +190,10 @@ fn offer_in(
     offering(alloc, view, payload)
 }
 
-fn fault_in(alloc: Global, parts: &[&[u8]]) -> Result<Option<Fault>, NoMemory>
+fn fault_in(alloc: Global, parts: &[&[u8]]) -> Result<Option<RawFault>, NoMemory>
     ensures { IfOk result
-        (λ fault. option_map fault_of fault ≡ lines.fault_in (map (λ part. part.now) parts.now)) }
+        (λ fault. option_map raw_fault_of fault
+        ≡ lines.fault_in (map (λ part. part.now) parts.now)) }
 {
     match parts {
         [word] => Ok(fault_alone(word)),
@@ -200,11 +203,10 @@ fn fault_in(alloc: Global, parts: &[&[u8]]) -> Result<Option<Fault>, NoMemory>
     }
 }
 
-fn faulty_in(alloc: Global, parts: &[&[u8]]) -> Result<Option<EventLine>, NoMemory>
-    ensures value { IfOk result
-        (λ event. option_map line_of event ≡ lines.faulty_in (map (λ part. part.now) parts.now)) }
-    ensures later { IfOk result
-        (λ event. IfSome event (λ event. IsTrue (is_later (line_of event)))) }
+fn faulty_in(alloc: Global, parts: &[&[u8]]) -> Result<Option<RawLine>, NoMemory>
+    ensures { IfOk result
+        (λ event. option_map raw_line_of event
+        ≡ lines.faulty_in (map (λ part. part.now) parts.now)) }
 {
     let [member, fault @ ..] = parts else {
         return Ok(None);
@@ -214,38 +216,34 @@ fn faulty_in(alloc: Global, parts: &[&[u8]]) -> Result<Option<EventLine>, NoMemo
     };
     match fault_in(alloc, fault)? {
         None => Ok(None),
-        Some(fault) => Ok(Some(EventLine::Faulty(member, fault))),
+        Some(fault) => Ok(Some(RawLine::Faulty(member, fault))),
     }
 }
 
-fn restart_in(parts: &[&[u8]]) -> Option<EventLine>
-    ensures value { option_map line_of result ≡ lines.restart_in
+fn restart_in(parts: &[&[u8]]) -> Option<RawLine>
+    ensures { option_map raw_line_of result ≡ lines.restart_in
         (map (λ part. part.now) parts.now) }
-    ensures later { IfSome result (λ event. IsTrue (is_later (line_of event))) }
 {
     let [member] = parts else {
         return None;
     };
-    number_of(member).map(EventLine::Restart)
+    number_of(member).map(RawLine::Restart)
 }
 
-fn do_in(alloc: Global, parts: &[&[u8]]) -> Result<Option<EventLine>, NoMemory>
-    ensures value { IfOk result
-        (λ event. option_map line_of event ≡ lines.do_in (map (λ part. part.now) parts.now)) }
-    ensures later { IfOk result
-        (λ event. IfSome event (λ event. IsTrue (is_later (line_of event)))) }
+fn do_in(alloc: Global, parts: &[&[u8]]) -> Result<Option<RawLine>, NoMemory>
+    ensures { IfOk result
+        (λ event. option_map raw_line_of event ≡ lines.do_in (map (λ part. part.now) parts.now)) }
 {
     match asked_in(alloc, parts)? {
         None => Ok(None),
-        Some((member, ask)) => Ok(Some(EventLine::Do(member, ask))),
+        Some((member, ask)) => Ok(Some(RawLine::Do(member, ask))),
     }
 }
 
-fn event_in(alloc: Global, parts: &[&[u8]]) -> Result<Option<EventLine>, NoMemory>
-    ensures value { IfOk result
-        (λ event. option_map line_of event ≡ lines.event_in (map (λ part. part.now) parts.now)) }
-    ensures later { IfOk result
-        (λ event. IfSome event (λ event. IsTrue (is_later (line_of event)))) }
+fn event_in(alloc: Global, parts: &[&[u8]]) -> Result<Option<RawLine>, NoMemory>
+    ensures { IfOk result
+        (λ event. option_map raw_line_of event
+        ≡ lines.event_in (map (λ part. part.now) parts.now)) }
 {
     let [word, rest @ ..] = parts else {
         return Ok(None);
@@ -263,11 +261,9 @@ fn event_in(alloc: Global, parts: &[&[u8]]) -> Result<Option<EventLine>, NoMemor
 }
 
 /// The event of a line.
-pub(crate) fn event_of(alloc: Global, line: &[u8]) -> Result<Option<EventLine>, NoMemory>
-    ensures value { IfOk result
-        (λ event. option_map line_of event ≡ lines.event_in (fields line.now)) }
-    ensures later { IfOk result
-        (λ event. IfSome event (λ event. IsTrue (is_later (line_of event)))) }
+pub(crate) fn event_of(alloc: Global, line: &[u8]) -> Result<Option<RawLine>, NoMemory>
+    ensures { IfOk result
+        (λ event. option_map raw_line_of event ≡ lines.event_in (fields line.now)) }
 {
     let parts = pieces_of(alloc, line, b' ')?;
     event_in(alloc, &parts)

@@ -5,15 +5,15 @@ ghost use Rattle.std.specs.Prelude.{nat_lt, ◌&&◌, [], length, count_by};
 ghost use Rattle.std.specs.List.{list_all};
 ghost use Rattle.cw_types.specs.Epochs.{is_committee, rises_from};
 ghost use Rattle.hail_script.specs.Admission as admission;
-ghost use Rattle.hail_script.specs.Events.{line_of};
 ghost use Rattle.hail_script.specs.Grammar as grammar;
+ghost use Rattle.hail_script.specs.Raw.{raw_line_of};
 ghost use Rattle.hail_script.specs.declared.error.RunError.TheVariants as error;
 
 use crate::error::RunError;
-use crate::event::{Ask, EventLine, Fault, member_of};
 use crate::lines::event_of;
+use crate::raw::{RawLine, member_of, names_oversize};
 use cw_base::{Items, NoMemory};
-use cw_types::{Committees, Payload};
+use cw_types::Committees;
 use std::alloc::Global;
 
 /// The events of lines, of which the first has that number.
@@ -21,15 +21,13 @@ pub(crate) fn events_of(
     alloc: Global,
     first: u64,
     lines: &[&[u8]],
-) -> Result<Items<EventLine>, RunError>
+) -> Result<Items<RawLine>, RunError>
     requires { first ≤ 66 }
     ensures ok { IfOk result
         (λ events. grammar.events_from first (map (λ line. line.now) lines.now) ≡ Ok
-        (map line_of events)) }
+        (map raw_line_of events)) }
     ensures err { IfErr result (λ e. (e ≡ error.NoMemory)
         ⊎ (grammar.events_from first (map (λ line. line.now) lines.now) ≡ Err e)) }
-    ensures later { IfOk result
-        (λ events. IsTrue (list_all grammar.is_later (map line_of events))) }
 {
     let mut events = Items::new(alloc);
     for (index, line) in lines.iter().enumerate() {
@@ -42,10 +40,10 @@ pub(crate) fn events_of(
 }
 
 /// The first event line that names a member past the last.
-pub(crate) fn first_unknown(total: u16, first: u64, events: &[EventLine]) -> Option<u64>
+pub(crate) fn first_unknown(total: u16, first: u64, events: &[RawLine]) -> Option<u64>
     requires { first ≤ 66 }
     ensures { result ≡ grammar.first_at (grammar.names_stranger total) first
-        (map line_of events.now) }
+        (map raw_line_of events.now) }
 {
     for (index, event) in events.iter().enumerate() {
         if member_of(event) >= u64::from(total) {
@@ -55,45 +53,10 @@ pub(crate) fn first_unknown(total: u16, first: u64, events: &[EventLine]) -> Opt
     None
 }
 
-fn is_oversize(payload: &Items<u8>) -> bool
-    ensures { result ≡ grammar.is_oversize payload.now }
-{
-    payload.len() > Payload::MAX
-}
-
-fn asks_oversize(ask: &Ask) -> bool
-    ensures { result ≡ admission.asks_oversize ask.now }
-{
-    match ask {
-        Ask::Propose(payload) => is_oversize(payload),
-        _ => false,
-    }
-}
-
-fn offers_oversize(fault: &Fault) -> bool
-    ensures { result ≡ admission.offers_oversize fault.now }
-{
-    match fault {
-        Fault::Offer(_, payload) => is_oversize(payload),
-        _ => false,
-    }
-}
-
-fn names_oversize(line: &EventLine) -> bool
-    ensures { result ≡ admission.names_oversize line.now }
-{
-    match line {
-        EventLine::Do(_, ask) => asks_oversize(ask),
-        EventLine::Cut(_, _, ask) => asks_oversize(ask),
-        EventLine::Restart(_) => false,
-        EventLine::Faulty(_, fault) => offers_oversize(fault),
-    }
-}
-
 /// The first event line with a payload that is too long.
-pub(crate) fn first_oversize(first: u64, events: &[EventLine]) -> Option<u64>
+pub(crate) fn first_oversize(first: u64, events: &[RawLine]) -> Option<u64>
     requires { first ≤ 66 }
-    ensures { result ≡ grammar.first_at grammar.names_oversize first (map line_of events.now) }
+    ensures { result ≡ grammar.first_at grammar.names_oversize first (map raw_line_of events.now) }
 {
     for (index, event) in events.iter().enumerate() {
         if names_oversize(event) {
@@ -104,12 +67,9 @@ pub(crate) fn first_oversize(first: u64, events: &[EventLine]) -> Option<u64>
 }
 
 /// For each member, whether some line makes it faulty.
-pub(crate) fn marks_of(
-    alloc: Global,
-    total: u16,
-    events: &[EventLine],
-) -> Result<Vec<bool>, NoMemory>
-    ensures { IfOk result (λ marks. marks.items ≡ grammar.marks (map line_of events.now) total) }
+pub(crate) fn marks_of(alloc: Global, total: u16, events: &[RawLine]) -> Result<Vec<bool>, NoMemory>
+    ensures { IfOk result
+        (λ marks. marks.items ≡ grammar.marks (map raw_line_of events.now) total) }
 {
     let mut marks = unmarked(alloc, total)?;
     for event in events {
@@ -129,10 +89,10 @@ fn unmarked(alloc: Global, total: u16) -> Result<Vec<bool>, NoMemory>
 }
 
 // Marks the member that a line makes faulty.
-fn mark(marks: &mut Vec<bool>, line: &EventLine)
-    ensures { marks.new.items ≡ admission.marked marks.old.items line.now }
+fn mark(marks: &mut Vec<bool>, line: &RawLine)
+    ensures { marks.new.items ≡ admission.marked marks.old.items (raw_line_of line.now) }
 {
-    if let EventLine::Faulty(member, _) = line {
+    if let RawLine::Faulty(member, _) = line {
         let member = *member as usize;
         if member < marks.len() {
             marks[member] = true;

@@ -6,8 +6,8 @@ ghost use Rattle.std.specs.List.{list_all};
 ghost use Rattle.cw_types.specs.Epochs.{is_committee, rises_from};
 ghost use Rattle.cw_rules.specs.Reached.{IsCluster};
 ghost use Rattle.cw_rules.specs.Rules.{Rules};
-ghost use Rattle.hail_script.specs.Events.{line_of};
 ghost use Rattle.hail_script.specs.Grammar as grammar;
+ghost use Rattle.hail_script.specs.Raw.{raw_line_of};
 ghost use Rattle.hail_script.specs.declared.error.RunError.TheVariants as error;
 ghost use Rattle.hail_script.specs.declared.headers.Header.TheVariants as header;
 
@@ -19,6 +19,7 @@ use crate::parse::{
     narrow_all,
 };
 use crate::pieces::{pieces_of, without_empty_end};
+use crate::raw::{RawLine, admitted_lines};
 use cw_base::{Items, NoMemory};
 use cw_rules::Travel;
 use cw_types::Committees;
@@ -36,13 +37,14 @@ pub struct Script {
     // the number of the first event line
     first: u64,
     events: Items<EventLine>,
+    // of each member, whether some line makes it faulty
+    faulty: Vec<bool>,
 }
 
 impl Model for Script {
-    ghost use Rattle.std.specs.Prelude.{◌≡◌, ◌≤◌, map};
+    ghost use Rattle.std.specs.Prelude.{◌≡◌, ◌≤◌};
     ghost use Rattle.hail_script.specs.Scenario.{Scenario};
-    ghost use Rattle.hail_script.specs.Events.{line_of};
-    ghost use Rattle.hail_script.specs.Grammar.{IsRunnable, first_event};
+    ghost use Rattle.hail_script.specs.Grammar.{IsRunnable, first_event, marks};
 
     ghost Value = { Scenario };
 
@@ -50,7 +52,7 @@ impl Model for Script {
       travel = s.travel;
       committees = s.committees;
       backlog = s.backlog;
-      lines = map line_of s.events;
+      lines = s.events;
     } };
 
     ghost invariant = { λ s. (1 ≤ s.backlog) × (s.first ≡ first_event s.committees) × (s.first ≤ 66)
@@ -59,8 +61,9 @@ impl Model for Script {
           travel = s.travel;
           committees = s.committees;
           backlog = s.backlog;
-          lines = map line_of s.events;
-        }) };
+          lines = s.events;
+        })
+        × (s.faulty.items ≡ marks s.events s.committees.total) };
 }
 
 // The committees with these members.
@@ -226,21 +229,20 @@ impl Script {
         backlog: u64,
         span: u64,
         lists: Items<Items<u64>>,
-        events: Items<EventLine>,
+        events: Items<RawLine>,
     ) -> Result<Script, RunError>
         requires backlog { 1 ≤ backlog }
         requires span { 1 ≤ span }
         requires some { 1 ≤ length lists }
         requires few { length lists ≤ 64 }
         requires rise { IsTrue (list_all (rises_from 0) lists) }
-        requires later { IsTrue (list_all grammar.is_later (map line_of events)) }
         ensures ok { IfOk result
             (λ read. grammar.admitted
             (record {
               travel = travel;
               committees = record { total = members; span = Some span; lists = lists };
               backlog = backlog;
-              lines = map line_of events;
+              lines = map raw_line_of events;
             }) ≡ Ok read) }
         ensures err { IfErr result (λ e. (e ≡ error.NoMemory)
             ⊎ (grammar.admitted
@@ -248,7 +250,7 @@ impl Script {
               travel = travel;
               committees = record { total = members; span = Some span; lists = lists };
               backlog = backlog;
-              lines = map line_of events;
+              lines = map raw_line_of events;
             }) ≡ Err e)) }
         ensures way { IfOk result (λ read. read.travel ≡ travel) }
     {
@@ -270,20 +272,19 @@ impl Script {
         committees: Committees,
         backlog: u64,
         first: u64,
-        events: Items<EventLine>,
+        events: Items<RawLine>,
     ) -> Result<Script, RunError>
         requires backlog { 1 ≤ backlog }
         requires some { 4 ≤ committees.total }
         requires first { first ≡ grammar.first_event committees }
         requires few { first ≤ 66 }
-        requires later { IsTrue (list_all grammar.is_later (map line_of events)) }
         ensures ok { IfOk result
             (λ read. grammar.admitted
             (record {
               travel = travel;
               committees = committees;
               backlog = backlog;
-              lines = map line_of events;
+              lines = map raw_line_of events;
             }) ≡ Ok read) }
         ensures err { IfErr result (λ e. (e ≡ error.NoMemory)
             ⊎ (grammar.admitted
@@ -291,7 +292,7 @@ impl Script {
               travel = travel;
               committees = committees;
               backlog = backlog;
-              lines = map line_of events;
+              lines = map raw_line_of events;
             }) ≡ Err e)) }
         ensures way { IfOk result (λ read. read.travel ≡ travel) }
     {
@@ -299,19 +300,21 @@ impl Script {
         if let Some(line) = first_unknown(committees.total(), first, lines) {
             return Err(RunError::UnknownMember(line));
         }
-        let marks = marks_of(alloc, committees.total(), lines)?;
-        if !bears_all(&marks, &committees) {
+        let faulty = marks_of(alloc, committees.total(), lines)?;
+        if !bears_all(&faulty, &committees) {
             return Err(RunError::TooManyFaulty);
         }
         if let Some(line) = first_oversize(first, lines) {
             return Err(RunError::OversizeBlock(line));
         }
+        let events = admitted_lines(alloc, committees.total(), first, events)?;
         Ok(Script {
             travel,
             committees,
             backlog,
             first,
             events,
+            faulty,
         })
     }
 
@@ -353,7 +356,7 @@ impl Script {
 
     /// The event lines, in order.
     pub fn lines(&self) -> &[EventLine]
-        ensures value { map line_of result.now ≡ self.now.lines }
+        ensures value { result.now ≡ self.now.lines }
         ensures runnable { grammar.IsRunnable self.now }
     {
         self.events.as_slice()
@@ -381,6 +384,6 @@ impl Script {
         ensures { IfOk result
             (λ marks. marks.items ≡ grammar.marks self.now.lines self.now.committees.total) }
     {
-        marks_of(alloc, self.committees.total(), self.events.as_slice())
+        Ok(Vec::from_slice(alloc, &self.faulty)?)
     }
 }

@@ -1,9 +1,10 @@
 -- A cluster in a run: any line of its script may have the next turn.
-use Rattle.std.proofs.Common.{◌≡◌, ℕ, zero, suc, ◌+◌, ◌<◌, ◌≤◌, ◌||◌, Bool, true, false, List, [], ◌∷◌, ◌++◌, length, map, take, drop, Option, Some, None, refl, sym, ap, subst, ◌∙◌, arith}
+use Rattle.std.proofs.Common.{◌≡◌, ℕ, zero, suc, ◌+◌, ◌<◌, ◌≤◌, ◌||◌, Bool, true, false, List, [], ◌∷◌, ◌++◌, length, map, take, drop, get_or, Option, Some, None, refl, sym, ap, subst, ◌∙◌, arith}
 use Rattle.std.specs.Prelude.{cond, count_by, slice_get}
 use Rattle.std.specs.List.{enumerate_from, list_any, range_with_len}
 use Rattle.std.proofs.Math.Path.{fun_ext}
 use Rattle.std.proofs.lemmas.List.{take-append-drop}
+use Rattle.std.proofs.lemmas.Option.{slice_get_read}
 use Rattle.std.proofs.lemmas.List.Elements.{filter_map-append}
 use Rattle.cw_base.specs.declared.hash.Digest32.{Digest32}
 use Rattle.cw_types.specs.Epochs.{members_in, size}
@@ -14,11 +15,9 @@ use Rattle.cw_rules.specs.Rules.{Rules, genesis}
 use Rattle.cw_rules.specs.Step.{start}
 use Rattle.cw_rules.specs.World.{Line, World, faults, opening}
 use Rattle.cw_rules.specs.declared.travel.Travel.{Travel}
-use Rattle.hail_script.specs.Events.{line_of}
 use Rattle.hail_script.specs.Grammar.{marks}
 use Rattle.hail_script.specs.Scenario.{Scenario}
 use Rattle.hail_script.specs.declared.error.RunError.{RunError}
-use Rattle.hail_script.specs.declared.event.EventLine.{EventLine}
 use Rattle.hail_world.specs.declared.blocks.KnownBlocks.{KnownBlocks}
 use Rattle.hail_world.specs.declared.place.Place.{Place}
 use Rattle.hail_world.specs.declared.report.Report.{Report}
@@ -29,7 +28,6 @@ use Rattle.hail_world.specs.Played.{Begin, HavePlayed, IsReportOf, lines_of}
 use Rattle.hail_world.specs.Runs.{GoesBy, IsStopped, opened}
 use Rattle.hail_world.specs.Seats.{Seat}
 use Rattle.hail_world.proofs.Colliding.{knows_opened}
-use Rattle.hail_world.proofs.Known.{count_lines}
 use Rattle.hail_world.proofs.Opening.{flags_open}
 use Rattle.hail_world.proofs.Turned.{lines_more, played_none, stopped_behind}
 
@@ -53,12 +51,12 @@ line_there [] at lt = absurd (omega arith)
 line_there (line ∷ lines) zero lt = (line, refl)
 line_there (line ∷ lines) (suc at) lt = line_there lines at (omega arith)
 
-pub event_there : (es : List EventLine) (lines : List Line) (at : ℕ) → map line_of es ≡ lines
-    → at < length lines → at < length es
-event_there es lines at all lt =
-    let same : length lines ≡ length es =
-    ap (λ (l : List Line). length l) (sym all) ∙ count_lines es in
-    omega (arith, lt, same)
+-- the line that a script lends
+pub line_lent : (lent lines : List Line) (at : ℕ) (line : Line) → lent ≡ lines
+    → at < length lines → line ≡ get_or lent at line → slice_get lines at ≡ Some line
+line_lent lent lines at line same lt is =
+    slice_get_read lines (length lines) at line refl lt
+    (is ∙ ap (λ (l : List Line). get_or l at line) same)
 
 -- ---- whatever is asked of the lines
 

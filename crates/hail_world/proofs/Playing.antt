@@ -15,10 +15,9 @@ use Rattle.cw_rules.specs.Step.{Member, Stepped, cut_step, member_notes, start, 
 use Rattle.cw_rules.specs.World as rule
 use Rattle.cw_rules.specs.World.{Sent, World, done_by, happens, member_at, sent_from, signed, turned, with_done}
 use Rattle.cw_rules.proofs.Worlds.{set-get, set-set}
-use Rattle.hail_script.specs.Events.{ask_of, fault_of, line_of}
-use Rattle.hail_script.specs.declared.event.EventLine.{EventLine}
-use Rattle.hail_script.specs.declared.event.Fault.{Fault}
-use Rattle.hail_script.specs.declared.event.EventLine.TheVariants as line
+use Rattle.hail_script.specs.Events.{line_of}
+use Rattle.hail_script.specs.declared.event.LineKind.{LineKind}
+use Rattle.hail_script.specs.declared.event.LineKind.TheVariants as kind
 use Rattle.hail_world.specs.declared.place.Place.{Place}
 use Rattle.hail_world.specs.declared.place.Place.TheVariants as place
 use Rattle.hail_world.specs.Honest.{IsHonest, IsPlaced}
@@ -119,170 +118,176 @@ event_over w i (rule.Hint height) = refl
 
 -- ---- a line's turn
 
-abbrev line_number : EventLine → ℕ
-line_number e = rule.line_member (line_of e)
+turned_is : (r : Rules) (w : World) (i : ℕ) (e : rule.Line) (x : Member)
+    → turned r w i e x ≡ turned_by r (signed w) (over w.pool) i e x
+turned_is r w i (rule.Do m ask) x = rw (event_over w i ask) refl
+turned_is r w i (rule.Cut a c s m ask) x = rw (event_over w i ask) refl
+turned_is r w i (rule.Restart m) x = refl
+turned_is r w i (rule.Faulty m fault) x = refl
 
-turned_is : (r : Rules) (w : World) (i : ℕ) (e : EventLine) (x : Member)
-    → turned r w i (line_of e) x ≡ turned_by r (signed w) (over w.pool) i (line_of e) x
-turned_is r w i (line.Do m ask) x = rw (event_over w i (ask_of ask)) refl
-turned_is r w i (line.Cut stop m ask) x = rw (event_over w i (ask_of ask)) refl
-turned_is r w i (line.Restart m) x = refl
-turned_is r w i (line.Faulty m fault) x = refl
-
-done_is : (r : Rules) (w : World) (e : EventLine) (o : Option Member)
-    → slice_get w.members (line_number e) ≡ Some o
-    → done_by r w (line_of e)
-    ≡ option_and_then (turned_by r (signed w) (over w.pool) (line_number e) (line_of e)) o
+done_is : (r : Rules) (w : World) (e : rule.Line) (o : Option Member)
+    → slice_get w.members (rule.line_member e) ≡ Some o
+    → done_by r w e
+    ≡ option_and_then (turned_by r (signed w) (over w.pool) (rule.line_member e) e) o
 done_is r w e o there = rw there (of o)
   where
     of : (o : Option Member)
-        → option_and_then (turned r w (line_number e) (line_of e)) o
-        ≡ option_and_then (turned_by r (signed w) (over w.pool) (line_number e) (line_of e)) o
+        → option_and_then (turned r w (rule.line_member e) e) o
+        ≡ option_and_then (turned_by r (signed w) (over w.pool) (rule.line_member e) e) o
     of None = refl
-    of (Some x) = turned_is r w (line_number e) e x
+    of (Some x) = turned_is r w (rule.line_member e) e x
 
 -- the world after a member's line
-after_line : (r : Rules) (w : World) (e : EventLine) → IsHonest e
-    → happens r w (line_of e)
-    ≡ option_map_or (with_done w (line_number e)) (done_by r w (line_of e)) w
-after_line r w (line.Do m ask) h = refl
-after_line r w (line.Cut stop m ask) h = refl
-after_line r w (line.Restart m) h = refl
-after_line r w (line.Faulty m fault) h = absurd h
+after_line : (r : Rules) (w : World) (e : rule.Line) → IsHonest e
+    → happens r w e
+    ≡ option_map_or (with_done w (rule.line_member e)) (done_by r w e) w
+after_line r w (rule.Do m ask) h = refl
+after_line r w (rule.Cut a c s m ask) h = refl
+after_line r w (rule.Restart m) h = refl
+after_line r w (rule.Faulty m fault) h = absurd h
 
 -- the entry that names a member
 abbrev entry_with : ℕ → ℕ → Option ℕ → List Sent → List Handed → Entry
 entry_with number i found sent handed =
     record { line = number; member = Some i; found = found; sent = sent; handed = handed }
 
-entry_is : (r : Rules) (w : World) (number : ℕ) (e : EventLine) → IsHonest e
-    → entry_of r w number (line_of e)
-    ≡ entry_with number (line_number e)
-    (option_and_then (found_by w (line_of e)) (done_by r w (line_of e)))
-    (sent_from (length w.pool) (line_number e)
-    (option_map_or (λ done. done.sent) (done_by r w (line_of e)) []))
-    (option_map_or (λ done. done.handed) (done_by r w (line_of e)) [])
-entry_is r w number (line.Do m ask) h = refl
-entry_is r w number (line.Cut stop m ask) h = refl
-entry_is r w number (line.Restart m) h = refl
-entry_is r w number (line.Faulty m fault) h = absurd h
+entry_is : (r : Rules) (w : World) (number : ℕ) (e : rule.Line) → IsHonest e
+    → entry_of r w number e
+    ≡ entry_with number (rule.line_member e)
+    (option_and_then (found_by w e) (done_by r w e))
+    (sent_from (length w.pool) (rule.line_member e)
+    (option_map_or (λ done. done.sent) (done_by r w e) []))
+    (option_map_or (λ done. done.handed) (done_by r w e) [])
+entry_is r w number (rule.Do m ask) h = refl
+entry_is r w number (rule.Cut a c s m ask) h = refl
+entry_is r w number (rule.Restart m) h = refl
+entry_is r w number (rule.Faulty m fault) h = absurd h
 
 notes_is : (p : Place Seat) (x : Member) → SitsAs p (Some x) → notes_at p ≡ member_notes x
 notes_is place.Faulty x h = absurd h
 notes_is (place.Live m) x h = ap member_notes h
 notes_is (place.Stopped disk notes) x h = h.2
 
-found_is : (w : World) (e : EventLine) (p : Place Seat) (done : Stepped)
-    → SitsAs p (Some done.member) → found_at e p (Some (out_of done)) ≡ found_by w (line_of e) done
-found_is w (line.Do m ask) p done h = refl
-found_is w (line.Cut stop m ask) p done h = refl
-found_is w (line.Restart m) p done h =
+found_is : (w : World) (e : rule.Line) (p : Place Seat) (done : Stepped)
+    → SitsAs p (Some done.member) → found_at e p (Some (out_of done)) ≡ found_by w e done
+found_is w (rule.Do m ask) p done h = refl
+found_is w (rule.Cut a c s m ask) p done h = refl
+found_is w (rule.Restart m) p done h =
     ap (λ (n : List Note). let o : Option ℕ = Some (length n) in o) (notes_is p done.member h)
-found_is w (line.Faulty m fault) p done h = refl
+found_is w (rule.Faulty m fault) p done h = refl
 
-found_none : (e : EventLine) (p : Place Seat) → found_at e p None ≡ None
-found_none (line.Do m ask) p = refl
-found_none (line.Cut stop m ask) p = refl
-found_none (line.Restart m) p = refl
-found_none (line.Faulty m fault) p = refl
+found_none : (e : rule.Line) (p : Place Seat) → found_at e p None ≡ None
+found_none (rule.Do m ask) p = refl
+found_none (rule.Cut a c s m ask) p = refl
+found_none (rule.Restart m) p = refl
+found_none (rule.Faulty m fault) p = refl
+
+-- a line whose kind is another than a faulty member's
+pub is_honest : (k : LineKind) → ((m : ℕ) (f : rule.Fault) → k ≡ kind.Faulty m f → ⊥)
+    → IsHonest (line_of k)
+is_honest (kind.Do m ask) h = tt
+is_honest (kind.Cut stop m ask) h = tt
+is_honest (kind.Restart m) h = tt
+is_honest (kind.Faulty m f) h = h m f refl
 
 -- a member's line, from what it made of who sits in its place
-pub turn_is : (r : Rules) (w : World) (number : ℕ) (e : EventLine) (ps : List (Place Seat))
+pub turn_is : (r : Rules) (w : World) (number : ℕ) (e : rule.Line) (ps : List (Place Seat))
     (p : Place Seat) (out : Option StepOut) (o : Option Member) (pool : List Sent) (entry : Entry)
     → IsHonest e
-    → slice_get w.members (line_number e) ≡ Some o → SitAs ps w.members
-    → Makes o (option_and_then (turned_by r (signed w) (over w.pool) (line_number e) (line_of e)) o)
+    → slice_get w.members (rule.line_member e) ≡ Some o → SitAs ps w.members
+    → Makes o (option_and_then (turned_by r (signed w) (over w.pool) (rule.line_member e) e) o)
     p out
     → entry
-    ≡ entry_with number (line_number e) (found_at e p out)
-    (sent_from (length w.pool) (line_number e) (option_map_or (λ out. out.sent) out []))
+    ≡ entry_with number (rule.line_member e) (found_at e p out)
+    (sent_from (length w.pool) (rule.line_member e) (option_map_or (λ out. out.sent) out []))
     (option_map_or (λ out. out.handed) out [])
     → pool
     ≡ w.pool
-    ++ sent_from (length w.pool) (line_number e) (option_map_or (λ out. out.sent) out [])
-    → IsTurn r w number (line_of e) (slice_set ps (line_number e) p) pool entry
+    ++ sent_from (length w.pool) (rule.line_member e) (option_map_or (λ out. out.sent) out [])
+    → IsTurn r w number e (slice_set ps (rule.line_member e) p) pool entry
 turn_is r w number e ps p out o pool entry honest there members makes gives sends =
-    go (option_and_then (turned_by r (signed w) (over w.pool) (line_number e) (line_of e)) o)
+    go (option_and_then (turned_by r (signed w) (over w.pool) (rule.line_member e) e) o)
     (done_is r w e o there) makes
   where
-    go : (d : Option Stepped) → done_by r w (line_of e) ≡ d → Makes o d p out
-        → IsTurn r w number (line_of e) (slice_set ps (line_number e) p) pool entry
+    go : (d : Option Stepped) → done_by r w e ≡ d → Makes o d p out
+        → IsTurn r w number e (slice_set ps (rule.line_member e) p) pool entry
     go None is makes =
-        let after : happens r w (line_of e) ≡ w =
+        let after : happens r w e ≡ w =
         after_line r w e honest
-        ∙ ap (λ (d : Option Stepped). option_map_or (with_done w (line_number e)) d w) is in
+        ∙ ap (λ (d : Option Stepped). option_map_or (with_done w (rule.line_member e)) d w) is in
         let whole =
         entry_is r w number e honest
         ∙ ap
-        (λ (d : Option Stepped). entry_with number (line_number e)
-        (option_and_then (found_by w (line_of e)) d)
-        (sent_from (length w.pool) (line_number e)
+        (λ (d : Option Stepped). entry_with number (rule.line_member e)
+        (option_and_then (found_by w e) d)
+        (sent_from (length w.pool) (rule.line_member e)
         (option_map_or (λ done. done.sent) d []))
         (option_map_or (λ done. done.handed) d []))
         is in
         let mine =
         gives
         ∙ ap
-        (λ (x : Option StepOut). entry_with number (line_number e) (found_at e p x)
-        (sent_from (length w.pool) (line_number e)
+        (λ (x : Option StepOut). entry_with number (rule.line_member e) (found_at e p x)
+        (sent_from (length w.pool) (rule.line_member e)
         (option_map_or (λ out. out.sent) x []))
         (option_map_or (λ out. out.handed) x []))
         makes.1
-        ∙ ap (λ (f : Option ℕ). entry_with number (line_number e) f [] []) (found_none e p) in
-        let kept = members_set ps w.members (line_number e) p o members makes.0 in
+        ∙ ap (λ (f : Option ℕ). entry_with number (rule.line_member e) f [] []) (found_none e p) in
+        let kept = members_set ps w.members (rule.line_member e) p o members makes.0 in
         let sent =
         sends
         ∙ ap
         (λ (x : Option StepOut). w.pool
-        ++ sent_from (length w.pool) (line_number e)
+        ++ sent_from (length w.pool) (rule.line_member e)
         (option_map_or (λ out. out.sent) x []))
         makes.1 in
         record {
           gives = mine ∙ sym whole;
           members =
-              subst (λ (l : List (Option Member)). SitAs (slice_set ps (line_number e) p) l)
-              (set-get w.members (line_number e) o there
+              subst (λ (l : List (Option Member)). SitAs (slice_set ps (rule.line_member e) p) l)
+              (set-get w.members (rule.line_member e) o there
               ∙ sym (ap (λ (v : World). v.members) after))
               kept;
           sent = sent ∙ append-nil w.pool ∙ sym (ap (λ (v : World). v.pool) after);
         }
     go (Some done) is makes =
-        let after : happens r w (line_of e) ≡ with_done w (line_number e) done =
+        let after : happens r w e ≡ with_done w (rule.line_member e) done =
         after_line r w e honest
-        ∙ ap (λ (d : Option Stepped). option_map_or (with_done w (line_number e)) d w) is in
+        ∙ ap (λ (d : Option Stepped). option_map_or (with_done w (rule.line_member e)) d w) is in
         let whole =
         entry_is r w number e honest
         ∙ ap
-        (λ (d : Option Stepped). entry_with number (line_number e)
-        (option_and_then (found_by w (line_of e)) d)
-        (sent_from (length w.pool) (line_number e)
+        (λ (d : Option Stepped). entry_with number (rule.line_member e)
+        (option_and_then (found_by w e) d)
+        (sent_from (length w.pool) (rule.line_member e)
         (option_map_or (λ done. done.sent) d []))
         (option_map_or (λ done. done.handed) d []))
         is in
         let mine =
         gives
         ∙ ap
-        (λ (x : Option StepOut). entry_with number (line_number e) (found_at e p x)
-        (sent_from (length w.pool) (line_number e)
+        (λ (x : Option StepOut). entry_with number (rule.line_member e) (found_at e p x)
+        (sent_from (length w.pool) (rule.line_member e)
         (option_map_or (λ out. out.sent) x []))
         (option_map_or (λ out. out.handed) x []))
         makes.1
         ∙ ap
-        (λ (f : Option ℕ). entry_with number (line_number e) f
-        (sent_from (length w.pool) (line_number e) done.sent) done.handed)
+        (λ (f : Option ℕ). entry_with number (rule.line_member e) f
+        (sent_from (length w.pool) (rule.line_member e) done.sent) done.handed)
         (found_is w e p done makes.0) in
-        let kept = members_set ps w.members (line_number e) p (Some done.member) members makes.0 in
+        let kept =
+        members_set ps w.members (rule.line_member e) p (Some done.member) members makes.0 in
         let sent =
         sends
         ∙ ap
         (λ (x : Option StepOut). w.pool
-        ++ sent_from (length w.pool) (line_number e)
+        ++ sent_from (length w.pool) (rule.line_member e)
         (option_map_or (λ out. out.sent) x []))
         makes.1 in
         record {
           gives = mine ∙ sym whole;
           members =
-              subst (λ (l : List (Option Member)). SitAs (slice_set ps (line_number e) p) l)
+              subst (λ (l : List (Option Member)). SitAs (slice_set ps (rule.line_member e) p) l)
               (sym (ap (λ (v : World). v.members) after)) kept;
           sent = sent ∙ sym (ap (λ (v : World). v.pool) after);
         }
@@ -306,22 +311,23 @@ put_back r ps i j k x p h a b s =
     let none : i ≡ 0 + i = omega arith in
     rw (a, b, set-set ps i x p) (sound_set r 0 ps i p h (subst (λ (n : ℕ). WorksBy r n p) none s))
 
-pub placed : (r : Rules) (faulty : List Bool) (pool : List Sent) (ps : List (Place Seat))
-    (i j k : ℕ) (d p x new : Place Seat) (e : EventLine) (found : Option ℕ) (out : Option StepOut)
-    → i < length ps → j ≡ i → k ≡ i → p ≡ get_or ps j d
-    → found ≡ found_at e new out
+pub placed : (r : Rules) (faulty : List Bool) (pool : List Sent) (ps : List (Place Seat)) (j k : ℕ)
+    (d p x new : Place Seat) (e : rule.Line) (found : Option ℕ) (out : Option StepOut)
+    → rule.line_member e < length ps → j ≡ rule.line_member e → k ≡ rule.line_member e
+    → p ≡ get_or ps j d → found ≡ found_at e new out
     → ((o : Option Member) → SitsAs p o
-    → Makes o (option_and_then (turned_by r (table faulty pool) (over pool) i (line_of e)) o)
+    → Makes o
+    (option_and_then (turned_by r (table faulty pool) (over pool) (rule.line_member e) e) o)
     new out)
-    → IsPlaced r faulty pool i e ps (slice_set (slice_set ps j x) k new) found out
-placed r faulty pool ps i j k d p x new e found out lt a b is finds makes = record {
+    → IsPlaced r faulty pool e ps (slice_set (slice_set ps j x) k new) found out
+placed r faulty pool ps j k d p x new e found out lt a b is finds makes = record {
   before = p;
   after = new;
   was =
-      get_at ps i d lt
+      get_at ps (rule.line_member e) d lt
       ∙ ap (λ (q : Place Seat). let o : Option (Place Seat) = Some q in o)
       (sym (is ∙ ap (λ (n : ℕ). get_or ps n d) a));
-  becomes = rw (a, b) (set-set ps i x new);
+  becomes = rw (a, b) (set-set ps (rule.line_member e) x new);
   finds = finds;
   makes = makes;
 }
@@ -339,42 +345,34 @@ at_place (q ∷ ps) (o ∷ os) (suc i) p h e =
     record { member = more.member; there = more.there; is = more.is }
 
 -- a member's line, from what became of its place
-pub member_turn : (r : Rules) (w : World) (number i : ℕ) (e : EventLine) (faulty : List Bool)
+pub member_turn : (r : Rules) (w : World) (number i : ℕ) (e : rule.Line) (faulty : List Bool)
     (old new : List (Place Seat)) (found : Option ℕ) (out : Option StepOut)
     (before pool : List Sent) (entry : Entry)
-    → IsHonest e → i ≡ line_number e → IsPlaced r faulty before i e old new found out
+    → IsHonest e → i ≡ rule.line_member e → IsPlaced r faulty before e old new found out
     → SitAs old w.members → before ≡ w.pool → faulty ≡ map is_none w.members
     → entry
     ≡ entry_with number i found
     (sent_from (length before) i (option_map_or (λ out. out.sent) out []))
     (option_map_or (λ out. out.handed) out [])
     → pool ≡ before ++ sent_from (length before) i (option_map_or (λ out. out.sent) out [])
-    → IsTurn r w number (line_of e) new pool entry
+    → IsTurn r w number e new pool entry
 member_turn r w number i e faulty old new found out before pool entry honest named h members pools
     flags gives sends =
-    let at = at_place old w.members i h.before members h.was in
-    let there : slice_get w.members (line_number e) ≡ Some at.member =
-    ap (λ (k : ℕ). slice_get w.members k) (sym named) ∙ at.there in
+    let id : ℕ = rule.line_member e in
+    let at = at_place old w.members id h.before members h.was in
     let votes : table faulty before ≡ signed w =
     ap (λ (l : List Sent). table faulty l) pools ∙ flags_signed faulty w flags in
     let raw = h.makes at.member at.is in
     let makes : Makes at.member
-    (option_and_then (turned_by r (signed w) (over w.pool) (line_number e) (line_of e))
-    at.member)
-    h.after out =
+    (option_and_then (turned_by r (signed w) (over w.pool) id e) at.member) h.after out =
     subst
-    (λ (k : ℕ). Makes at.member
-    (option_and_then (turned_by r (signed w) (over w.pool) k (line_of e)) at.member) h.after
-    out)
-    named
-    (subst
     (λ (l : List Sent). Makes at.member
-    (option_and_then (turned_by r (signed w) (over l) i (line_of e)) at.member) h.after out)
+    (option_and_then (turned_by r (signed w) (over l) id e) at.member) h.after out)
     pools
     (subst
     (λ (v : ℕ → Vote → Bool). Makes at.member
-    (option_and_then (turned_by r v (over before) i (line_of e)) at.member) h.after out)
-    votes raw)) in
+    (option_and_then (turned_by r v (over before) id e) at.member) h.after out)
+    votes raw) in
     let mine =
     gives
     ∙ ap
@@ -388,8 +386,8 @@ member_turn r w number i e faulty old new found out before pool entry honest nam
     (option_map_or (λ out. out.handed) out []))
     named
     ∙ ap
-    (λ (l : List Sent). entry_with number (line_number e) (found_at e h.after out)
-    (sent_from (length l) (line_number e) (option_map_or (λ out. out.sent) out []))
+    (λ (l : List Sent). entry_with number id (found_at e h.after out)
+    (sent_from (length l) id (option_map_or (λ out. out.sent) out []))
     (option_map_or (λ out. out.handed) out []))
     pools in
     let sent =
@@ -400,13 +398,12 @@ member_turn r w number i e faulty old new found out before pool entry honest nam
     named
     ∙ ap
     (λ (l : List Sent). l
-    ++ sent_from (length l) (line_number e) (option_map_or (λ out. out.sent) out []))
+    ++ sent_from (length l) id (option_map_or (λ out. out.sent) out []))
     pools in
     let done =
-    turn_is r w number e old h.after out at.member pool entry honest there members makes mine
+    turn_is r w number e old h.after out at.member pool entry honest at.there members makes mine
     sent in
-    subst (λ (l : List (Place Seat)). IsTurn r w number (line_of e) l pool entry)
-    (sym (h.becomes ∙ ap (λ (k : ℕ). slice_set old k h.after) named)) done
+    subst (λ (l : List (Place Seat)). IsTurn r w number e l pool entry) (sym h.becomes) done
 
 -- what a faulty member sends is asked for over the messages alone
 sends_over : (r : Rules) (w : World) (a : ℕ) (f : rule.Fault)
@@ -419,45 +416,45 @@ sends_over r w a (rule.Nullify_of view) = refl
 sends_over r w a (rule.Raw message) = refl
 
 -- such a line makes nothing of a member
-nothing_done : (r : Rules) (w : World) (m : ℕ) (f : Fault)
-    → done_by r w (line_of (line.Faulty m f)) ≡ None
+nothing_done : (r : Rules) (w : World) (m : ℕ) (f : rule.Fault)
+    → done_by r w (rule.Faulty m f) ≡ None
 nothing_done r w m f = of (member_at w m)
   where
-    of : (o : Option Member) → option_and_then (turned r w m (rule.Faulty m (fault_of f))) o ≡ None
+    of : (o : Option Member) → option_and_then (turned r w m (rule.Faulty m f)) o ≡ None
     of None = refl
     of (Some x) = refl
 
-abbrev fault_entry : World → ℕ → ℕ → Fault → List Sent → Option Stepped → Entry
+abbrev fault_entry : World → ℕ → ℕ → rule.Fault → List Sent → Option Stepped → Entry
 fault_entry w number m f sent d =
     record {
       line = number;
       member = None;
-      found = option_and_then (found_by w (rule.Faulty m (fault_of f))) d;
+      found = option_and_then (found_by w (rule.Faulty m f)) d;
       sent = sent;
       handed = option_map_or (λ done. done.handed) d [];
     }
 
 -- a faulty member's line
-pub fault_turn : (r : Rules) (w : World) (number i : ℕ) (m : ℕ) (f : Fault)
+pub fault_turn : (r : Rules) (w : World) (number i : ℕ) (m : ℕ) (f : rule.Fault)
     (places : List (Place Seat)) (before pool : List Sent) (entry : Entry)
     → i ≡ m → SitAs places w.members → before ≡ w.pool
     → entry ≡ record {
       line = number;
       member = None;
       found = None;
-      sent = sent_from (length before) i (rule.fault_sends r (over before) i (fault_of f));
+      sent = sent_from (length before) i (rule.fault_sends r (over before) i f);
       handed = [];
     }
-    → pool ≡ before ++ sent_from (length before) i (rule.fault_sends r (over before) i (fault_of f))
-    → IsTurn r w number (line_of (line.Faulty m f)) places pool entry
+    → pool ≡ before ++ sent_from (length before) i (rule.fault_sends r (over before) i f)
+    → IsTurn r w number (rule.Faulty m f) places pool entry
 fault_turn r w number i m f places before pool entry named members pools gives sends =
     let sent : List Sent → List Sent =
-    λ (l : List Sent). sent_from (length l) i (rule.fault_sends r (over l) i (fault_of f)) in
-    let whole : sent before ≡ sent_from (length w.pool) m (rule.fault_sends r w m (fault_of f)) =
+    λ (l : List Sent). sent_from (length l) i (rule.fault_sends r (over l) i f) in
+    let whole : sent before ≡ sent_from (length w.pool) m (rule.fault_sends r w m f) =
     ap sent pools
-    ∙ ap (λ (k : ℕ). sent_from (length w.pool) k (rule.fault_sends r (over w.pool) k (fault_of f)))
+    ∙ ap (λ (k : ℕ). sent_from (length w.pool) k (rule.fault_sends r (over w.pool) k f))
     named
-    ∙ ap (λ (l : List Out). sent_from (length w.pool) m l) (sends_over r w m (fault_of f)) in
+    ∙ ap (λ (l : List Out). sent_from (length w.pool) m l) (sends_over r w m f) in
     record {
       gives =
           gives
@@ -473,7 +470,7 @@ fault_turn r w number i m f places before pool entry named members pools gives s
           ∙ sym
           (ap
           (fault_entry w number m f
-          (sent_from (length w.pool) m (rule.fault_sends r w m (fault_of f))))
+          (sent_from (length w.pool) m (rule.fault_sends r w m f)))
           (nothing_done r w m f));
       members = members;
       sent =

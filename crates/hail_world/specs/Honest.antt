@@ -3,27 +3,27 @@ use Rattle.std.specs.Prelude.{ℕ, ◌≡◌, Bool, List, Option, Some, option_a
 use Rattle.cw_types.specs.declared.event.StepOut.{StepOut}
 use Rattle.cw_rules.specs.Rules.{Rules}
 use Rattle.cw_rules.specs.Step.{Member}
-use Rattle.cw_rules.specs.World.{Sent}
-use Rattle.hail_script.specs.Events.{line_of}
-use Rattle.hail_script.specs.declared.event.EventLine.{EventLine}
-use Rattle.hail_script.specs.declared.event.EventLine.TheVariants as line
+use Rattle.cw_rules.specs.World.{Faulty, Line, Sent, line_member}
 use Rattle.hail_world.specs.declared.place.Place.{Place}
 use Rattle.hail_world.specs.Places.{SitsAs, Makes, found_at, over, table, turned_by}
 use Rattle.hail_world.specs.Seats.{Seat}
 
 -- a line that isn't of a faulty member
-abbrev pub IsHonest : EventLine → Type 0
-IsHonest (line.Faulty m fault) = ⊥
+abbrev pub IsHonest : Line → Type 0
+IsHonest (Faulty m fault) = ⊥
 IsHonest _ = Unit {0}
 
 -- one place is another, and what it gave is what the rules make of the member who sat there
-pub record IsPlaced (r : Rules) (faulty : List Bool) (pool : List Sent) (i : ℕ) (e : EventLine)
+pub record IsPlaced (r : Rules) (faulty : List Bool) (pool : List Sent) (line : Line)
     (old new : List (Place Seat)) (found : Option ℕ) (out : Option StepOut) : Type 0 where
   pub before : Place Seat
   pub after : Place Seat
-  pub was : slice_get old i ≡ Some before
-  pub becomes : new ≡ slice_set old i after
-  pub finds : found ≡ found_at e after out
+  pub was : slice_get old (line_member line) ≡ Some before
+  pub becomes : new ≡ slice_set old (line_member line) after
+  pub finds : found ≡ found_at line after out
   pub makes : (o : Option Member) → SitsAs before o
-      → Makes o (option_and_then (turned_by r (table faulty pool) (over pool) i (line_of e)) o)
+      → Makes o
+      (option_and_then
+      (turned_by r (table faulty pool) (over pool) (line_member line) line)
+      o)
       after out

@@ -14,8 +14,6 @@ use Rattle.cw_rules.specs.World.{Ask, Cut, Do, Faulty, Line, Restart, Sent, Worl
 use Rattle.cw_rules_coded.specs.Coded.{ruled}
 use Rattle.marshal.specs.Frames.{FindsNotes}
 use Rattle.node_disk.specs.Memory.{MemoryState, is_calm, memory_state, reopened_disk}
-use Rattle.hail_script.specs.declared.event.EventLine.{EventLine}
-use Rattle.hail_script.specs.declared.event.EventLine.TheVariants as line
 use Rattle.hail_script.specs.Scenario.{Scenario}
 use Rattle.hail_world.specs.declared.place.Place.{Place}
 use Rattle.hail_world.specs.declared.place.Place.TheVariants as place
@@ -107,8 +105,8 @@ Makes o None place out = SitsAs place o × (out ≡ None)
 Makes o (Some done) place out = SitsAs place (Some done.member) × (out ≡ Some (out_of done))
 
 -- how many notes a restart found, where it started its member
-abbrev pub found_at : EventLine → Place Seat → Option StepOut → Option ℕ
-found_at (line.Restart m) p (Some out) = Some (length (notes_at p))
+abbrev pub found_at : Line → Place Seat → Option StepOut → Option ℕ
+found_at (Restart m) p (Some out) = Some (length (notes_at p))
 found_at _ p out = None
 
 -- a stopped member: its disk, reopened, and the notes on it

@@ -15,6 +15,7 @@ use crate::line_turn::turn_line;
 use crate::place::Place;
 use crate::report::Ran;
 use crate::seat::Seat;
+use crate::setting::Setting;
 use crate::world::{open_all, report_of};
 use cw_base::{Digest32, Hasher, Items, NoMemory, Strategy};
 use hail_report::{Entry, Pool};
@@ -111,17 +112,19 @@ impl<H: Hasher<Digest = Digest32>, W: Way> Cluster<H, W> {
         // Until the line was played to its end.
         self.over = true;
         self.script.is_cluster();
-        let line = &self.script.lines()[at];
+        let setting = Setting {
+            script: &self.script,
+            faulty: &self.faulty,
+            pool: &self.pool,
+            number,
+            line: &self.script.lines()[at],
+        };
         let entry = match turn_line::<H, W, R, S>(
             rt,
             alloc,
-            &self.script,
-            &self.faulty,
+            &setting,
             &mut self.places,
             &mut self.known,
-            &self.pool,
-            number,
-            line,
             strategy,
         ) {
             Ok(entry) => entry,

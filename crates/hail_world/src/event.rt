@@ -1,42 +1,24 @@
 //! The event that a line asks a member for, over the messages that were sent.
 
-ghost use Rattle.std.specs.Prelude.{◌≡◌, false, IfOk};
+ghost use Rattle.std.specs.Prelude.{◌≡◌, IfOk};
 ghost use Rattle.std.specs.Option.{option_map};
 ghost use Rattle.cw_rules.specs.World as rule;
-ghost use Rattle.hail_script.specs.Admission.{asks_oversize};
-ghost use Rattle.hail_script.specs.Grammar.{is_oversize};
-ghost use Rattle.hail_script.specs.Events.{ask_of};
-ghost use Rattle.hail_world.specs.Places.{marked, over, table};
+ghost use Rattle.hail_world.specs.Places.{marked, over};
 ghost use Rattle.hail_report.specs.Pool.{sent_in};
 
 use cw_base::NoMemory;
-use cw_types::{Event, Message, Payload, To, Verifier, Vote};
+use cw_types::{Event, Message, To, Vote};
 use hail_report::Pool;
-use hail_script::Ask;
+use hail_script::{Ask, AskKind};
 use std::alloc::Global;
 
-/// The table of votes: a faulty member signed all, an honest one those that it sent.
-#[derive(Drop)]
-pub(crate) struct Table<'a> {
-    pub(crate) faulty: &'a [bool],
-    pub(crate) pool: &'a Pool,
-}
-
+/// Whether a member is marked as faulty.
 pub(crate) fn is_faulty(faulty: &[bool], member: u16) -> bool
     ensures { result ≡ marked faulty.now member }
 {
     match faulty.get(usize::from(member)) {
         Some(faulty) => *faulty,
         None => false,
-    }
-}
-
-impl Verifier for Table<'_> {
-    ghost signs = { λ votes member vote. table votes.faulty.now
-        (sent_in votes.pool.now) member vote };
-
-    fn signed(&self, member: u16, vote: &Vote) -> bool {
-        is_faulty(self.faulty, member) || self.pool.has_vote(member, vote)
     }
 }
 
@@ -77,16 +59,6 @@ fn finalization(alloc: Global, message: &Message) -> Result<Option<Event>, NoMem
     }
 }
 
-pub(crate) fn proposing(alloc: Global, payload: &[u8]) -> Result<Payload, NoMemory>
-    requires { is_oversize payload.now ≡ false }
-    ensures { IfOk result (λ made. made ≡ payload.now) }
-{
-    match Payload::new(Vec::from_slice(alloc, payload)?) {
-        Ok(payload) => Ok(payload),
-        Err(_) => unreachable!(),
-    }
-}
-
 fn delivered(
     alloc: Global,
     pool: &Pool,
@@ -119,17 +91,16 @@ pub(crate) fn event_for(
     member: u16,
     ask: &Ask,
 ) -> Result<Option<Event>, NoMemory>
-    requires { asks_oversize ask.now ≡ false }
     ensures { IfOk result
-        (λ event. event ≡ rule.event_of (over (sent_in pool.now)) member (ask_of ask.now)) }
+        (λ event. event ≡ rule.event_of (over (sent_in pool.now)) member ask.now) }
 {
-    match ask {
-        Ask::Propose(payload) => Ok(Some(Event::Propose(proposing(alloc, payload.as_slice())?))),
-        Ask::Timeout(view) => Ok(Some(Event::Timeout(*view))),
-        Ask::Deliver(number) => delivered(alloc, pool, member, *number),
-        Ask::Ack => Ok(Some(Event::Ack)),
-        Ask::Prune(height) => Ok(Some(Event::Prune(*height))),
-        Ask::Floor(number) => floor_of(alloc, pool, member, *number),
-        Ask::Hint(height) => Ok(Some(Event::Hint(*height))),
+    match ask.kind() {
+        AskKind::Propose(payload) => Ok(Some(Event::Propose(payload.copy(alloc)?))),
+        AskKind::Timeout(view) => Ok(Some(Event::Timeout(*view))),
+        AskKind::Deliver(number) => delivered(alloc, pool, member, *number),
+        AskKind::Ack => Ok(Some(Event::Ack)),
+        AskKind::Prune(height) => Ok(Some(Event::Prune(*height))),
+        AskKind::Floor(number) => floor_of(alloc, pool, member, *number),
+        AskKind::Hint(height) => Ok(Some(Event::Hint(*height))),
     }
 }

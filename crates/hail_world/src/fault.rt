@@ -1,6 +1,6 @@
 //! What a faulty member sends.
 
-ghost use Rattle.std.specs.Prelude.{◌≡◌, ◌++◌, ◌<◌, ◌∷◌, [], IfOk, OnOk, IsTrue, false, map};
+ghost use Rattle.std.specs.Prelude.{◌≡◌, ◌++◌, ◌<◌, ◌∷◌, [], IfOk, OnOk, IsTrue, map};
 ghost use Rattle.std.specs.Prelude.{option_map, filter_map, ℕ, Bool};
 ghost use Rattle.cw_types.specs.Reading.{message_of};
 ghost use Rattle.cw_types.specs.Block.{Block};
@@ -12,14 +12,10 @@ ghost use Rattle.cw_rules.specs.Sends.{block_sends, chunk_out, to_all as all};
 ghost use Rattle.cw_rules.specs.World as rule;
 ghost use Rattle.cw_rules_coded.specs.Coded.{uncut};
 ghost use Rattle.shards.specs.Kept.{rules_of as cut_by};
-ghost use Rattle.hail_script.specs.Admission.{offers_oversize};
-ghost use Rattle.hail_script.specs.Events.{fault_of};
-ghost use Rattle.hail_script.specs.Grammar.{is_oversize};
 ghost use Rattle.hail_world.specs.Offers as offers;
 ghost use Rattle.hail_world.specs.Places.{over, rules_of};
 ghost use Rattle.hail_report.specs.Pool.{sent_in};
 
-use crate::event::proposing;
 use cw_base::{Digest32, Hasher, Items, NoMemory, Reader, Strategy};
 use cw_coding::Chunk;
 use cw_rules::Travel;
@@ -29,7 +25,7 @@ use cw_types::{
     genesis, genesis_commitment,
 };
 use hail_report::Pool;
-use hail_script::{Fault, Script};
+use hail_script::{Fault, FaultKind, Script};
 use node::whole_commit;
 use shards::cut_block;
 use std::alloc::Global;
@@ -251,15 +247,14 @@ fn offer<H: Hasher<Digest = Digest32>, R: Threads + Sync, S: Strategy>(
     script: &Script,
     member: u16,
     view: u64,
-    payload: &[u8],
+    payload: &Payload,
     strategy: &S,
 ) -> Result<Items<Out>, NoMemory>
-    requires { is_oversize payload.now ≡ false }
     ensures { IfOk result
         (λ outs. outs ≡ offers.offer (rules_of H.digest_of script.now) member view payload.now) }
 {
     let committees = script.committees(alloc)?;
-    let block = offered::<H>(alloc, &committees, view, proposing(alloc, payload)?)?;
+    let block = offered::<H>(alloc, &committees, view, payload.copy(alloc)?)?;
     let (commitment, mut outs) = go_out::<H, R, S>(rt, alloc, script, member, block, strategy)?;
     let proposal = Proposal {
         epoch: 0,
@@ -281,31 +276,24 @@ pub(crate) fn fault_sends<H: Hasher<Digest = Digest32>, R: Threads + Sync, S: St
     fault: &Fault,
     strategy: &S,
 ) -> Result<Items<Out>, NoMemory>
-    requires { offers_oversize fault.now ≡ false }
     ensures { IfOk result
         (λ outs. outs ≡ rule.fault_sends (rules_of H.digest_of script.now)
-        (over (sent_in pool.now)) member (fault_of fault.now)) }
+        (over (sent_in pool.now)) member fault.now) }
 {
-    match fault {
-        Fault::Silent => Ok(Items::new(alloc)),
-        Fault::Offer(view, payload) => offer::<H, R, S>(
-            rt,
-            alloc,
-            script,
-            member,
-            *view,
-            payload.as_slice(),
-            strategy,
-        ),
-        Fault::Notarize(number) => again(alloc, pool, member, *number, false),
-        Fault::Finalize(number) => again(alloc, pool, member, *number, true),
-        Fault::Nullify(view) => {
+    match fault.kind() {
+        FaultKind::Silent => Ok(Items::new(alloc)),
+        FaultKind::Offer(view, payload) => {
+            offer::<H, R, S>(rt, alloc, script, member, *view, payload, strategy)
+        }
+        FaultKind::Notarize(number) => again(alloc, pool, member, *number, false),
+        FaultKind::Finalize(number) => again(alloc, pool, member, *number, true),
+        FaultKind::Nullify(view) => {
             let vote = Vote::Nullify {
                 epoch: 0,
                 view: *view,
             };
             one(alloc, Message::Vote(member, vote))
         }
-        Fault::Raw(bytes) => one(alloc, read_message(alloc, bytes.as_slice())?),
+        FaultKind::Raw(bytes) => one(alloc, read_message(alloc, bytes.as_slice())?),
     }
 }

@@ -15,6 +15,7 @@ mod play;
 mod program;
 mod report;
 mod seat;
+mod setting;
 mod turn;
 mod world;
 

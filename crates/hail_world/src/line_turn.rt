@@ -1,12 +1,9 @@
 //! The turn of one line, until a clash.
 
-ghost use Rattle.std.specs.Prelude.{◌≡◌, ◌<◌, ◌^◌, ◌++◌, ◌∷◌, ℕ, [], List, Some, false, length};
-ghost use Rattle.std.specs.Prelude.{slice_get, IfOk, IfErr, IsTrue};
+ghost use Rattle.std.specs.Prelude.{◌≡◌, ◌<◌, ◌++◌, ◌∷◌, ℕ, [], List, Some, length};
+ghost use Rattle.std.specs.Prelude.{slice_get, IfOk, IfErr};
 ghost use Rattle.cw_rules.specs.Report.{entry_of};
 ghost use Rattle.cw_rules.specs.World.{Line, World as RulesWorld, run};
-ghost use Rattle.hail_script.specs.Admission as admission;
-ghost use Rattle.hail_script.specs.Events.{line_of};
-ghost use Rattle.hail_script.specs.Grammar.{is_later, names_oversize};
 ghost use Rattle.hail_world.specs.Played.{lines_of};
 ghost use Rattle.hail_world.specs.Places.{WorkBy, notes_at as notes_in, rules_of};
 ghost use Rattle.hail_world.specs.declared.place.Place.{Place as PlaceValue};
@@ -19,11 +16,12 @@ use crate::clash::find_clash;
 use crate::place::Place;
 use crate::play::play;
 use crate::seat::Seat;
+use crate::setting::Setting;
 use crate::turn::notes_at;
 use cw_base::{Digest32, Hasher, Strategy};
 use cw_rules::cluster_laws;
-use hail_report::{Entry, Pool};
-use hail_script::{EventLine, RunError, Script, member_of};
+use hail_report::Entry;
+use hail_script::RunError;
 use node::Way;
 use std::alloc::Global;
 use std::thread::Threads;
@@ -32,51 +30,45 @@ use std::thread::Threads;
 pub(crate) fn turn_line<H: Hasher<Digest = Digest32>, W: Way, R: Threads + Sync, S: Strategy>(
     rt: &R,
     alloc: Global,
-    script: &Script,
-    faulty: &[bool],
+    setting: &Setting<'_>,
     places: &mut [Place<Seat<H, W>>],
     known: &mut KnownBlocks,
-    pool: &Pool,
-    number: u64,
-    line: &EventLine,
     strategy: &S,
 ) -> Result<Entry, RunError>
-    requires way { script.now.travel ≡ W.travel }
-    requires there { admission.member_of line.now < length places.old }
-    requires few { length places.old < 2 ^ 16 }
-    requires count { length places.old ≡ script.now.committees.total }
-    requires sound { WorkBy (rules_of H.digest_of script.now) 0 places.old }
-    requires short { names_oversize (line_of line.now) ≡ false }
-    requires later { IsTrue (is_later (line_of line.now)) }
+    requires way { setting.now.script.now.travel ≡ W.travel }
+    requires count { length places.old ≡ setting.now.script.now.committees.total }
+    requires sound { WorkBy (rules_of H.digest_of setting.now.script.now) 0 places.old }
     ensures played { (w : RulesWorld) (rows : List (ℕ × Line))
-        → Begin (rules_of H.digest_of script.now) w (lines_of rows ++ line_of line.now ∷ [])
-        → HavePlayed (rules_of H.digest_of script.now) w rows pool.now places.old known.old
-        faulty.now
+        → Begin (rules_of H.digest_of setting.now.script.now) w
+        (lines_of rows ++ setting.now.line.now ∷ [])
+        → HavePlayed (rules_of H.digest_of setting.now.script.now) w rows setting.now.pool.now
+        places.old known.old setting.now.faulty.now
         → IfOk result
-        (λ entry. HavePlayed (rules_of H.digest_of script.now) w
-        (rows ++ (number, line_of line.now) ∷ [])
-        (pool.now ++ entry ∷ []) places.new known.new faulty.now) }
+        (λ entry. HavePlayed (rules_of H.digest_of setting.now.script.now) w
+        (rows ++ (setting.now.number, setting.now.line.now) ∷ [])
+        (setting.now.pool.now ++ entry ∷ []) places.new known.new setting.now.faulty.now) }
     ensures gives { (w : RulesWorld) (rows : List (ℕ × Line))
-        → HavePlayed (rules_of H.digest_of script.now) w rows pool.now places.old known.old
-        faulty.now
+        → HavePlayed (rules_of H.digest_of setting.now.script.now) w rows setting.now.pool.now
+        places.old known.old setting.now.faulty.now
         → IfOk result
-        (λ entry. entry ≡ entry_of (rules_of H.digest_of script.now)
-        (run (rules_of H.digest_of script.now) w (lines_of rows)) number (line_of line.now)) }
-    ensures sound { IfOk result (λ _. WorkBy (rules_of H.digest_of script.now) 0 places.new) }
+        (λ entry. entry ≡ entry_of (rules_of H.digest_of setting.now.script.now)
+        (run (rules_of H.digest_of setting.now.script.now) w (lines_of rows)) setting.now.number
+        setting.now.line.now) }
+    ensures sound { IfOk result
+        (λ _. WorkBy (rules_of H.digest_of setting.now.script.now) 0 places.new) }
     ensures err { (w : RulesWorld) (rows : List (ℕ × Line))
-        → Begin (rules_of H.digest_of script.now) w (lines_of rows ++ line_of line.now ∷ [])
-        → HavePlayed (rules_of H.digest_of script.now) w rows pool.now places.old known.old
-        faulty.now
+        → Begin (rules_of H.digest_of setting.now.script.now) w
+        (lines_of rows ++ setting.now.line.now ∷ [])
+        → HavePlayed (rules_of H.digest_of setting.now.script.now) w rows setting.now.pool.now
+        places.old known.old setting.now.faulty.now
         → IfErr result
-        (λ e. IsStopped (rules_of H.digest_of script.now) w
-        (lines_of rows ++ line_of line.now ∷ []) e) }
+        (λ e. IsStopped (rules_of H.digest_of setting.now.script.now) w
+        (lines_of rows ++ setting.now.line.now ∷ []) e) }
 {
     cluster_laws();
-    let id = member_of(line) as usize;
+    let id = usize::from(setting.line.member());
     let old = notes_before::<H, W>(places, id);
-    let entry = play(
-        rt, alloc, script, faulty, places, pool, number, line, strategy,
-    )?;
+    let entry = play(rt, alloc, setting, places, strategy)?;
     if let Some((earlier, later)) = find_clash::<H, W>(alloc, known, places, id, old)? {
         return Err(RunError::HashClash(earlier, later));
     }

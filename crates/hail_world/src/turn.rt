@@ -6,11 +6,9 @@ ghost use Rattle.cw_types.specs.declared.note.Note.{Note as NoteValue};
 ghost use Rattle.cw_types.specs.declared.event.Event.{Event as EventValue};
 ghost use Rattle.cw_rules.specs.Step.{Member, Stepped, cut_step, start};
 ghost use Rattle.cw_rules.specs.World as rule;
+ghost use Rattle.cw_rules.specs.World.{line_member};
 ghost use Rattle.marshal.specs.Frames.{FindsNotes};
 ghost use Rattle.node_disk.specs.Memory.{is_calm, memory_state};
-ghost use Rattle.hail_script.specs.Admission.{asks_oversize};
-ghost use Rattle.hail_script.specs.Events.{ask_of, line_of};
-ghost use Rattle.hail_script.specs.Grammar.{is_later, names_oversize};
 ghost use Rattle.hail_world.specs.Places.{DiskHolds, IsPutOut, Makes, SitsAs, WorksBy};
 ghost use Rattle.hail_world.specs.Places.{did, did_cut};
 ghost use Rattle.hail_world.specs.Places.{over, rules_of, starts_again, table, turned_by};
@@ -19,12 +17,13 @@ ghost use Rattle.hail_world.specs.declared.place.Place.TheVariants.{Live};
 ghost use Rattle.hail_report.specs.Pool.{sent_in};
 ghost use Rattle.hail_world.specs.Seats.{HasStepped, Works, out_of, rules_by};
 
-use crate::event::{Table, event_for};
+use crate::event::event_for;
 use crate::place::Place;
 use crate::seat::{Seat, SeatNode, start, step};
+use crate::setting::Setting;
 use cw_base::{Digest32, Hasher, Items, NoMemory, Strategy};
 use cw_types::{Event, Note, StepOut};
-use hail_script::{Ask, EventLine, Script, Stop};
+use hail_script::{Ask, EventLine, LineKind, Script, Stop};
 use marshal::notes_on;
 use node::Way;
 use node_disk::{MemoryDisk, StoreError, law_of_a_stop};
@@ -35,7 +34,7 @@ use std::thread::Threads;
 fn take_event<H: Hasher<Digest = Digest32>, W: Way, R: Threads + Sync, S: Strategy>(
     rt: &R,
     alloc: Global,
-    votes: &Table<'_>,
+    setting: &Setting<'_>,
     node: &mut SeatNode<H, W>,
     event: &Event,
     strategy: &S,
@@ -44,10 +43,11 @@ fn take_event<H: Hasher<Digest = Digest32>, W: Way, R: Threads + Sync, S: Strate
     requires calm { is_calm node.old.log.disk ≡ true }
     ensures steps { IfOk result
         (λ out. HasStepped (rules_by H.digest_of node.old)
-        (table votes.now.faulty.now (sent_in votes.now.pool.now)) event.now node.old node.new out) }
+        (table setting.now.faulty.now (sent_in setting.now.pool.now)) event.now node.old node.new
+        out) }
     ensures calm { IfOk result (λ out. is_calm node.new.log.disk ≡ true) }
 {
-    match step(rt, alloc, node, event, votes, strategy) {
+    match step(rt, alloc, node, event, setting, strategy) {
         Ok(out) => Ok(out),
         Err(StoreError::NoMemory) => Err(NoMemory),
         Err(StoreError::Disk) => unreachable!(),
@@ -88,7 +88,7 @@ fn nothing(alloc: Global) -> StepOut
 fn cut_event<H: Hasher<Digest = Digest32>, W: Way, R: Threads + Sync, S: Strategy>(
     rt: &R,
     alloc: Global,
-    votes: &Table<'_>,
+    setting: &Setting<'_>,
     mut node: SeatNode<H, W>,
     stop: Stop,
     event: &Event,
@@ -96,16 +96,15 @@ fn cut_event<H: Hasher<Digest = Digest32>, W: Way, R: Threads + Sync, S: Strateg
 ) -> Result<(Place<Seat<H, W>>, StepOut), NoMemory>
     requires works { Works node }
     requires calm { is_calm node.log.disk ≡ true }
-    requires later { 0 < stop.call }
     ensures cut { let done = cut_step (rules_by H.digest_of node) node.id
-        (table votes.now.faulty.now
-        (sent_in votes.now.pool.now)) node.member stop.call stop.cut stop.fill event.now in
+        (table setting.now.faulty.now
+        (sent_in setting.now.pool.now)) node.member stop.call stop.cut stop.fill event.now in
         IfOk result (λ made. SitsAs made.0 (Some done.member) × (made.1 ≡ out_of done)) }
     ensures sound { IfOk result (λ made. WorksBy (rules_by H.digest_of node) node.id made.0) }
 {
     law_of_a_stop();
     node.stop_at(stop.call, stop.cut, stop.fill);
-    match step(rt, alloc, &mut node, event, votes, strategy) {
+    match step(rt, alloc, &mut node, event, setting, strategy) {
         Ok(out) => Ok((stopped(alloc, node)?, out)),
         Err(StoreError::Disk) => Ok((stopped(alloc, node)?, nothing(alloc))),
         Err(StoreError::NoMemory) => {
@@ -145,7 +144,7 @@ pub(crate) fn restart<H: Hasher<Digest = Digest32>, W: Way, R: Threads + Sync, S
 fn event_taken<H: Hasher<Digest = Digest32>, W: Way, R: Threads + Sync, S: Strategy>(
     rt: &R,
     alloc: Global,
-    votes: &Table<'_>,
+    setting: &Setting<'_>,
     seat: Seat<H, W>,
     event: &Event,
     strategy: &S,
@@ -154,11 +153,12 @@ fn event_taken<H: Hasher<Digest = Digest32>, W: Way, R: Threads + Sync, S: Strat
     requires calm { is_calm seat.log.disk ≡ true }
     ensures steps { IfOk result
         (λ made. HasStepped (rules_by H.digest_of seat)
-        (table votes.now.faulty.now (sent_in votes.now.pool.now)) event.now seat made.0 made.1) }
+        (table setting.now.faulty.now (sent_in setting.now.pool.now)) event.now seat made.0
+        made.1) }
     ensures calm { IfOk result (λ made. is_calm made.0.log.disk ≡ true) }
 {
     let Seat { mut node } = seat;
-    match take_event(rt, alloc, votes, &mut node, event, strategy) {
+    match take_event(rt, alloc, setting, &mut node, event, strategy) {
         Ok(out) => Ok((Seat { node }, out)),
         Err(error) => {
             drop(node);
@@ -171,28 +171,27 @@ fn event_taken<H: Hasher<Digest = Digest32>, W: Way, R: Threads + Sync, S: Strat
 fn asked_live<H: Hasher<Digest = Digest32>, W: Way, R: Threads + Sync, S: Strategy>(
     rt: &R,
     alloc: Global,
-    script: &Script,
-    votes: &Table<'_>,
+    setting: &Setting<'_>,
     id: u16,
     seat: Seat<H, W>,
     ask: &Ask,
     strategy: &S,
 ) -> Result<(Place<Seat<H, W>>, Option<StepOut>), NoMemory>
-    requires sound { WorksBy (rules_of H.digest_of script.now) id (Live seat) }
-    requires short { asks_oversize ask.now ≡ false }
+    requires sound { WorksBy (rules_of H.digest_of setting.now.script.now) id (Live seat) }
     ensures makes { (o : Option Member) → SitsAs (Live seat) o
-        → let signed = table votes.now.faulty.now (sent_in votes.now.pool.now) in
+        → let signed = table setting.now.faulty.now (sent_in setting.now.pool.now) in
         IfOk result
         (λ made. Makes o
         (option_and_then
-        (did (rules_of H.digest_of script.now) signed (over (sent_in votes.now.pool.now)) id
-        (ask_of ask.now)) o) made.0 made.1) }
-    ensures sound { IfOk result (λ made. WorksBy (rules_of H.digest_of script.now) id made.0) }
+        (did (rules_of H.digest_of setting.now.script.now) signed
+        (over (sent_in setting.now.pool.now)) id ask.now) o) made.0 made.1) }
+    ensures sound { IfOk result
+        (λ made. WorksBy (rules_of H.digest_of setting.now.script.now) id made.0) }
 {
-    match event_for(alloc, votes.pool, id, ask) {
+    match event_for(alloc, setting.pool, id, ask) {
         Ok(None) => Ok((Place::Live(seat), None)),
         Ok(Some(event)) => {
-            let made = event_taken(rt, alloc, votes, seat, &event, strategy);
+            let made = event_taken(rt, alloc, setting, seat, &event, strategy);
             drop(event);
             let (seat, out) = made?;
             Ok((Place::Live(seat), Some(out)))
@@ -208,26 +207,25 @@ fn asked_live<H: Hasher<Digest = Digest32>, W: Way, R: Threads + Sync, S: Strate
 fn asked<H: Hasher<Digest = Digest32>, W: Way, R: Threads + Sync, S: Strategy>(
     rt: &R,
     alloc: Global,
-    script: &Script,
-    votes: &Table<'_>,
+    setting: &Setting<'_>,
     id: u16,
     place: Place<Seat<H, W>>,
     ask: &Ask,
     strategy: &S,
 ) -> Result<(Place<Seat<H, W>>, Option<StepOut>), NoMemory>
-    requires sound { WorksBy (rules_of H.digest_of script.now) id place }
-    requires short { asks_oversize ask.now ≡ false }
+    requires sound { WorksBy (rules_of H.digest_of setting.now.script.now) id place }
     ensures makes { (o : Option Member) → SitsAs place o
-        → let signed = table votes.now.faulty.now (sent_in votes.now.pool.now) in
+        → let signed = table setting.now.faulty.now (sent_in setting.now.pool.now) in
         IfOk result
         (λ made. Makes o
         (option_and_then
-        (did (rules_of H.digest_of script.now) signed (over (sent_in votes.now.pool.now)) id
-        (ask_of ask.now)) o) made.0 made.1) }
-    ensures sound { IfOk result (λ made. WorksBy (rules_of H.digest_of script.now) id made.0) }
+        (did (rules_of H.digest_of setting.now.script.now) signed
+        (over (sent_in setting.now.pool.now)) id ask.now) o) made.0 made.1) }
+    ensures sound { IfOk result
+        (λ made. WorksBy (rules_of H.digest_of setting.now.script.now) id made.0) }
 {
     match place {
-        Place::Live(seat) => asked_live(rt, alloc, script, votes, id, seat, ask, strategy),
+        Place::Live(seat) => asked_live(rt, alloc, setting, id, seat, ask, strategy),
         other => Ok((other, None)),
     }
 }
@@ -236,32 +234,30 @@ fn asked<H: Hasher<Digest = Digest32>, W: Way, R: Threads + Sync, S: Strategy>(
 fn cut_live<H: Hasher<Digest = Digest32>, W: Way, R: Threads + Sync, S: Strategy>(
     rt: &R,
     alloc: Global,
-    script: &Script,
-    votes: &Table<'_>,
+    setting: &Setting<'_>,
     id: u16,
     seat: Seat<H, W>,
     stop: Stop,
     ask: &Ask,
     strategy: &S,
 ) -> Result<(Place<Seat<H, W>>, Option<StepOut>), NoMemory>
-    requires sound { WorksBy (rules_of H.digest_of script.now) id (Live seat) }
-    requires short { asks_oversize ask.now ≡ false }
-    requires later { 0 < stop.call }
+    requires sound { WorksBy (rules_of H.digest_of setting.now.script.now) id (Live seat) }
     ensures makes { (o : Option Member) → SitsAs (Live seat) o
-        → let signed = table votes.now.faulty.now (sent_in votes.now.pool.now) in
+        → let signed = table setting.now.faulty.now (sent_in setting.now.pool.now) in
         IfOk result
         (λ made. Makes o
         (option_and_then
-        (did_cut (rules_of H.digest_of script.now) signed
-        (over (sent_in votes.now.pool.now)) id stop.call stop.cut stop.fill
-        (ask_of ask.now)) o) made.0 made.1) }
-    ensures sound { IfOk result (λ made. WorksBy (rules_of H.digest_of script.now) id made.0) }
+        (did_cut (rules_of H.digest_of setting.now.script.now) signed
+        (over (sent_in setting.now.pool.now)) id stop.call stop.cut stop.fill ask.now) o)
+        made.0 made.1) }
+    ensures sound { IfOk result
+        (λ made. WorksBy (rules_of H.digest_of setting.now.script.now) id made.0) }
 {
-    match event_for(alloc, votes.pool, id, ask) {
+    match event_for(alloc, setting.pool, id, ask) {
         Ok(None) => Ok((Place::Live(seat), None)),
         Ok(Some(event)) => {
             let Seat { node } = seat;
-            let made = cut_event(rt, alloc, votes, node, stop, &event, strategy);
+            let made = cut_event(rt, alloc, setting, node, stop, &event, strategy);
             drop(event);
             let (place, out) = made?;
             Ok((place, Some(out)))
@@ -277,29 +273,27 @@ fn cut_live<H: Hasher<Digest = Digest32>, W: Way, R: Threads + Sync, S: Strategy
 fn cut<H: Hasher<Digest = Digest32>, W: Way, R: Threads + Sync, S: Strategy>(
     rt: &R,
     alloc: Global,
-    script: &Script,
-    votes: &Table<'_>,
+    setting: &Setting<'_>,
     id: u16,
     place: Place<Seat<H, W>>,
     stop: Stop,
     ask: &Ask,
     strategy: &S,
 ) -> Result<(Place<Seat<H, W>>, Option<StepOut>), NoMemory>
-    requires sound { WorksBy (rules_of H.digest_of script.now) id place }
-    requires short { asks_oversize ask.now ≡ false }
-    requires later { 0 < stop.call }
+    requires sound { WorksBy (rules_of H.digest_of setting.now.script.now) id place }
     ensures makes { (o : Option Member) → SitsAs place o
-        → let signed = table votes.now.faulty.now (sent_in votes.now.pool.now) in
+        → let signed = table setting.now.faulty.now (sent_in setting.now.pool.now) in
         IfOk result
         (λ made. Makes o
         (option_and_then
-        (did_cut (rules_of H.digest_of script.now) signed
-        (over (sent_in votes.now.pool.now)) id stop.call stop.cut stop.fill
-        (ask_of ask.now)) o) made.0 made.1) }
-    ensures sound { IfOk result (λ made. WorksBy (rules_of H.digest_of script.now) id made.0) }
+        (did_cut (rules_of H.digest_of setting.now.script.now) signed
+        (over (sent_in setting.now.pool.now)) id stop.call stop.cut stop.fill ask.now) o)
+        made.0 made.1) }
+    ensures sound { IfOk result
+        (λ made. WorksBy (rules_of H.digest_of setting.now.script.now) id made.0) }
 {
     match place {
-        Place::Live(seat) => cut_live(rt, alloc, script, votes, id, seat, stop, ask, strategy),
+        Place::Live(seat) => cut_live(rt, alloc, setting, id, seat, stop, ask, strategy),
         other => Ok((other, None)),
     }
 }
@@ -308,61 +302,58 @@ fn cut<H: Hasher<Digest = Digest32>, W: Way, R: Threads + Sync, S: Strategy>(
 fn restarted<H: Hasher<Digest = Digest32>, W: Way, R: Threads + Sync, S: Strategy>(
     rt: &R,
     alloc: Global,
-    script: &Script,
+    setting: &Setting<'_>,
     id: u16,
     place: Place<Seat<H, W>>,
     strategy: &S,
 ) -> Result<(Place<Seat<H, W>>, Option<StepOut>), NoMemory>
-    requires way { script.now.travel ≡ W.travel }
-    requires known { id < script.now.committees.total }
-    requires sound { WorksBy (rules_of H.digest_of script.now) id place }
+    requires way { setting.now.script.now.travel ≡ W.travel }
+    requires member { id ≡ line_member setting.now.line.now }
+    requires sound { WorksBy (rules_of H.digest_of setting.now.script.now) id place }
     ensures makes { (o : Option Member) → SitsAs place o
         → IfOk result
         (λ made. Makes o
-        (option_and_then (starts_again (rules_of H.digest_of script.now) id) o) made.0 made.1) }
-    ensures sound { IfOk result (λ made. WorksBy (rules_of H.digest_of script.now) id made.0) }
+        (option_and_then (starts_again (rules_of H.digest_of setting.now.script.now) id) o)
+        made.0 made.1) }
+    ensures sound { IfOk result
+        (λ made. WorksBy (rules_of H.digest_of setting.now.script.now) id made.0) }
 {
     match place {
         Place::Stopped(disk, _) => {
-            let (place, out) = restart(rt, alloc, script, id, disk, strategy)?;
+            let (place, out) = restart(rt, alloc, setting.script, id, disk, strategy)?;
             Ok((place, Some(out)))
         }
         other => Ok((other, None)),
     }
 }
 
-/// What a line makes of who sits in the place of the member that it names.
+/// What the line makes of who sits in the place of the member that it names.
 pub(crate) fn take_turn<H: Hasher<Digest = Digest32>, W: Way, R: Threads + Sync, S: Strategy>(
     rt: &R,
     alloc: Global,
-    script: &Script,
-    votes: &Table<'_>,
+    setting: &Setting<'_>,
     id: u16,
     place: Place<Seat<H, W>>,
-    line: &EventLine,
     strategy: &S,
 ) -> Result<(Place<Seat<H, W>>, Option<StepOut>), NoMemory>
-    requires way { script.now.travel ≡ W.travel }
-    requires known { id < script.now.committees.total }
-    requires sound { WorksBy (rules_of H.digest_of script.now) id place }
-    requires short { names_oversize (line_of line.now) ≡ false }
-    requires later { IsTrue (is_later (line_of line.now)) }
+    requires way { setting.now.script.now.travel ≡ W.travel }
+    requires member { id ≡ line_member setting.now.line.now }
+    requires sound { WorksBy (rules_of H.digest_of setting.now.script.now) id place }
     ensures makes { (o : Option Member) → SitsAs place o
-        → let signed = table votes.now.faulty.now (sent_in votes.now.pool.now) in
+        → let signed = table setting.now.faulty.now (sent_in setting.now.pool.now) in
         IfOk result
         (λ made. Makes o
         (option_and_then
-        (turned_by (rules_of H.digest_of script.now) signed
-        (over (sent_in votes.now.pool.now)) id (line_of line.now)) o) made.0 made.1) }
-    ensures sound { IfOk result (λ made. WorksBy (rules_of H.digest_of script.now) id made.0) }
+        (turned_by (rules_of H.digest_of setting.now.script.now) signed
+        (over (sent_in setting.now.pool.now)) id setting.now.line.now) o) made.0 made.1) }
+    ensures sound { IfOk result
+        (λ made. WorksBy (rules_of H.digest_of setting.now.script.now) id made.0) }
 {
-    match line {
-        EventLine::Do(_, ask) => asked(rt, alloc, script, votes, id, place, ask, strategy),
-        EventLine::Cut(stop, _, ask) => {
-            cut(rt, alloc, script, votes, id, place, *stop, ask, strategy)
-        }
-        EventLine::Restart(_) => restarted(rt, alloc, script, id, place, strategy),
-        EventLine::Faulty(..) => Ok((place, None)),
+    match setting.line.kind() {
+        LineKind::Do(_, ask) => asked(rt, alloc, setting, id, place, ask, strategy),
+        LineKind::Cut(stop, _, ask) => { cut(rt, alloc, setting, id, place, *stop, ask, strategy) }
+        LineKind::Restart(_) => restarted(rt, alloc, setting, id, place, strategy),
+        LineKind::Faulty(..) => Ok((place, None)),
     }
 }
 
@@ -385,8 +376,8 @@ pub(crate) fn found_at<H: Hasher<Digest = Digest32>, W: Way>(
 ) -> Option<u64>
     ensures { result ≡ places.found_at line.now place.now out.now }
 {
-    match (line, out) {
-        (EventLine::Restart(_), Some(_)) => Some(notes_at::<H, W>(place).len() as u64),
+    match (line.kind(), out) {
+        (LineKind::Restart(_), Some(_)) => Some(notes_at::<H, W>(place).len() as u64),
         _ => None,
     }
 }

@@ -10,8 +10,6 @@ use Rattle.cw_rules.specs.Rules.{Rules}
 use Rattle.cw_rules.specs.World.{Line, World, opening}
 use Rattle.hail_script.specs.declared.error.RunError.{RunError}
 use Rattle.hail_script.specs.declared.error.RunError.TheVariants as error
-use Rattle.hail_script.specs.declared.event.EventLine.{EventLine}
-use Rattle.hail_script.specs.Events.{line_of}
 use Rattle.hail_script.specs.Lanes.{Laned, laned_of, lanes, rows}
 use Rattle.hail_script.specs.Scenario.{Scenario}
 use Rattle.hail_world.specs.Clusters.{Cluster, steps_in, world_in}
@@ -20,14 +18,12 @@ use Rattle.hail_world.specs.Places.{rules_of}
 use Rattle.hail_world.specs.Played.{lines_of}
 use Rattle.hail_world.specs.Runs.{IsStopped, opened}
 use Rattle.hailstorm.specs.Turns.{HasAdvanced, IsBetween, IsOver, IsTurnBy, IsTurnOf, IsTurning, Turning, between, told_order}
-use Rattle.hail_world.proofs.Known.{count_lines}
 use Rattle.hail_world.proofs.Turned.{entries_more}
 use Rattle.hailstorm.proofs.Laned.{TellsApart, count_rows, is_over, lanes_clashed, lines_then, next_row, turns_then}
 use Rattle.hailstorm.proofs.Merging.{fewer_left, left_more}
 
-pub rows_many : (x : Laned) (es : List EventLine) → map line_of es ≡ x.script.lines
-    → length (rows x) ≡ length es
-rows_many x es is = count_rows x ∙ ap (λ (l : List Line). length l) (sym is) ∙ count_lines es
+pub rows_many : (x : Laned) (es : List Line) → es ≡ x.script.lines → length (rows x) ≡ length es
+rows_many x es is = count_rows x ∙ ap (λ (l : List Line). length l) (sym is)
 
 module _ (hash : List ℕ → Digest32) (x : Laned) (order : List ℕ) (stopped : Option RunError)
     (cluster : Cluster) (cursors : List (ℕ × ℕ))

@@ -1,6 +1,5 @@
 -- A member that starts stands for the notes of its store.
-use Rattle.std.proofs.Common.{◌≡◌, ℕ, ◌<◌, Bool, true, false, ◌==◌, List, [], ◌∷◌, ◌++◌, length, filter, map, take, None, option_and_then, refl, sym, ◌∙◌, ap, subst, append_assoc, append-nil, arith, get_or, zero, suc}
-use Rattle.std.specs.List.{list_all}
+use Rattle.std.proofs.Common.{◌≡◌, ℕ, ◌<◌, Bool, true, false, ◌==◌, List, [], ◌∷◌, ◌++◌, filter, map, take, None, option_and_then, refl, sym, ◌∙◌, ap, subst, append_assoc, append-nil, arith, zero, suc}
 use Rattle.cw_base.specs.declared.hash.Digest32.{Digest32}
 use Rattle.cw_types.specs.Block.{Block}
 use Rattle.cw_types.specs.declared.commitment.Commitment.{Commitment}
@@ -29,11 +28,7 @@ use Rattle.node.specs.Store.{Store, stored_notes}
 use Rattle.node.specs.declared.leads.Led.{Led}
 use Rattle.voter.specs.Known.{Known, unknowing, with_note}
 use Rattle.voter.specs.Standing as voter
-use Rattle.std.specs.Prelude.{nat_lt, ◌^◌}
-use Rattle.std.proofs.lemmas.Bool.{and_parts, le-ltb}
-use Rattle.cw_types.specs.Values.{is_storable}
-use Rattle.cw_types.specs.Votes.{well_formed}
-use Rattle.note_scans.specs.Countable.{is_countable}
+use Rattle.std.proofs.lemmas.Bool.{le-ltb}
 use Rattle.marshal.proofs.Floors.{no_notes}
 use Rattle.node.proofs.Noting.{notes_on}
 
@@ -57,22 +52,6 @@ stands_told hash r law (note ∷ notes) t s stands =
     (λ (u : State). voter.IsTallyOf hash
     (record t { notes = (t.notes ++ note ∷ []) ++ notes }) r u)
     (notes_on s (note ∷ []) notes) more)
-
--- a note that can be stored can be counted
-pub storable_countable : (note : Note) → is_storable note ≡ true → is_countable note ≡ true
-storable_countable (Note.Cert c) h =
-    (and_parts (well_formed c.vote) (nat_lt (length c.signers) (2 ^ 16)) h).0
-storable_countable (Note.Vote v) h = h
-storable_countable (Note.Certified p) h = h
-storable_countable _ h = refl
-
--- what passes of all passes at each place
-pub all_at : {X : Type 0} (p : X → Bool) (xs : List X) (i : ℕ) (x : X) → list_all p xs ≡ true
-    → i < length xs → x ≡ get_or xs i x → p x ≡ true
-all_at p [] i x all l e = absurd (omega arith)
-all_at p (y ∷ ys) zero x all l e = ap p e ∙ (and_parts (p y) (list_all p ys) all).0
-all_at p (y ∷ ys) (suc i) x all l e =
-    all_at p ys i x (and_parts (p y) (list_all p ys) all).1 (omega arith) e
 
 filter_all : {X : Type 0} (xs : List X) → filter (λ x. true) xs ≡ xs
 filter_all [] = refl

@@ -1,14 +1,14 @@
 -- What a step did to the disk, by where it ended.
-use Rattle.std.proofs.Common.{◌≡◌, ap, List, [], Result, Ok, Err, refl, sym, subst, arith, append-nil}
+use Rattle.std.proofs.Common.{◌≡◌, ap, List, [], Result, Ok, Err, refl, sym, subst, arith}
 use Rattle.std.specs.Prelude.{IsErrAnd}
 use Rattle.cw_types.specs.declared.note.Note.{Note}
 use Rattle.marshal.specs.Frames.{FindsAllOrNone, frame_bytes}
 use Rattle.node_disk.specs.Disk.{DiskState, LeavesOnly}
-use Rattle.node_disk.specs.Log.{LogState, calls_of_append, start_calls}
+use Rattle.node_disk.specs.Log.{LogState, calls_of_append}
 use Rattle.node_disk.specs.declared.log.StoreError.{StoreError}
 use Rattle.node_disk.specs.declared.log.StoreError.TheVariants as store
 use Rattle.node_disk.proofs.Moments.{told_none}
-use Rattle.node.specs.Disks.{HasFound, HasTried, WasRefused}
+use Rattle.node.specs.Disks.{HasTried}
 
 -- an error that is want of memory
 pub err_is : {X : Type 0} (r : Result X StoreError) → IsErrAnd r (λ e. e ≡ store.NoMemory)
@@ -44,25 +44,3 @@ module _ {D : Type 0} (state : D → DiskState) (continues : D → D → Type 0)
         faults = omega arith;
         goes_on = itself old.disk;
       })
-
--- a start that found its frames, and was refused for memory then
-pub found_refused : {D : Type 0} (state : D → DiskState) (continues : D → D → Type 0)
-    (frames : List (List Note)) (old new : D)
-    → HasFound state continues frames old new → WasRefused state continues store.NoMemory old new
-found_refused state continues frames old new found = record {
-  any_moment = found.any_moment;
-  foreign = λ place e. cc;
-  foreign_again = λ place e. cc;
-  calls_foreign = λ place e. cc;
-  calls_failed = λ e. cc;
-  calls_no_memory =
-      λ e. record {
-        did = start_calls (state old).now.seen;
-        rest = [];
-        whole = sym (append-nil (start_calls (state old).now.seen));
-        told = found.calls;
-      };
-  cause = λ e. cc;
-  faults = found.faults;
-  goes_on = found.goes_on;
-}

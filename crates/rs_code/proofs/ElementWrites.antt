@@ -12,11 +12,3 @@ one_more xs place v f within before value p h =
     ∙ get_or-set_same xs place v 0 within ∙ value ∙ ap f (sym last))
     (λ other. get_or-set_other xs place p v 0 other ∙ before p (omega (arith, h, other)))
     (cases_eq p place)
-
--- the others stay
-pub rest_stay : (xs : List ℕ) (place v : ℕ) (f : ℕ → ℕ) →
-    ((p : ℕ) → place ≤ p → get_or xs p 0 ≡ f p) →
-    (p : ℕ) → place + 1 ≤ p → get_or (set xs place v) p 0 ≡ f p
-rest_stay xs place v f before p h =
-    let apart : p ≢ place = λ e. absurd (omega (arith, h, e)) in
-    get_or-set_other xs place p v 0 apart ∙ before p (omega (arith, h))

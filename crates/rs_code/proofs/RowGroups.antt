@@ -16,14 +16,6 @@ fewer a b width h =
     absurd (omega (arith, h, whole))))
     (cases_lt a b)
 
-fewer_or_same : (a b width : ℕ) → 0 < width → a * width ≤ b * width → a ≤ b
-fewer_or_same a b width some h =
-    ⊎_elim
-    (λ more.
-    (let whole : suc b * width ≤ a * width = mul-le-mul_right width more in
-    absurd (omega (arith, h, whole, some))))
-    (λ less. less) (cases_lt b a)
-
 -- the smaller number of rows has the smaller number of bytes
 smaller : (a b width : ℕ) → min (a * width) (b * width) ≡ min a b * width
 smaller a b width =

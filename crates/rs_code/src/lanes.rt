@@ -10,6 +10,7 @@ use crate::gf16;
 pub type Eight = [u16; 8];
 
 /// The sum of two in each lane.
+#[inline(always)]
 pub fn sum_of_two(a: &Eight, b: &Eight) -> Eight
     ensures { (l : ℕ) → l < 8
         → slice_index result l ≡ bit_xor (slice_index a.now l) (slice_index b.now l) }
@@ -116,6 +117,7 @@ pub fn products(a: &Eight, b: &Eight) -> Eight
 }
 
 // The product with elements of eight bits.
+#[inline(always)]
 fn by_eight_bits(a: &Eight, b: &Eight) -> Eight
     ensures { (l : ℕ) → l < 8 → slice_index b.now l < 256
         → slice_index result l ≡ times (slice_index a.now l) (slice_index b.now l) }
@@ -127,6 +129,7 @@ fn by_eight_bits(a: &Eight, b: &Eight) -> Eight
 }
 
 // The product with elements of four bits.
+#[inline(always)]
 fn by_four_bits(a: &Eight, b: &Eight) -> Eight
     ensures { (l : ℕ) → l < 8 → slice_index b.now l < 16
         → slice_index result l ≡ times (slice_index a.now l) (slice_index b.now l) }
@@ -138,6 +141,7 @@ fn by_four_bits(a: &Eight, b: &Eight) -> Eight
 }
 
 // The product with elements of two bits.
+#[inline(always)]
 fn by_two_bits(a: &Eight, b: &Eight) -> Eight
     ensures { (l : ℕ) → l < 8 → slice_index b.now l < 4
         → slice_index result l ≡ times (slice_index a.now l) (slice_index b.now l) }
@@ -149,6 +153,7 @@ fn by_two_bits(a: &Eight, b: &Eight) -> Eight
 }
 
 // The product with 0 or 1 in each lane.
+#[inline(always)]
 fn by_bits(a: &Eight, b: &Eight) -> Eight
     ensures { (l : ℕ) → l < 8 → slice_index b.now l < 2
         → slice_index result l ≡ times (slice_index a.now l) (slice_index b.now l) }
@@ -173,6 +178,7 @@ fn by_bit(a: u16, b: u16) -> u16
 }
 
 // What each lane leaves over a power of two.
+#[inline(always)]
 fn low_parts(a: &Eight, size: u16) -> Eight
     requires { 0 < size }
     ensures { (l : ℕ) → l < 8 → slice_index result l ≡ slice_index a.now l % size }
@@ -190,6 +196,7 @@ fn low_parts(a: &Eight, size: u16) -> Eight
 }
 
 // How often each lane holds a power of two.
+#[inline(always)]
 fn high_parts(a: &Eight, size: u16) -> Eight
     requires { 0 < size }
     ensures { (l : ℕ) → l < 8 → slice_index result l ≡ slice_index a.now l / size }
@@ -207,6 +214,7 @@ fn high_parts(a: &Eight, size: u16) -> Eight
 }
 
 /// The product with 2 in each lane.
+#[inline(always)]
 pub fn each_by_2(a: &Eight) -> Eight
     ensures { (l : ℕ) → l < 8 → slice_index result l ≡ times (slice_index a.now l) 2 }
 {
@@ -223,6 +231,7 @@ pub fn each_by_2(a: &Eight) -> Eight
 }
 
 /// The product with 4 in each lane.
+#[inline(always)]
 pub fn each_by_4(a: &Eight) -> Eight
     ensures { (l : ℕ) → l < 8 → slice_index result l ≡ times (slice_index a.now l) 4 }
 {
@@ -239,6 +248,7 @@ pub fn each_by_4(a: &Eight) -> Eight
 }
 
 /// The product with 16 in each lane.
+#[inline(always)]
 pub fn each_by_16(a: &Eight) -> Eight
     ensures { (l : ℕ) → l < 8 → slice_index result l ≡ times (slice_index a.now l) 16 }
 {
@@ -255,6 +265,7 @@ pub fn each_by_16(a: &Eight) -> Eight
 }
 
 /// The product with 256 in each lane.
+#[inline(always)]
 pub fn each_by_256(a: &Eight) -> Eight
     ensures { (l : ℕ) → l < 8 → slice_index result l ≡ times (slice_index a.now l) 256 }
 {

@@ -138,9 +138,10 @@ fn forward_by_tables(first: &mut [u16], second: &mut [u16], low: &[u16], high: &
         → slice_index second.new p ≡ slice_index second.old p }
 {
     for place in 0..count {
-        let sum = first[place] ^ product(low, high, second[place]);
+        let other = second[place];
+        let sum = first[place] ^ product(low, high, other);
         first[place] = sum;
-        second[place] = sum ^ second[place];
+        second[place] = sum ^ other;
     }
 }
 
@@ -186,9 +187,10 @@ fn back_by_tables(first: &mut [u16], second: &mut [u16], low: &[u16], high: &[u1
         (slice_index low.now (slice_index second.new p % 256))) }
 {
     for place in 0..first.len() {
-        let sum = first[place] ^ second[place];
+        let own = first[place];
+        let sum = own ^ second[place];
         second[place] = sum;
-        first[place] ^= product(low, high, sum);
+        first[place] = own ^ product(low, high, sum);
     }
 }
 

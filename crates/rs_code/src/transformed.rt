@@ -15,7 +15,7 @@ use std::alloc::{AllocError, Global};
 
 // How many coefficients are worked on at once: with their values they stay in the caches near the
 // processor.
-const SYMBOLS: usize = 262144;
+const SYMBOLS: usize = 1048576;
 
 // For how many originals and recoveries rows are made, the exponent of the least power of two that
 // is no less than the originals, and the inverted divisors.
@@ -62,7 +62,7 @@ pub fn fill_transformed(
     let scales = scales();
     let setting = Setting { k, m, t, scales };
     let columns = wide / 2;
-    let each = columns_at_once(t);
+    let each = columns_at_once(columns, t);
     for block in 0..pieces(columns, each) {
         let start = each * block;
         let n = (columns - start).min(each);
@@ -110,13 +110,15 @@ fn pieces(total: usize, each: usize) -> usize
     (total + each - 1) / each
 }
 
-// How many columns are worked on at once.
-fn columns_at_once(t: usize) -> usize
+// How many columns are worked on at once: as many in each piece, but for the last one.
+fn columns_at_once(columns: usize, t: usize) -> usize
     requires { t ≤ 16 }
     ensures some { 1 ≤ result }
     ensures few { result ≤ 4096 }
 {
-    (SYMBOLS / size(t)).max(256).min(4096)
+    let most = (SYMBOLS / size(t)).max(256).min(4096);
+    let count = columns.div_ceil(most).max(1);
+    columns.div_ceil(count).max(1).min(most)
 }
 
 // Writes the recovery rows' symbols in a block of columns.

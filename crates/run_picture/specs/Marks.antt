@@ -42,9 +42,14 @@ shape_of flights row live l =
     if stops flights row live l then codes "cross"
     else if is_void flights row l then codes "void" else line_shape l
 
--- the colour of a line: that of its message
+-- the colour of what is asked: that of its message
+abbrev pub ask_class : Ask → List ℕ
+ask_class (Timeout view) = codes "x"
+ask_class _ = codes "ink"
+
+-- and of a line
 abbrev pub own_class : Line → List ℕ
-own_class (Do member (Timeout view)) = codes "x"
+own_class (Do member ask) = ask_class ask
 own_class _ = codes "ink"
 
 abbrev pub told_class : Option Flight → Line → List ℕ

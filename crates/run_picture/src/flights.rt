@@ -3,7 +3,6 @@
 ghost use Rattle.std.specs.Prelude.{◌≡◌, ◌≤◌, ◌+◌, ◌++◌, IfOk, OnOk, length, map};
 ghost use Rattle.std.specs.Prelude.{option_and_then, option_map, slice_get};
 ghost use Rattle.cw_rules.specs.World as rule;
-ghost use Rattle.hail_script.specs.Events.{ask_of, line_of};
 ghost use Rattle.run_picture.specs.Steps as spec;
 
 use crate::lines::{asks, member_of, number_in};
@@ -11,7 +10,7 @@ use crate::steps::Step;
 use crate::told::{Said, Says, is_finalization};
 use cw_base::NoMemory;
 use cw_types::To;
-use hail_script::{Ask, EventLine};
+use hail_script::{Ask, AskKind, EventLine};
 use std::alloc::Global;
 
 /// A message on its way: the row and the line that sent it, its sender, and what it says.
@@ -54,7 +53,7 @@ fn put_sent(flights: &mut Vec<Flight>, row: u16, step: &Step) -> Result<(), NoMe
 
 /// The message that a line brings.
 pub(crate) fn brought<'a>(flights: &'a [Flight], row: u16, line: &EventLine) -> Option<&'a Flight>
-    ensures { option_map (λ f. f.now) result ≡ spec.brought flights.now row (line_of line.now) }
+    ensures { option_map (λ f. f.now) result ≡ spec.brought flights.now row line.now }
 {
     match asks(line) {
         Some(ask) => taken(flights, row, member_of(line), ask),
@@ -64,7 +63,7 @@ pub(crate) fn brought<'a>(flights: &'a [Flight], row: u16, line: &EventLine) -> 
 
 // The message that is asked for, where it reaches the member.
 fn taken<'a>(flights: &'a [Flight], row: u16, member: u64, ask: &Ask) -> Option<&'a Flight>
-    ensures { option_map (λ f. f.now) result ≡ spec.taken flights.now row member (ask_of ask.now) }
+    ensures { option_map (λ f. f.now) result ≡ spec.taken flights.now row member ask.now }
 {
     match number_in(ask) {
         Some(number) => reaching(flights, row, member, ask, number),
@@ -80,7 +79,7 @@ fn reaching<'a>(
     number: u64,
 ) -> Option<&'a Flight>
     ensures { option_map (λ f. f.now) result
-        ≡ option_and_then (spec.if_reaches row member (ask_of ask.now))
+        ≡ option_and_then (spec.if_reaches row member ask.now)
         (slice_get flights.now number) }
 {
     match flights.get(number as usize) {
@@ -96,7 +95,7 @@ fn reaching<'a>(
 }
 
 fn reaches(row: u16, member: u64, ask: &Ask, flight: &Flight) -> bool
-    ensures { result ≡ spec.reaches row member (ask_of ask.now) flight.now }
+    ensures { result ≡ spec.reaches row member ask.now flight.now }
 {
     flight.row < row && (is_to(flight.said.to, member) && serves(ask, &flight.said.says))
 }
@@ -111,17 +110,17 @@ fn is_to(to: To, member: u64) -> bool
 }
 
 fn serves(ask: &Ask, says: &Says) -> bool
-    ensures { result ≡ spec.serves (ask_of ask.now) says.now }
+    ensures { result ≡ spec.serves ask.now says.now }
 {
-    match ask {
-        Ask::Floor(_) => is_finalization(says),
+    match ask.kind() {
+        AskKind::Floor(_) => is_finalization(says),
         _ => true,
     }
 }
 
 /// Whether what a line asks for is there.
 pub(crate) fn can_be(flights: &[Flight], row: u16, line: &EventLine) -> bool
-    ensures { result ≡ spec.can_be flights.now row (line_of line.now) }
+    ensures { result ≡ spec.can_be flights.now row line.now }
 {
     match asks(line) {
         Some(ask) => is_there(flights, row, member_of(line), ask),
@@ -130,7 +129,7 @@ pub(crate) fn can_be(flights: &[Flight], row: u16, line: &EventLine) -> bool
 }
 
 fn is_there(flights: &[Flight], row: u16, member: u64, ask: &Ask) -> bool
-    ensures { result ≡ spec.is_there flights.now row member (ask_of ask.now) }
+    ensures { result ≡ spec.is_there flights.now row member ask.now }
 {
     if number_in(ask).is_some() {
         return taken(flights, row, member, ask).is_some();

@@ -1,7 +1,6 @@
 //! Which members are live.
 
 ghost use Rattle.std.specs.Prelude.{◌≡◌, IfOk, map, not, slice_set};
-ghost use Rattle.hail_script.specs.Events.{line_of};
 ghost use Rattle.run_picture.specs.Steps as spec;
 
 use crate::flights::{Flight, can_be};
@@ -32,14 +31,14 @@ pub(crate) fn honest(alloc: Global, faulty: &[bool]) -> Result<Vec<bool>, NoMemo
 
 /// Whether a line asks a live member for what is there.
 pub(crate) fn acts(flights: &[Flight], row: u16, live: &[bool], line: &EventLine) -> bool
-    ensures { result ≡ spec.acts flights.now row live.now (line_of line.now) }
+    ensures { result ≡ spec.acts flights.now row live.now line.now }
 {
     is_marked(live, member_of(line)) && can_be(flights, row, line)
 }
 
 /// Whether the member stops at the line.
 pub(crate) fn stops(flights: &[Flight], row: u16, live: &[bool], line: &EventLine) -> bool
-    ensures { result ≡ spec.stops flights.now row live.now (line_of line.now) }
+    ensures { result ≡ spec.stops flights.now row live.now line.now }
 {
     is_cut(line) && acts(flights, row, live, line)
 }

@@ -2,7 +2,6 @@
 
 ghost use Rattle.std.specs.Prelude.{◌≡◌, ◌≤◌, ◌<◌, ◌^◌, ◌++◌, IfOk, OnOk, length, map, not};
 ghost use Rattle.std.specs.Prelude.{string_bytes};
-ghost use Rattle.hail_script.specs.Events.{ask_of, line_of};
 ghost use Rattle.run_picture.specs.Marks as spec;
 
 use crate::elements::put_mark_of;
@@ -14,7 +13,7 @@ use crate::live::{acts, honest, pass, stops};
 use crate::steps::Step;
 use crate::told::class_of;
 use cw_base::NoMemory;
-use hail_script::{Ask, EventLine};
+use hail_script::{Ask, AskKind, EventLine, LineKind};
 use std::alloc::Global;
 
 /// A mark for each line at its member's lane, in a picture of so many members.
@@ -93,44 +92,44 @@ fn put_label(
 }
 
 fn ask_shape(ask: &Ask) -> &'static str
-    ensures { result.now ≡ spec.ask_shape (ask_of ask.now) }
+    ensures { result.now ≡ spec.ask_shape ask.now }
 {
-    match ask {
-        Ask::Propose(_) => "box",
-        Ask::Deliver(_) => "dot",
-        Ask::Timeout(_) => "gem",
-        Ask::Floor(_) => "tri",
-        Ask::Hint(_) => "tri",
-        Ask::Ack => "ring",
-        Ask::Prune(_) => "ring",
+    match ask.kind() {
+        AskKind::Propose(_) => "box",
+        AskKind::Deliver(_) => "dot",
+        AskKind::Timeout(_) => "gem",
+        AskKind::Floor(_) => "tri",
+        AskKind::Hint(_) => "tri",
+        AskKind::Ack => "ring",
+        AskKind::Prune(_) => "ring",
     }
 }
 
 fn line_shape(line: &EventLine) -> &'static str
-    ensures { result.now ≡ spec.line_shape (line_of line.now) }
+    ensures { result.now ≡ spec.line_shape line.now }
 {
-    match line {
-        EventLine::Do(_, ask) => ask_shape(ask),
-        EventLine::Cut(_, _, ask) => ask_shape(ask),
-        EventLine::Restart(_) => "ring",
-        EventLine::Faulty(..) => "box",
+    match line.kind() {
+        LineKind::Do(_, ask) => ask_shape(ask),
+        LineKind::Cut(_, _, ask) => ask_shape(ask),
+        LineKind::Restart(_) => "ring",
+        LineKind::Faulty(..) => "box",
     }
 }
 
 // Whether the line asks for a message that isn't there.
 fn is_void(flights: &[Flight], row: u16, line: &EventLine) -> bool
-    ensures { result ≡ spec.is_void flights.now row (line_of line.now) }
+    ensures { result ≡ spec.is_void flights.now row line.now }
 {
-    match line {
-        EventLine::Do(..) => !can_be(flights, row, line),
-        EventLine::Cut(..) => !can_be(flights, row, line),
-        EventLine::Restart(_) => false,
-        EventLine::Faulty(..) => false,
+    match line.kind() {
+        LineKind::Do(..) => !can_be(flights, row, line),
+        LineKind::Cut(..) => !can_be(flights, row, line),
+        LineKind::Restart(_) => false,
+        LineKind::Faulty(..) => false,
     }
 }
 
 fn shape_of(flights: &[Flight], row: u16, live: &[bool], line: &EventLine) -> &'static str
-    ensures { result.now ≡ spec.shape_of flights.now row live.now (line_of line.now) }
+    ensures { result.now ≡ spec.shape_of flights.now row live.now line.now }
 {
     if stops(flights, row, live, line) {
         return "cross";
@@ -141,11 +140,20 @@ fn shape_of(flights: &[Flight], row: u16, live: &[bool], line: &EventLine) -> &'
     line_shape(line)
 }
 
-fn own_class(line: &EventLine) -> &'static str
-    ensures { result.now ≡ spec.own_class (line_of line.now) }
+fn ask_class(ask: &Ask) -> &'static str
+    ensures { result.now ≡ spec.ask_class ask.now }
 {
-    match line {
-        EventLine::Do(_, Ask::Timeout(_)) => "x",
+    match ask.kind() {
+        AskKind::Timeout(_) => "x",
+        _ => "ink",
+    }
+}
+
+fn own_class(line: &EventLine) -> &'static str
+    ensures { result.now ≡ spec.own_class line.now }
+{
+    match line.kind() {
+        LineKind::Do(_, ask) => ask_class(ask),
         _ => "ink",
     }
 }

@@ -19,14 +19,13 @@ pub struct Step<'a> {
 }
 
 impl<'a> Model for Step<'a> {
-    ghost use Rattle.hail_script.specs.Events.{line_of};
     ghost use Rattle.run_picture.specs.Steps.{Step};
 
     ghost Value = { Step };
 
     ghost view = { λ s. record {
       number = s.number;
-      line = line_of s.line.now;
+      line = s.line.now;
       found = s.found;
       sent = s.sent;
       handed = s.handed;

@@ -1,7 +1,8 @@
-//! What a user supplies to a member: who signed what, and which block may stand over which.
+//! What a user supplies to a member: which block may stand over which, who signed what, and the way
+//! of a message.
 
 use anyhow::Result;
-use cw_types::{Application, ChainBlock, Message, Verifier, Vote};
+use cw_types::{Application, ChainBlock, Event, Message, Out, To, Verifier, Vote};
 use std::alloc::Global;
 
 /// The application: no payload is shorter than the one below.
@@ -20,9 +21,7 @@ impl Application for Rising {
 
 /// The verifier: a table of the votes that were signed, each with its signer.
 #[derive(Drop)]
-pub(crate) struct Signed {
-    votes: Vec<(u16, Vote)>,
-}
+pub(crate) struct Signed(Vec<(u16, Vote)>);
 
 impl Verifier for Signed {
     ghost use Rattle.std.specs.Prelude.{◌&&◌, ◌==◌};
@@ -30,25 +29,40 @@ impl Verifier for Signed {
     ghost use Rattle.cw_types.specs.Same.{same_vote};
 
     ghost signs = { λ signed member vote.
-        list_any (λ one. one.0 == member && same_vote one.1 vote) signed.votes.items };
+        list_any (λ one. one.0 == member && same_vote one.1 vote) signed.0.items };
 
     fn signed(&self, member: u16, vote: &Vote) -> bool {
-        let mut votes = self.votes.iter();
+        let mut votes = self.0.iter();
         votes.any(|one| one.0 == member && one.1.is_same(vote))
     }
 }
 
-impl Signed {
-    /// Nobody signed anything yet.
-    pub(crate) fn new(alloc: Global) -> Signed {
-        let votes = Vec::new(alloc);
-        Signed { votes }
+/// The network: what is to happen at whom, in order. Whoever sends a vote signs it.
+#[derive(Drop)]
+pub(crate) struct Network {
+    pub(crate) signed: Signed,
+    pub(crate) due: Vec<(u16, Event)>,
+}
+
+impl Network {
+    /// Nobody signed anything yet, and nothing is due.
+    pub(crate) fn new(alloc: Global) -> Network {
+        Network {
+            signed: Signed(Vec::new(alloc)),
+            due: Vec::new(alloc),
+        }
     }
 
-    /// A member signs a vote as it sends it.
-    pub(crate) fn add(&mut self, sender: u16, message: &Message) -> Result<()> {
-        if let Message::Vote(_, vote) = message {
-            self.votes.push((sender, *vote))?;
+    /// What a member sends is due at each of the four to whom it goes.
+    pub(crate) fn send(&mut self, alloc: Global, sender: u16, out: &Out) -> Result<()> {
+        if let Message::Vote(_, vote) = &out.message {
+            self.signed.0.push((sender, *vote))?;
+        }
+        for to in 0..4 {
+            if out.to == To::All || out.to == To::One(to) {
+                let message = out.message.copy(alloc)?;
+                self.due.push((to, Event::Deliver(message)))?;
+            }
         }
         Ok(())
     }

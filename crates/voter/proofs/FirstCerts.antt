@@ -1,13 +1,11 @@
 -- Where the first certificate of a vote stands, and what it tells.
-use Rattle.std.proofs.Common.{◌≡◌, ℕ, suc, ◌+◌, ◌-◌, ◌<◌, ◌≤◌, ◌||◌, Bool, true, false, cond, if◌then◌else◌, refl, sym, ◌∙◌, ap, arith, List, [], ◌∷◌, ◌++◌, drop, length, Some, None, slice_get}
-use Rattle.std.specs.List.{find, list_any, position_from}
+use Rattle.std.proofs.Common.{◌≡◌, ℕ, suc, ◌+◌, ◌-◌, ◌<◌, ◌≤◌, Bool, true, false, cond, if◌then◌else◌, refl, sym, ◌∙◌, ap, arith, List, [], ◌∷◌, ◌++◌, length, Some, None, slice_get}
+use Rattle.std.specs.List.{find, position_from}
 use Rattle.std.specs.Map.{lookup}
 use Rattle.std.specs.Option.{is_some, option_or}
-use Rattle.cw_types.specs.Same.{same_vote}
 use Rattle.cw_types.specs.declared.vote.Cert.{Cert}
 use Rattle.cw_types.specs.declared.vote.Vote.{Vote}
-use Rattle.cw_types.proofs.Same.{same_cert-true, same_vote_self}
-use Rattle.cw_rules.specs.Accepted.{Ballot, Many, Single, same_ballot}
+use Rattle.cw_rules.specs.Accepted.{Ballot, Many, Single}
 use Rattle.voter.specs.Certs.{HasFirst, first_place, has_key}
 use Rattle.note_scans.specs.Keys.{key_of, same_key}
 use Rattle.voter.specs.Known.{is_cert_for}
@@ -89,49 +87,6 @@ module _ {X : Type 0} (p : X → Bool) where
           let next : n - i ≡ suc (n - (i + 1)) = omega arith in
           (omega arith, omega arith, ap (slice_get (x ∷ xs)) next ∙ rest.2)
 
-  -- nothing before the place passes a test that only such elements pass
-  place_any : (r : X → Bool) → ((x : X) → r x ≡ true → p x ≡ true) → (i : ℕ) (xs : List X)
-      → (n : ℕ) → position_from p i xs ≡ Some n
-      → list_any r (drop (n - i) xs) ≡ list_any r xs
-  place_any r h i [] n e = cc
-  place_any r h i (x ∷ xs) n e = go (p x) refl e (place_any r h (i + 1) xs n)
-    where
-      none : p x ≡ false → r x ≡ false
-      none f = by (r x) refl
-        where
-          by : (b : Bool) → r x ≡ b → b ≡ false
-          by false k = refl
-          by true k = let t : true ≡ false = sym (h x k) ∙ f in cc
-
-      go : (b : Bool) → p x ≡ b → cond b (Some i) (position_from p (i + 1) xs) ≡ Some n
-          → (position_from p (i + 1) xs ≡ Some n
-          → list_any r (drop (n - (i + 1)) xs) ≡ list_any r xs)
-          → list_any r (drop (n - i) (x ∷ xs)) ≡ list_any r (x ∷ xs)
-      go true f k more =
-          let same : i ≡ n = cc in
-          let zeroth : n - i ≡ 0 = omega arith in
-          ap (λ m. list_any r (drop m (x ∷ xs))) zeroth
-      go false f k more =
-          let rest = place_some (i + 1) xs n k in
-          let low = rest.0 in
-          let next : n - i ≡ suc (n - (i + 1)) = omega arith in
-          ap (λ m. list_any r (drop m (x ∷ xs))) next
-          ∙ (more k ∙ ap (λ b. b || list_any r xs) (sym (none f)))
-
-  -- and nothing does where there is no place
-  none_any : (r : X → Bool) → ((x : X) → r x ≡ true → p x ≡ true) → (i : ℕ) (xs : List X)
-      → position_from p i xs ≡ None → list_any r xs ≡ false
-  none_any r h i [] e = refl
-  none_any r h i (x ∷ xs) e = go (p x) (r x) refl refl e (none_any r h (i + 1) xs)
-    where
-      go : (b a : Bool) → p x ≡ b → r x ≡ a
-          → cond b (Some i) (position_from p (i + 1) xs) ≡ None
-          → (position_from p (i + 1) xs ≡ None → list_any r xs ≡ false)
-          → (a || list_any r xs) ≡ false
-      go true a f g k more = cc
-      go false false f g k more = more k
-      go false true f g k more = let t : false ≡ true = sym f ∙ h x g in cc
-
 same_places : {X : Type 0} (p q : X → Bool) → ((x : X) → p x ≡ q x) → (i : ℕ) (xs : List X)
     → position_from p i xs ≡ position_from q i xs
 same_places p q e i [] = refl
@@ -185,32 +140,8 @@ pub first_none : (ballots : List Ballot) (v : Vote) → first_place v ballots �
     → None ≡ find (is_cert_for v) ballots
 first_none ballots v e = sym (place_none (is_cert_for v) 0 ballots e)
 
-pub first_low : (ballots : List Ballot) (v : Vote) (n : ℕ) → first_place v ballots ≡ Some n
-    → n < length ballots
-first_low ballots v n e =
-    let low = (place_some (is_cert_for v) 0 ballots n e).1 in omega (arith, low)
-
 pub first_some_at : (ballots : List Ballot) (v : Vote) (n : ℕ) → first_place v ballots ≡ Some n
     → slice_get ballots n ≡ find (is_cert_for v) ballots
 first_some_at ballots v n e =
     let same : n ≡ n - 0 = omega arith in
     ap (slice_get ballots) same ∙ (place_some (is_cert_for v) 0 ballots n e).2
-
--- the same certificate is of the same vote
-same_of : (s : Cert) (b : Ballot) → same_ballot (Many s) b ≡ true → is_cert_for s.vote b ≡ true
-same_of s (Single i v) h = cc
-same_of s (Many t) h =
-    ap (λ (u : Cert). same_vote s.vote u.vote) (sym (same_cert-true s t h)) ∙ same_vote_self s.vote
-
-pub same_any : (ballots : List Ballot) (s : Cert) (n : ℕ) → first_place s.vote ballots ≡ Some n
-    → list_any (same_ballot (Many s)) (drop n ballots)
-    ≡ list_any (same_ballot (Many s)) ballots
-same_any ballots s n e =
-    let same : n ≡ n - 0 = omega arith in
-    ap (λ m. list_any (same_ballot (Many s)) (drop m ballots)) same
-    ∙ place_any (is_cert_for s.vote) (same_ballot (Many s)) (same_of s) 0 ballots n e
-
-pub same_none : (ballots : List Ballot) (s : Cert) → first_place s.vote ballots ≡ None
-    → false ≡ list_any (same_ballot (Many s)) ballots
-same_none ballots s e =
-    sym (none_any (is_cert_for s.vote) (same_ballot (Many s)) (same_of s) 0 ballots e)

@@ -14,6 +14,7 @@ use Rattle.cw_rules.specs.Held.{greatest_prune}
 use Rattle.cw_rules.specs.Notes.{ended, entered, epoch_of, greatest}
 use Rattle.voter.specs.Heights.{HasBlockHeights, IsBlockThere}
 use Rattle.note_scans.specs.Keys.{in_view, key_of, keyed, same_key}
+use Rattle.voter.specs.Runs.{HaveRuns, IsEndPrepared}
 use Rattle.voter.specs.declared.facts.Facts.{Facts}
 use Rattle.note_scans.specs.declared.key.VoteKey.{VoteKey}
 
@@ -112,6 +113,7 @@ pub record HaveFacts (notes : List Note) (facts : Facts) : Type 0 where
   pub saying : HasSaid notes facts.said.by_key.entries
   pub settling : HasSettled notes facts.settled.by_key.entries
   pub ending_views : HasEnded notes facts.ended.by_epoch.entries
+  pub running : HaveRuns notes facts.runs.by_end.entries
   pub entering : facts.epoch ≡ epoch_of notes
   pub standing : HasBlockHeights notes facts.heights.above.entries
   pub pruning : facts.prune ≡ greatest_prune notes
@@ -120,4 +122,5 @@ pub record HaveFacts (notes : List Note) (facts : Facts) : Type 0 where
 pub record AreThere (note : Note) (facts : Facts) : Type 0 where
   pub said : IsThere note facts.said.by_key.entries
   pub ended : IsEndThere note facts.ended.by_epoch.entries
+  pub run : IsEndPrepared note facts.runs.by_end.entries
   pub standing : IsBlockThere note facts.heights.above.entries

@@ -3,9 +3,12 @@ pub mod Facts
 pub mod Heights
 pub mod Kinds
 pub mod Known
+pub mod Lists
 pub mod Owing
 pub mod Own
+pub mod Runs
 pub mod Sets
+pub mod Settled
 pub mod Signing
 pub mod Standing
 pub mod Waiting

@@ -1,7 +1,8 @@
 -- The member of the rules that a tally stands for.
-use Rattle.std.specs.Prelude.{◌≡◌, ℕ, ◌&&◌, ◌-◌, Bool, IsTrue, List, None, Option, Some, if◌then◌else◌, min, true}
+use Rattle.std.specs.Prelude.{◌≡◌, ℕ, ◌&&◌, ◌-◌, Bool, IsTrue, List, None, Option, Some, Vec, if◌then◌else◌, min, true}
 use Rattle.std.specs.BTreeSet.{BTreeSet}
 use Rattle.std.specs.List.{list_all, list_any}
+use Rattle.std.specs.declared.alloc.Global.{Global}
 use Rattle.cw_base.specs.declared.hash.Digest32.{Digest32}
 use Rattle.cw_types.specs.Block.{Block}
 use Rattle.cw_types.specs.Encoding.{block_bytes, context_bytes}
@@ -20,6 +21,7 @@ use Rattle.note_scans.specs.Countable.{is_countable}
 use Rattle.voter.specs.Certs.{HasFirst}
 use Rattle.voter.specs.Facts.{HaveFacts}
 use Rattle.voter.specs.Known.{Known, is_own_at}
+use Rattle.voter.specs.Lists.{HasLists}
 use Rattle.voter.specs.Own.{HasOwn}
 use Rattle.voter.specs.Signing.{HaveSigners}
 use Rattle.voter.specs.Waiting.{AreWaiting}
@@ -56,6 +58,7 @@ is_signed x (Many s) = are_signers x s.vote s.signers
 -- say, and its lists have what isn't done
 pub record IsTally (epochs : Epochs) (id : ℕ) (notes : List Note) (ballots : List Ballot)
     (came known : List (VoteKey × BTreeSet ℕ)) (said : Facts) (first : List (VoteKey × ℕ))
+    (lists : List (VoteKey × BTreeSet (Vec ℕ Global)))
     (own : List OwnChunk) (own_keys : List (VoteKey × Bool))
     (votes_came votes_noted : List Vote) (proposals_came proposals_noted : List Proposal)
     : Type 0 where
@@ -65,6 +68,7 @@ pub record IsTally (epochs : Epochs) (id : ℕ) (notes : List Note) (ballots : L
   pub signers : HaveSigners epochs id notes ballots came known
   pub facts : HaveFacts notes said
   pub places : HasFirst ballots first
+  pub listed : HasLists ballots lists
   pub owned : HasOwn own own_keys
   pub waiting : AreWaiting epochs id notes ballots votes_came votes_noted proposals_came
       proposals_noted

@@ -1,8 +1,7 @@
 //! Votes and certificates that came.
 
-ghost use Rattle.std.specs.Prelude.{◌≡◌, ◌≤◌, drop, length, option_map, slice_get};
-ghost use Rattle.std.specs.List.{list_any};
-ghost use Rattle.cw_rules.specs.Accepted.{Many, Single, same_ballot};
+ghost use Rattle.std.specs.Prelude.{◌≡◌, option_map, slice_get};
+ghost use Rattle.cw_rules.specs.Accepted.{Many, Single};
 ghost use Rattle.voter.specs.Known.{ballot_signers};
 
 use cw_types::{Cert, Vote};
@@ -50,16 +49,6 @@ impl Ballot {
         }
     }
 
-    /// Whether it is this certificate.
-    pub(crate) fn is_cert(&self, cert: &Cert) -> bool
-        ensures { result ≡ same_ballot (Many cert.now) self.now }
-    {
-        match &self.kind {
-            Kind::Single(_, _) => false,
-            Kind::Many(other) => cert.is_same(other),
-        }
-    }
-
     /// The signers of a certificate; none of a single vote.
     pub(crate) fn signers(&self) -> &[u16]
         ensures { result.now ≡ ballot_signers self.now }
@@ -79,12 +68,4 @@ pub(crate) fn ballot_at(ballots: &[Ballot], place: usize) -> Option<&Ballot>
         Some(ballot) => Some(ballot),
         None => None,
     }
-}
-
-/// Whether one from a place on is this certificate.
-pub(crate) fn is_cert_from(ballots: &[Ballot], place: usize, cert: &Cert) -> bool
-    requires { place ≤ length ballots.now }
-    ensures { result ≡ list_any (same_ballot (Many cert.now)) (drop place ballots.now) }
-{
-    ballots[place..].iter().any(|ballot| ballot.is_cert(cert))
 }

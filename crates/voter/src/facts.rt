@@ -1,14 +1,17 @@
 //! What notes say, in place of searches through them.
 
-ghost use Rattle.std.specs.Prelude.{◌≡◌, ◌++◌, ◌∷◌, ◌-◌, ◌^◌, ◌<◌, [], IfSome, List, None};
-ghost use Rattle.std.specs.Prelude.{OnErr, OnOk};
+ghost use Rattle.std.specs.Prelude.{◌≡◌, ◌++◌, ◌∷◌, ◌-◌, ◌^◌, ◌<◌, [], IfSome, IsTrue, List};
+ghost use Rattle.std.specs.Prelude.{None, OnErr, OnOk};
 ghost use Rattle.cw_types.specs.declared.note.Note.{Note as NoteValue};
+ghost use Rattle.note_scans.specs.Countable.{is_countable};
 ghost use Rattle.voter.specs.Facts.{AreThere, HasEnded, HasSaid, HaveFacts, IsEndThere, IsThere};
 ghost use Rattle.voter.specs.Facts.{entered_with, settles};
 ghost use Rattle.voter.specs.Heights.{HasBlockHeights, IsBlockThere, kept_height, pruned_with};
+ghost use Rattle.voter.specs.Runs.{HaveRuns, IsEndPrepared};
 
 use crate::ended::Ended;
 use crate::heights::Heights;
+use crate::runs::Runs;
 use crate::said::Said;
 use crate::settled::Settled;
 use cw_base::NoMemory;
@@ -21,6 +24,7 @@ pub(crate) struct Facts {
     pub(crate) said: Said,
     pub(crate) settled: Settled,
     pub(crate) ended: Ended,
+    pub(crate) runs: Runs,
     pub(crate) epoch: u64,
     pub(crate) heights: Heights,
     // blocks below it, but for those of height 0, are let go
@@ -36,6 +40,7 @@ impl Facts {
             said: Said::new(alloc),
             settled: Settled::new(alloc),
             ended: Ended::new(alloc),
+            runs: Runs::new(alloc),
             epoch: 0,
             heights: Heights::new(alloc),
             prune: 0,
@@ -50,11 +55,13 @@ impl Facts {
     {
         self.said.prepare(note)?;
         self.ended.prepare(note)?;
+        self.runs.prepare(note)?;
         self.heights.prepare(note)
     }
 
     /// One note more, whose keys are there. Where memory is short nothing changes.
     pub(crate) fn take(&mut self, note: &Note) -> Result<(), NoMemory>
+        requires { IsTrue (is_countable note.now) }
         ensures ok { (notes : List NoteValue) → HaveFacts notes self.old
             → AreThere note.now self.old
             → OnOk result (HaveFacts (notes ++ note.now ∷ []) self.new) }
@@ -68,6 +75,7 @@ impl Facts {
 
     /// The same of a note that settles nothing, which takes no memory.
     pub(crate) fn take_unsettling(&mut self, note: &Note)
+        requires { IsTrue (is_countable note.now) }
         ensures { (notes : List NoteValue) → HaveFacts notes self.old → AreThere note.now self.old
             → settles note.now ≡ None → HaveFacts (notes ++ note.now ∷ []) self.new }
     {
@@ -76,12 +84,17 @@ impl Facts {
 
     // What a note says, but for what it settles.
     fn write(&mut self, note: &Note)
+        requires { IsTrue (is_countable note.now) }
         ensures said { (notes : List NoteValue) → HasSaid notes self.old.said.by_key.entries
             → IsThere note.now self.old.said.by_key.entries
             → HasSaid (notes ++ note.now ∷ []) self.new.said.by_key.entries }
         ensures ended { (notes : List NoteValue) → HasEnded notes self.old.ended.by_epoch.entries
             → IsEndThere note.now self.old.ended.by_epoch.entries
             → HasEnded (notes ++ note.now ∷ []) self.new.ended.by_epoch.entries }
+        ensures runs { (notes : List NoteValue) → HasSaid notes self.old.said.by_key.entries
+            → HaveRuns notes self.old.runs.by_end.entries
+            → IsEndPrepared note.now self.old.runs.by_end.entries
+            → HaveRuns (notes ++ note.now ∷ []) self.new.runs.by_end.entries }
         ensures epoch { self.new.epoch ≡ entered_with self.old.epoch note.now }
         ensures heights { (notes : List NoteValue)
             → HasBlockHeights notes self.old.heights.above.entries
@@ -90,6 +103,7 @@ impl Facts {
         ensures prune { self.new.prune ≡ pruned_with self.old.prune note.now }
         ensures settled { self.new.settled.by_key.entries ≡ self.old.settled.by_key.entries }
     {
+        self.runs.write(note, &self.said);
         self.said.write(note);
         self.ended.write(note);
         self.epoch = entered_with(self.epoch, note);

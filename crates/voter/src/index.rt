@@ -1,14 +1,17 @@
 //! What a tally looks up in place of searches: who signed what, and what notes say.
 
-ghost use Rattle.std.specs.Prelude.{◌≡◌, ◌++◌, ◌∷◌, [], ℕ, List, OnErr, OnOk, false, option_map};
+ghost use Rattle.std.specs.Prelude.{◌≡◌, ◌++◌, ◌∷◌, [], ℕ, IsTrue, List, OnErr, OnOk, false};
+ghost use Rattle.std.specs.Prelude.{option_map};
 ghost use Rattle.std.specs.List.{list_any};
 ghost use Rattle.cw_rules.specs.Accepted.{Ballot as BallotValue, Single};
 ghost use Rattle.cw_rules.specs.Owed.{is_single};
 ghost use Rattle.cw_types.specs.Epochs.{Epochs, is_member};
 ghost use Rattle.cw_types.specs.Votes.{vote_epoch};
 ghost use Rattle.cw_types.specs.declared.note.Note.{Note as NoteValue};
+ghost use Rattle.note_scans.specs.Countable.{is_countable};
 ghost use Rattle.voter.specs.Certs.{HasFirst};
 ghost use Rattle.voter.specs.Facts.{HaveFacts};
+ghost use Rattle.voter.specs.Lists.{HasLists};
 ghost use Rattle.voter.specs.Own.{HasOwn};
 ghost use Rattle.voter.specs.Signing.{HaveSigners, counted_vote};
 
@@ -38,6 +41,7 @@ impl Index {
             result.came.by_vote.entries result.known.by_vote.entries }
         ensures facts { HaveFacts [] result.facts }
         ensures certs { HasFirst [] result.certs.first.entries }
+        ensures lists { HasLists [] result.certs.lists.by_vote.entries }
         ensures own { HasOwn [] result.own.by_key.entries }
     {
         Index {
@@ -92,6 +96,7 @@ impl Index {
         note: &Note,
         counted: Option<&Vote>,
     ) -> Result<(), NoMemory>
+        requires { IsTrue (is_countable note.now) }
         ensures ok { (x : Epochs) (notes : List NoteValue) (ballots : List BallotValue)
             → HaveSigners x id notes ballots self.old.came.by_vote.entries
             self.old.known.by_vote.entries

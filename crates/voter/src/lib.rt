@@ -2,9 +2,10 @@
 //!
 //! Each call is a function of what the tally was told. `tally_stands` and `parent_stands` say how
 //! its answers are those of the cluster rules. Who signed a vote, which certificates and chunks
-//! came and what notes say of votes, proposals, views, epochs and heights are looked up by key.
-//! What is owed is searched for among the votes without a noted certificate and the proposals that
-//! aren't done alone. So a call costs the same however much came, was noted and is done.
+//! came and what notes say of votes, proposals, views, epochs and heights are looked up by key, and
+//! runs of nullified views by their ends. What is owed is searched for among the votes without a
+//! noted certificate and the proposals that aren't done alone. So a call costs the same however
+//! much came, was noted and is done.
 #![tactic(auto)]
 
 mod ballot;
@@ -20,8 +21,10 @@ mod own;
 mod own_keys;
 mod parents;
 mod proposals;
+mod runs;
 mod said;
 mod settled;
+mod signer_lists;
 mod signer_sets;
 mod tally;
 mod votes;

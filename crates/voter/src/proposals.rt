@@ -79,7 +79,7 @@ impl<H> Tally<H> {
     pub(crate) fn is_votable(&self, proposal: &Proposal) -> bool
         ensures { result ≡ owing.is_votable self.now proposal.now }
     {
-        self.is_turn(proposal) && self.all_nullified(proposal.epoch, proposal.parent, proposal.view)
+        self.is_turn(proposal) && self.all_nullified_above(proposal.epoch, proposal.parent)
     }
 
     // Whether it is the proposal of the leader of the member's view, in which it hasn't voted.

@@ -4,6 +4,7 @@ ghost use Rattle.std.specs.Prelude.{◌≡◌, ◌++◌, ◌∷◌, [], List, On
 ghost use Rattle.cw_rules.specs.Notes as rule;
 ghost use Rattle.cw_rules.specs.Owed as owed;
 ghost use Rattle.cw_types.specs.declared.note.Note.{Note as NoteValue};
+ghost use Rattle.cw_types.specs.declared.vote.Vote.TheVariants.{Nullify};
 ghost use Rattle.voter.specs.Facts.{HasSaid, IsThere, fact_of, own_fact, said_at};
 ghost use Rattle.note_scans.specs.Keys.{in_view, key_of, keyed};
 
@@ -96,6 +97,15 @@ impl Said {
             → result ≡ rule.has_cert notes vote.now }
     {
         self.has(&VoteKey::new(vote))
+    }
+
+    /// Whether the nullification of a view of an epoch is noted.
+    pub(crate) fn has_nullified(&self, epoch: u64, view: u64) -> bool
+        ensures here { result ≡ said_at (key_of (Nullify epoch view)) self.now.by_key.entries }
+        ensures noted { (notes : List NoteValue) → HasSaid notes self.now.by_key.entries
+            → result ≡ rule.nullified notes epoch view }
+    {
+        self.has_cert(&Vote::Nullify { epoch, view })
     }
 
     /// Whether the proposal is noted as certified.

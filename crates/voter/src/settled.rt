@@ -5,6 +5,7 @@ ghost use Rattle.std.specs.Prelude.{option_map};
 ghost use Rattle.cw_rules.specs.Notes as rule;
 ghost use Rattle.cw_types.specs.declared.note.Note.{Note as NoteValue};
 ghost use Rattle.voter.specs.Facts.{HasSettled, settled_by, settles};
+ghost use Rattle.voter.specs.Settled.{last_some, later_settled};
 
 use crate::maps::put_first;
 use cw_base::NoMemory;
@@ -75,6 +76,22 @@ impl Settled {
             → result ≡ option_map (λ p. p.payload) (rule.settler notes epoch view) }
     {
         self.by_key.get(&VoteKey::in_view(6, epoch, view)).copied()
+    }
+
+    /// The greatest settled view of an epoch that is above 0 and below `top`, with its payload.
+    pub(crate) fn last_below(&self, epoch: u64, top: u64) -> Option<(u64, Commitment)>
+        ensures { (notes : List NoteValue) → HasSettled notes self.now.by_key.entries
+            → result ≡ last_some (later_settled notes epoch) top }
+    {
+        if top <= 1 {
+            return None;
+        }
+        let low = VoteKey::in_view(6, epoch, 1);
+        let high = VoteKey::in_view(6, epoch, top);
+        match self.by_key.range(low..high).next_back() {
+            Some((key, payload)) => Some((key.view, *payload)),
+            None => None,
+        }
     }
 
     /// The payload that an epoch above 0 builds on.

@@ -11,7 +11,7 @@ ghost use Rattle.voter.specs.Known.{unknowing, with_ballot, with_note, with_own}
 ghost use Rattle.voter.specs.Signing.{counted_vote};
 ghost use Rattle.voter.specs.Standing.{are_signers};
 
-use crate::ballot::{Ballot, is_cert_from};
+use crate::ballot::Ballot;
 use crate::index::Index;
 use crate::own::OwnChunk;
 use crate::waiting::Waiting;
@@ -65,7 +65,7 @@ impl<H> Model for Tally<H> {
 
     ghost invariant = { λ t. IsTally t.committees t.id t.notes t.ballots
         t.index.came.by_vote.entries t.index.known.by_vote.entries
-        t.index.facts t.index.certs.first.entries
+        t.index.facts t.index.certs.first.entries t.index.certs.lists.by_vote.entries
         t.own t.index.own.by_key.entries
         t.waiting.votes_came.items t.waiting.votes_noted.items t.waiting.came.items
         t.waiting.noted.items };
@@ -189,7 +189,7 @@ impl<H> Tally<H> {
         self.waiting.reserve_came()?;
         let len = self.ballots.len();
         self.ballots.push(Ballot::many(copy))?;
-        if let Err(NoMemory) = self.index.certs.take(&cert.vote, len) {
+        if let Err(NoMemory) = self.index.certs.take(cert, len) {
             self.ballots.truncate(len);
             return Err(NoMemory);
         }
@@ -221,10 +221,7 @@ impl<H> Tally<H> {
     fn has_same_cert(&self, cert: &Cert) -> bool
         ensures { result ≡ list_any (same_ballot (Many cert.now)) self.now.ballots }
     {
-        match self.index.certs.place(&cert.vote) {
-            Some(place) => is_cert_from(self.ballots.as_slice(), place, cert),
-            None => false,
-        }
+        self.index.certs.has(cert)
     }
 
     /// The epoch that the member is in: the greatest that a note enters. Takes no memory.
@@ -246,9 +243,6 @@ impl<H> Tally<H> {
     pub fn nullified(&self, epoch: u64, view: u64) -> bool
         ensures { result ≡ rule.nullified self.now.notes epoch view }
     {
-        self.index
-            .facts
-            .said
-            .has_cert(&Vote::Nullify { epoch, view })
+        self.index.facts.said.has_nullified(epoch, view)
     }
 }

@@ -16,6 +16,7 @@ ghost use Rattle.note_scans.specs.Countable.{is_countable};
 ghost use Rattle.voter.specs.Heights.{kept_height};
 ghost use Rattle.voter.specs.Known.{is_own_at, state_of, vote_rules};
 ghost use Rattle.voter.specs.Owing as owing;
+ghost use Rattle.voter.specs.Runs.{nullified_from};
 
 use crate::tally::Tally;
 use cw_base::{Config, Digest32, Hasher};
@@ -44,14 +45,26 @@ impl<H> Tally<H> {
         self.index.facts.said.has_closed(epoch, view)
     }
 
-    // Whether each view of the epoch strictly between the two is nullified.
-    pub(crate) fn all_nullified(&self, epoch: u64, low: u64, high: u64) -> bool
-        ensures { result ≡ rule.all_nullified self.now.notes epoch low high }
+    // The view of the epoch from which on all views below the member's are nullified: the member's
+    // own where the one before it isn't.
+    pub(crate) fn nullified_from(&self, epoch: u64) -> u64
+        ensures { result
+            ≡ nullified_from self.now.notes epoch (notes_rule.view_of self.now.notes epoch) }
     {
-        if high <= low {
-            return true;
+        let view = self.view(epoch);
+        if self.nullified(epoch, view - 1) {
+            self.index.facts.runs.at(epoch, view - 1).first
+        } else {
+            view
         }
-        (low + 1..high).all(|view| self.nullified(epoch, view))
+    }
+
+    // Whether each view of the epoch between that one and the member's is nullified.
+    pub(crate) fn all_nullified_above(&self, epoch: u64, low: u64) -> bool
+        ensures { result ≡ rule.all_nullified self.now.notes epoch low
+            (notes_rule.view_of self.now.notes epoch) }
+    {
+        self.nullified_from(epoch).saturating_sub(1) <= low
     }
 
     // Whether the chunk at that place of that commitment came.

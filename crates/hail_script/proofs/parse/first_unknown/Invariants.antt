@@ -1,11 +1,11 @@
 use Rattle.std.proofs.Common.{◌≡◌, ◌+◌, drop, map}
-use Rattle.hail_script.specs.Events.{line_of}
 use Rattle.hail_script.specs.Grammar as grammar
+use Rattle.hail_script.specs.Raw.{raw_line_of}
 use Rattle.hail_script.proofs.parse.first_unknown.Given as goal
 
 -- the events from here on decide
 abbrev pub invariant-loop-index : goal.invariant-loop-index
 invariant-loop-index l =
     grammar.first_at (grammar.names_stranger l.total) (l.index + l.first)
-    (map line_of (drop l.index l.events))
-    ≡ grammar.first_at (grammar.names_stranger l.total) l.first (map line_of l.events)
+    (map raw_line_of (drop l.index l.events))
+    ≡ grammar.first_at (grammar.names_stranger l.total) l.first (map raw_line_of l.events)

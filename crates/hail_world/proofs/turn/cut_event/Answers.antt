@@ -18,7 +18,7 @@ stopped-requires-after_bounds g c κs within =
     let s : Seat = c.args.node in
     let new : Seat = c.step.new.node in
     let r : Rules = rules_by g.H.Hasher.digest_of s in
-    let signed = table c.args.votes.now.faulty.now (sent_in c.args.votes.now.pool.now) in
+    let signed = table c.args.setting.now.faulty.now (sent_in c.args.setting.now.pool.now) in
     let is = c.stop_at.ensures.armed (calm_goes_on s.log.disk c.requires.calm) in
     let h =
     subst
@@ -31,7 +31,7 @@ stopped-requires-after_bounds g c κs within =
     (λ some.
     (c.law_of_a_stop.ensures.whole _ _ _ c.args.stop.call c.args.stop.cut c.args.stop.fill
     (armed s c.args.stop.call c.args.stop.cut c.args.stop.fill c.requires.calm
-    c.requires.later)
+    c.args.stop.later)
     h.appended some).0)
     h in
     (_, done.0)
@@ -41,7 +41,7 @@ returns-in_ok-stopped-in-Ok-clause-cut g c =
     let s : Seat = c.args.node in
     let new : Seat = c.step.new.node in
     let r : Rules = rules_by g.H.Hasher.digest_of s in
-    let signed = table c.args.votes.now.faulty.now (sent_in c.args.votes.now.pool.now) in
+    let signed = table c.args.setting.now.faulty.now (sent_in c.args.setting.now.pool.now) in
     let is = c.stop_at.ensures.armed (calm_goes_on s.log.disk c.requires.calm) in
     let h =
     subst
@@ -57,7 +57,7 @@ returns-in_ok-stopped-in-Ok-clause-cut g c =
     (λ some.
     (c.law_of_a_stop.ensures.whole _ _ _ c.args.stop.call c.args.stop.cut c.args.stop.fill
     (armed s c.args.stop.call c.args.stop.cut c.args.stop.fill c.requires.calm
-    c.requires.later)
+    c.args.stop.later)
     h.appended some).0)
     h in (
       is_member new.log.disk c.in_ok-stopped-in-Ok.field-0 cut.member c.in_ok-stopped-in-Ok.ensures
@@ -70,7 +70,7 @@ stopped-requires-in-Err-Disk-after_bounds g c κs within =
     let s : Seat = c.args.node in
     let new : Seat = c.step.new.node in
     let r : Rules = rules_by g.H.Hasher.digest_of s in
-    let signed = table c.args.votes.now.faulty.now (sent_in c.args.votes.now.pool.now) in
+    let signed = table c.args.setting.now.faulty.now (sent_in c.args.setting.now.pool.now) in
     let is = c.stop_at.ensures.armed (calm_goes_on s.log.disk c.requires.calm) in
     let raw = c.in-Err-Disk.ensures.cut (ap Err c.in-Err-Disk.field-0-is) in
     let h =
@@ -81,11 +81,11 @@ stopped-requires-in-Err-Disk-after_bounds g c κs within =
     let law =
     c.law_of_a_stop.ensures.cut_short _ _ _ c.args.stop.call c.args.stop.cut c.args.stop.fill
     (armed s c.args.stop.call c.args.stop.cut c.args.stop.fill c.requires.calm
-    c.requires.later)
+    c.args.stop.later)
     h.cut in
     let done =
     cut_short r signed c.args.event.now s new c.args.stop.call c.args.stop.cut c.args.stop.fill
-    c.requires.works c.requires.later law h in
+    c.requires.works c.args.stop.later law h in
     (_, done.0)
 
 pub returns-in_ok-stopped-in-Err-Disk-clause-cut : goal.returns-in_ok-stopped-in-Err-Disk-clause-cut
@@ -93,7 +93,7 @@ returns-in_ok-stopped-in-Err-Disk-clause-cut g c =
     let s : Seat = c.args.node in
     let new : Seat = c.step.new.node in
     let r : Rules = rules_by g.H.Hasher.digest_of s in
-    let signed = table c.args.votes.now.faulty.now (sent_in c.args.votes.now.pool.now) in
+    let signed = table c.args.setting.now.faulty.now (sent_in c.args.setting.now.pool.now) in
     let is = c.stop_at.ensures.armed (calm_goes_on s.log.disk c.requires.calm) in
     let raw = c.in-Err-Disk.ensures.cut (ap Err c.in-Err-Disk.field-0-is) in
     let h =
@@ -104,14 +104,14 @@ returns-in_ok-stopped-in-Err-Disk-clause-cut g c =
     let law =
     c.law_of_a_stop.ensures.cut_short _ _ _ c.args.stop.call c.args.stop.cut c.args.stop.fill
     (armed s c.args.stop.call c.args.stop.cut c.args.stop.fill c.requires.calm
-    c.requires.later)
+    c.args.stop.later)
     h.cut in
     let cut : Stepped =
     cut_step r s.id signed s.member c.args.stop.call c.args.stop.cut c.args.stop.fill
     c.args.event.now in
     let done : IsCut cut new.log.disk (record { sent = []; handed = []; tickets = [] }) =
     cut_short r signed c.args.event.now s new c.args.stop.call c.args.stop.cut c.args.stop.fill
-    c.requires.works c.requires.later law h in (
+    c.requires.works c.args.stop.later law h in (
       is_member new.log.disk c.in_ok-stopped-in-Err-Disk.field-0 cut.member
           c.in_ok-stopped-in-Err-Disk.ensures done.0 done.1,
       c.nothing.ensures ∙ done.2,

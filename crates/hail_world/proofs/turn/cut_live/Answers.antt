@@ -1,6 +1,5 @@
 use Rattle.std.proofs.Common.{◌≡◌, Some, sym, subst, ◌∙◌}
 use Rattle.cw_rules.specs.Step.{Member, cut_step}
-use Rattle.hail_script.specs.Events.{ask_of}
 use Rattle.hail_world.specs.Places.{SitsAs, over, rules_of, table}
 use Rattle.hail_report.specs.Pool.{sent_in}
 use Rattle.hail_world.specs.Seats.{Seat, out_of, rules_by}
@@ -9,9 +8,9 @@ use Rattle.hail_world.proofs.turn.cut_live.Goals as goal
 
 pub returns-in_ok-place-in-Ok-Some-clause-makes : goal.returns-in_ok-place-in-Ok-Some-clause-makes
 returns-in_ok-place-in-Ok-Some-clause-makes g c o who =
-    let r = rules_of g.H.Hasher.digest_of c.args.script.now in
-    let signed = table c.args.votes.now.faulty.now (sent_in c.args.votes.now.pool.now) in
-    let w = over (sent_in c.args.votes.now.pool.now) in
+    let r = rules_of g.H.Hasher.digest_of c.args.setting.now.script.now in
+    let signed = table c.args.setting.now.faulty.now (sent_in c.args.setting.now.pool.now) in
+    let w = over (sent_in c.args.setting.now.pool.now) in
     let sound = c.requires.sound in
     let there = who in
     let asks = sym c.in-Ok-Some.ensures ∙ c.in-Ok-Some.field-0-is in
@@ -24,5 +23,5 @@ returns-in_ok-place-in-Ok-Some-clause-makes g c o who =
     × (c.in_ok-place-in-Ok-Some.out ≡ out_of (done s)))
     c.seat.view_is c.in_ok-place-in-Ok-Some.ensures.cut in
     cut_took r c.args.id signed w c.args.stop.call c.args.stop.cut c.args.stop.fill
-    (ask_of c.args.ask.now) c.in-Ok-Some.event c.args.seat c.in_ok-place-in-Ok-Some.place
+    c.args.ask.now c.in-Ok-Some.event c.args.seat c.in_ok-place-in-Ok-Some.place
     c.in_ok-place-in-Ok-Some.out o sound asks made.0 made.1 there

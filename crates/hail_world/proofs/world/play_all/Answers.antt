@@ -10,7 +10,6 @@ use Rattle.hail_world.specs.Places.{rules_of}
 use Rattle.hail_world.specs.Played.{lines_of}
 use Rattle.hail_world.specs.Runs.{IsStopped, opened}
 use Rattle.hail_world.proofs.Clusters.{line_there, numbered_lines, numbered_more, stops}
-use Rattle.hail_world.proofs.Known.{count_lines}
 use Rattle.hail_world.proofs.world.play_all.Goals as goal
 
 pub loop-at-init : goal.loop-at-init
@@ -27,7 +26,7 @@ turn-requires-clause-there g c =
     let all =
     c.lines-count.ensures.value ∙ ap (λ (s : Scenario). s.lines) c.script-2.ensures in
     let many : length c.args.cluster.now.script.lines ≡ length c.lines-count.result.now =
-    ap (λ (l : List Line). length l) (sym all) ∙ count_lines c.lines-count.result.now in
+    ap (λ (l : List Line). length l) (sym all) in
     let same : length c.loop-at.cluster.script.lines ≡ length c.args.cluster.now.script.lines =
     ap (λ (k : Cluster). length k.script.lines) c.loop-at.invariant in
     omega (arith, many, same, c.loop-at-test.true)
@@ -40,7 +39,7 @@ loop-at-preserved g c =
     let all =
     c.lines-count.ensures.value ∙ ap (λ (s : Scenario). s.lines) c.script-2.ensures in
     let many : length k.script.lines ≡ length c.lines-count.result.now =
-    ap (λ (l : List Line). length l) (sym all) ∙ count_lines c.lines-count.result.now in
+    ap (λ (l : List Line). length l) (sym all) in
     let there = line_there k.script.lines at (omega (arith, many, c.loop-at-test.true)) in
     let there_now : slice_get c.loop-at.cluster.script.lines at ≡ Some there.0 =
     ap (λ (x : Cluster). slice_get x.script.lines at) c.loop-at.invariant ∙ there.1 in
@@ -68,7 +67,7 @@ returns-in-Err-clause-err g c =
     let all =
     c.lines-count.ensures.value ∙ ap (λ (s : Scenario). s.lines) c.script-2.ensures in
     let many : length k.script.lines ≡ length c.lines-count.result.now =
-    ap (λ (l : List Line). length l) (sym all) ∙ count_lines c.lines-count.result.now in
+    ap (λ (l : List Line). length l) (sym all) in
     let there = line_there k.script.lines at (omega (arith, many, c.loop-at-test.true)) in
     let there_now : slice_get c.loop-at.cluster.script.lines at ≡ Some there.0 =
     ap (λ (x : Cluster). slice_get x.script.lines at) c.loop-at.invariant ∙ there.1 in
@@ -91,7 +90,7 @@ returns-clause-ok g c =
     let all =
     c.lines-count.ensures.value ∙ ap (λ (s : Scenario). s.lines) c.script-2.ensures in
     let many : length k.script.lines ≡ length c.lines-count.result.now =
-    ap (λ (l : List Line). length l) (sym all) ∙ count_lines c.lines-count.result.now in
+    ap (λ (l : List Line). length l) (sym all) in
     c.loop-at.invariant
     ∙ ap
     (λ (l : List Line). let y : Cluster = record k { rows = enumerate_from n l } in y)

@@ -1,7 +1,8 @@
 use Rattle.std.proofs.Common.{◌≡◌, true, map, subst, sym, ◌∙◌, inr}
 use Rattle.cw_types.specs.Epochs.{Epochs, is_sound}
-use Rattle.hail_script.specs.Events.{line_of}
+use Rattle.hail_script.specs.Raw.{raw_line_of}
 use Rattle.hail_script.specs.Scenario.{Scenario}
+use Rattle.hail_script.proofs.Admitted.{all_later}
 use Rattle.hail_script.proofs.Admitting.{unknown, too_many, oversize, runs, runnable, sound_marked}
 use Rattle.hail_script.proofs.script.Script.admit.Goals as goal
 
@@ -12,7 +13,7 @@ returns-in-Some-clause-err c =
       travel = c.args.travel;
       committees = c.args.committees;
       backlog = c.args.backlog;
-      lines = map line_of c.args.events;
+      lines = map raw_line_of c.args.events;
     } in
     let sound : is_sound s.committees ≡ true =
     subst (λ (x : Epochs). is_sound x ≡ true) c.committees.view_is c.committees.invariant in
@@ -31,7 +32,7 @@ returns-then-not-bears_all-clause-err c =
       travel = c.args.travel;
       committees = c.args.committees;
       backlog = c.args.backlog;
-      lines = map line_of c.args.events;
+      lines = map raw_line_of c.args.events;
     } in
     let sound : is_sound s.committees ≡ true =
     subst (λ (x : Epochs). is_sound x ≡ true) c.committees.view_is c.committees.invariant in
@@ -44,7 +45,7 @@ returns-then-not-bears_all-clause-err c =
     let marks =
     rw (
       c.deref.ensures.value,
-      c.in_ok-marks.ensures,
+      c.in_ok-faulty.ensures,
       c.total-2.ensures,
       c.as_slice-lines.ensures,
     )
@@ -59,7 +60,7 @@ returns-in-Some-first_oversize-clause-err c =
       travel = c.args.travel;
       committees = c.args.committees;
       backlog = c.args.backlog;
-      lines = map line_of c.args.events;
+      lines = map raw_line_of c.args.events;
     } in
     let sound : is_sound s.committees ≡ true =
     subst (λ (x : Epochs). is_sound x ≡ true) c.committees.view_is c.committees.invariant in
@@ -72,7 +73,7 @@ returns-in-Some-first_oversize-clause-err c =
     let marks =
     rw (
       c.deref.ensures.value,
-      c.in_ok-marks.ensures,
+      c.in_ok-faulty.ensures,
       c.total-2.ensures,
       c.as_slice-lines.ensures,
     )
@@ -90,7 +91,7 @@ invariant_of-result c =
       travel = c.args.travel;
       committees = c.args.committees;
       backlog = c.args.backlog;
-      lines = map line_of c.args.events;
+      lines = map raw_line_of c.args.events;
     } in
     let sound : is_sound s.committees ≡ true =
     subst (λ (x : Epochs). is_sound x ≡ true) c.committees.view_is c.committees.invariant in
@@ -103,7 +104,7 @@ invariant_of-result c =
     let marks =
     rw (
       c.deref.ensures.value,
-      c.in_ok-marks.ensures,
+      c.in_ok-faulty.ensures,
       c.total-2.ensures,
       c.as_slice-lines.ensures,
     )
@@ -111,11 +112,15 @@ invariant_of-result c =
     let bears = sym (sound_marked s sound) ∙ sym marks ∙ c.if-not-bears_all.false in
     let long =
     sym (rw (c.as_slice-lines.ensures, c.requires.first) at c.first_oversize.ensures)
-    ∙ c.in_default-first_oversize.is in (
+    ∙ c.in_default-first_oversize.is in
+    let run =
+    runnable s c.requires.some few sound first bears long (all_later c.args.events) in (
       c.requires.backlog,
       c.requires.first,
       c.requires.few,
-      runnable s c.requires.some few sound first bears long c.requires.later,
+      rw c.in_ok-events.ensures run,
+      rw c.in_ok-events.ensures
+          (rw (c.as_slice-lines.ensures, c.total-2.ensures) at c.in_ok-faulty.ensures),
     )
 
 pub returns-clause-ok : goal.returns-clause-ok
@@ -125,7 +130,7 @@ returns-clause-ok c =
       travel = c.args.travel;
       committees = c.args.committees;
       backlog = c.args.backlog;
-      lines = map line_of c.args.events;
+      lines = map raw_line_of c.args.events;
     } in
     let sound : is_sound s.committees ≡ true =
     subst (λ (x : Epochs). is_sound x ≡ true) c.committees.view_is c.committees.invariant in
@@ -138,7 +143,7 @@ returns-clause-ok c =
     let marks =
     rw (
       c.deref.ensures.value,
-      c.in_ok-marks.ensures,
+      c.in_ok-faulty.ensures,
       c.total-2.ensures,
       c.as_slice-lines.ensures,
     )
@@ -147,4 +152,4 @@ returns-clause-ok c =
     let long =
     sym (rw (c.as_slice-lines.ensures, c.requires.first) at c.first_oversize.ensures)
     ∙ c.in_default-first_oversize.is in
-    runs s c.requires.some few sound first bears long
+    rw c.in_ok-events.ensures (runs s c.requires.some few sound first bears long)

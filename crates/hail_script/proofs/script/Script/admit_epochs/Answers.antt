@@ -1,6 +1,6 @@
 use Rattle.std.proofs.Common.{map, sym, ◌∙◌, inr, Some, nat_le, nat_lt, ◌^◌}
 use Rattle.std.proofs.lemmas.Bool.{and_parts}
-use Rattle.hail_script.specs.Events.{line_of}
+use Rattle.hail_script.specs.Raw.{raw_line_of}
 use Rattle.hail_script.specs.Scenario.{Scenario}
 use Rattle.hail_script.proofs.Admitting.{unsized, strange}
 use Rattle.hail_script.proofs.Sized.{committees}
@@ -17,7 +17,7 @@ returns-then-not-are_sized-clause-err c =
         lists = c.args.lists;
       };
       backlog = c.args.backlog;
-      lines = map line_of c.args.events;
+      lines = map raw_line_of c.args.events;
     } in
     let sized = sym (rw c.as_slice.ensures at c.are_sized.ensures) ∙ c.if-not-are_sized.true in
     inr (unsized s sized)
@@ -33,7 +33,7 @@ returns-in-Some-clause-err c =
         lists = c.args.lists;
       };
       backlog = c.args.backlog;
-      lines = map line_of c.args.events;
+      lines = map raw_line_of c.args.events;
     } in
     let sized = sym (rw c.as_slice.ensures at c.are_sized.ensures) ∙ c.if-not-are_sized.false in
     let first = sym (rw c.as_slice-2.ensures at c.first_strange.ensures) ∙ c.in-Some.is in

@@ -1,6 +1,5 @@
-use Rattle.std.proofs.Common.{map, sym, ap, ◌∙◌, subst}
+use Rattle.std.proofs.Common.{sym, ap, ◌∙◌, subst}
 use Rattle.cw_rules.specs.Reached.{IsCluster}
-use Rattle.hail_script.specs.Events.{line_of}
 use Rattle.hail_script.specs.Scenario.{Scenario}
 use Rattle.hail_script.proofs.Clusters.{cluster}
 use Rattle.hail_script.proofs.script.Script.is_cluster.Goals as goal
@@ -8,7 +7,7 @@ use Rattle.hail_script.proofs.script.Script.is_cluster.Goals as goal
 pub returns : goal.returns
 returns c r is =
     let x = c.self.inside.committees in
-    let lines = map line_of c.self.inside.events in
+    let lines = c.self.inside.events in
     let sound = c.committees_are_sound.ensures in
     let here =
     cluster x lines c.self.invariant.3.few sound.enough sound.rising sound.there sound.spans r

@@ -1,61 +1,39 @@
-use Rattle.std.proofs.Common.{◌≡◌, ◌++◌, ◌∷◌, [], List, false, length, take, drop, refl, ap, subst, sym, ◌∙◌, arith}
+use Rattle.std.proofs.Common.{◌≡◌, ◌++◌, ◌∷◌, [], List, Some, false, length, take, drop, refl, ap, subst, sym, ◌∙◌}
+use Rattle.std.specs.Prelude.{slice_get}
+use Rattle.std.proofs.lemmas.Option.{slice_get_read}
 use Rattle.cw_rules.specs.World.{Line}
-use Rattle.hail_script.specs.Events.{line_of}
 use Rattle.hail_world.specs.declared.place.Place.{Place}
 use Rattle.hail_world.specs.Clusters.{Stands, rows_at}
 use Rattle.hail_world.specs.Places.{rules_of}
 use Rattle.hail_world.specs.Runs.{opened}
 use Rattle.hail_world.specs.Seats.{Seat}
-use Rattle.hail_world.proofs.Clusters.{begins, below_inside, event_there, same_played, seen_more, seen_stopped, turned, whole_inside}
-use Rattle.hail_world.proofs.Known.{known_at, later_at, line_at, short_at}
+use Rattle.hail_world.proofs.Clusters.{begins, below_inside, line_lent, same_played, seen_more, seen_stopped, turned, whole_inside}
+use Rattle.hail_world.proofs.Known.{known_at}
 use Rattle.hail_world.proofs.Running.{whole_front}
 use Rattle.hail_world.proofs.cluster.Cluster.turn.Goals as goal
 
-pub turn_line-requires-clause-there : goal.turn_line-requires-clause-there
-turn_line-requires-clause-there g c κs within =
+pub invariant_of-setting : goal.invariant_of-setting
+invariant_of-setting g c =
+    let i = c.self.inside in
+    let at =
+    line_lent c.lines.result.now i.script.lines c.args.at c.index-lines-at.result
+    c.lines.ensures.value
+    (below_inside g.H.Hasher.digest_of i.script i.turns.items i.over c.args.self.now
+    c.self.view_is c.args.at c.requires.there)
+    c.index-lines-at.is in
+    record {
+      known = known_at i.script c.args.at c.index-lines-at.result c.lines.ensures.runnable at;
+    }
+
+pub turn_line-requires-clause-count : goal.turn_line-requires-clause-count
+turn_line-requires-clause-count g c κs within =
     let i = c.self.inside in
     let hash = g.H.Hasher.digest_of in
-    let below =
-    below_inside hash i.script i.turns.items i.over c.args.self.now c.self.view_is c.args.at
-    c.requires.there in
     let u =
     c.self.invariant.2
     (whole_inside hash i.script i.turns.items i.over c.args.self.now c.self.view_is
     c.requires.whole) in
-    let at =
-    line_at c.lines.result.now i.script.lines c.args.at c.index-lines-at.result
-    c.index-lines-at.result c.lines.ensures.value
-    (event_there c.lines.result.now i.script.lines c.args.at c.lines.ensures.value below)
-    c.index-lines-at.is in
-    let known =
-    known_at i.script c.args.at (line_of c.index-lines-at.result) c.lines.ensures.runnable at in
-    let lent : length c.deref_mut.result.now ≡ length i.places.items =
-    ap (λ (l : List (Place Seat)). length l) c.deref_mut.ensures.value in
-    omega (arith, known, u.count, lent)
-
-pub turn_line-requires-clause-short : goal.turn_line-requires-clause-short
-turn_line-requires-clause-short g c κs within =
-    let i = c.self.inside in
-    let below =
-    below_inside g.H.Hasher.digest_of i.script i.turns.items i.over c.args.self.now c.self.view_is
-    c.args.at c.requires.there in
-    short_at i.script c.args.at (line_of c.index-lines-at.result) c.lines.ensures.runnable
-    (line_at c.lines.result.now i.script.lines c.args.at c.index-lines-at.result
-    c.index-lines-at.result c.lines.ensures.value
-    (event_there c.lines.result.now i.script.lines c.args.at c.lines.ensures.value below)
-    c.index-lines-at.is)
-
-pub turn_line-requires-clause-later : goal.turn_line-requires-clause-later
-turn_line-requires-clause-later g c κs within =
-    let i = c.self.inside in
-    let below =
-    below_inside g.H.Hasher.digest_of i.script i.turns.items i.over c.args.self.now c.self.view_is
-    c.args.at c.requires.there in
-    later_at i.script c.args.at (line_of c.index-lines-at.result) c.lines.ensures.runnable
-    (line_at c.lines.result.now i.script.lines c.args.at c.index-lines-at.result
-    c.index-lines-at.result c.lines.ensures.value
-    (event_there c.lines.result.now i.script.lines c.args.at c.lines.ensures.value below)
-    c.index-lines-at.is)
+    ap (λ (l : List (Place Seat)). length l) c.deref_mut.ensures.value ∙ u.count
 
 pub returns-in-Err-clause-err : goal.returns-in-Err-clause-err
 returns-in-Err-clause-err g c = λ line there.
@@ -64,6 +42,7 @@ returns-in-Err-clause-err g c = λ line there.
     let s = i.script in
     let r = rules_of hash s in
     let rows = rows_at s.lines i.turns.items in
+    let mine : Line = c.index-lines-at.result in
     let below =
     below_inside hash s i.turns.items i.over c.args.self.now c.self.view_is c.args.at
     c.requires.there in
@@ -71,19 +50,15 @@ returns-in-Err-clause-err g c = λ line there.
     c.self.invariant.2
     (whole_inside hash s i.turns.items i.over c.args.self.now c.self.view_is c.requires.whole) in
     let at =
-    line_at c.lines.result.now s.lines c.args.at c.index-lines-at.result c.index-lines-at.result
-    c.lines.ensures.value
-    (event_there c.lines.result.now s.lines c.args.at c.lines.ensures.value below)
+    line_lent c.lines.result.now s.lines c.args.at mine c.lines.ensures.value below
     c.index-lines-at.is in
     let begin =
-    begins r s.lines i.turns.items c.args.at (line_of c.index-lines-at.result) at
-    (c.is_cluster.ensures r refl) in
+    begins r s.lines i.turns.items c.args.at mine at (c.is_cluster.ensures r refl) in
     let played =
     same_played r (opened hash s) rows i.pool i.places.items c.deref_mut.result.now i.known
     i.faulty.items c.deref.result.now c.deref_mut.ensures.value c.deref.ensures.value u.played in
-    seen_stopped hash s i.turns.items i.over c.args.self.now c.self.view_is c.args.at
-    (line_of c.index-lines-at.result) line c.in-Err.error at
-    (c.in-Err.ensures.err (opened hash s) rows begin played) there
+    seen_stopped hash s i.turns.items i.over c.args.self.now c.self.view_is c.args.at mine line
+    c.in-Err.error at (c.in-Err.ensures.err (opened hash s) rows begin played) there
 
 pub returns-clause-ok : goal.returns-clause-ok
 returns-clause-ok g c = λ line there.
@@ -99,7 +74,7 @@ invariant_of-self-2 g c =
     let s = i.script in
     let r = rules_of hash s in
     let rows = rows_at s.lines i.turns.items in
-    let line : Line = line_of c.index-lines-at.result in
+    let line : Line = c.index-lines-at.result in
     let below =
     below_inside hash s i.turns.items i.over c.args.self.now c.self.view_is c.args.at
     c.requires.there in
@@ -107,9 +82,7 @@ invariant_of-self-2 g c =
     c.self.invariant.2
     (whole_inside hash s i.turns.items i.over c.args.self.now c.self.view_is c.requires.whole) in
     let at =
-    line_at c.lines.result.now s.lines c.args.at c.index-lines-at.result c.index-lines-at.result
-    c.lines.ensures.value
-    (event_there c.lines.result.now s.lines c.args.at c.lines.ensures.value below)
+    line_lent c.lines.result.now s.lines c.args.at line c.lines.ensures.value below
     c.index-lines-at.is in
     let begin = begins r s.lines i.turns.items c.args.at line at (c.is_cluster.ensures r refl) in
     let played =

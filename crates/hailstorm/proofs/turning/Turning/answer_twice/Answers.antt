@@ -8,7 +8,6 @@ use Rattle.hail_script.specs.Scenario.{Scenario}
 use Rattle.hail_world.specs.Clusters.{Cluster, world_in}
 use Rattle.hail_world.specs.Places.{rules_of}
 use Rattle.hail_world.proofs.Clusters.{line_there}
-use Rattle.hail_world.proofs.Known.{count_lines}
 use Rattle.hailstorm.specs.Lanes.{lane_at, left}
 use Rattle.hailstorm.specs.Turns.{IsOver, Turning}
 use Rattle.hailstorm.proofs.Between.{advanced, between_of, between_seen, nothing_next, over_by, over_told, refused, replied, rows_many, turns_none}
@@ -54,7 +53,7 @@ play_twice-requires-clause-there g c =
     let i = c.self.inside in
     let all = c.lines-count.ensures.value ∙ ap (λ (s : Scenario). s.lines) c.script.ensures in
     let many : length i.cluster.script.lines ≡ length c.lines-count.result.now =
-    ap (λ (l : List Line). length l) (sym all) ∙ count_lines c.lines-count.result.now in
+    ap (λ (l : List Line). length l) (sym all) in
     omega (arith, many, c.in-Some-cursor_at.ensures.some.2)
 
 pub returns-in-Ok-play_twice-clause-lawful : goal.returns-in-Ok-play_twice-clause-lawful
@@ -70,7 +69,7 @@ returns-in-Ok-play_twice-clause-lawful g c =
     let from : ℕ = w.from in
     let all = c.lines-count.ensures.value ∙ ap (λ (s : Scenario). s.lines) c.script.ensures in
     let many : length i.cluster.script.lines ≡ length c.lines-count.result.now =
-    ap (λ (l : List Line). length l) (sym all) ∙ count_lines c.lines-count.result.now in
+    ap (λ (l : List Line). length l) (sym all) in
     let there = line_there i.cluster.script.lines from (omega (arith, many, w.ensures.some.2)) in
     let at : slice_get i.cursors.items c.args.lane ≡ Some (from, w.end) =
     subst (λ (l : List (ℕ × ℕ)). slice_get l c.args.lane ≡ Some (from, w.end))
@@ -105,7 +104,7 @@ returns-in-Err-play_twice-clause-lawful g c =
     let from : ℕ = w.from in
     let all = c.lines-count.ensures.value ∙ ap (λ (s : Scenario). s.lines) c.script.ensures in
     let many : length i.cluster.script.lines ≡ length c.lines-count.result.now =
-    ap (λ (l : List Line). length l) (sym all) ∙ count_lines c.lines-count.result.now in
+    ap (λ (l : List Line). length l) (sym all) in
     let there = line_there i.cluster.script.lines from (omega (arith, many, w.ensures.some.2)) in
     let at : slice_get i.cursors.items c.args.lane ≡ Some (from, w.end) =
     subst (λ (l : List (ℕ × ℕ)). slice_get l c.args.lane ≡ Some (from, w.end))
@@ -143,7 +142,7 @@ invariant_of-self-in-Ok-play_twice g c =
     let from : ℕ = w.from in
     let all = c.lines-count.ensures.value ∙ ap (λ (s : Scenario). s.lines) c.script.ensures in
     let many : length i.cluster.script.lines ≡ length c.lines-count.result.now =
-    ap (λ (l : List Line). length l) (sym all) ∙ count_lines c.lines-count.result.now in
+    ap (λ (l : List Line). length l) (sym all) in
     let there = line_there i.cluster.script.lines from (omega (arith, many, w.ensures.some.2)) in
     let at : slice_get i.cursors.items c.args.lane ≡ Some (from, w.end) =
     subst (λ (l : List (ℕ × ℕ)). slice_get l c.args.lane ≡ Some (from, w.end))
@@ -177,7 +176,7 @@ invariant_of-self-in-Err-play_twice g c =
     let from : ℕ = w.from in
     let all = c.lines-count.ensures.value ∙ ap (λ (s : Scenario). s.lines) c.script.ensures in
     let many : length i.cluster.script.lines ≡ length c.lines-count.result.now =
-    ap (λ (l : List Line). length l) (sym all) ∙ count_lines c.lines-count.result.now in
+    ap (λ (l : List Line). length l) (sym all) in
     let there = line_there i.cluster.script.lines from (omega (arith, many, w.ensures.some.2)) in
     let at : slice_get i.cursors.items c.args.lane ≡ Some (from, w.end) =
     subst (λ (l : List (ℕ × ℕ)). slice_get l c.args.lane ≡ Some (from, w.end))

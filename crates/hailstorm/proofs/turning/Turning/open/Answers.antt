@@ -6,7 +6,6 @@ use Rattle.hail_world.specs.Clusters.{Cluster}
 use Rattle.hail_world.specs.Played.{lines_of}
 use Rattle.hail_world.specs.Places.{rules_of}
 use Rattle.hail_world.specs.Runs.{IsStopped, opened}
-use Rattle.hail_world.proofs.Known.{count_lines}
 use Rattle.hailstorm.specs.Turns.{between}
 use Rattle.hailstorm.proofs.Between.{between_seen, rows_many}
 use Rattle.hailstorm.proofs.Prefixed.{opens_between, prefix_is}
@@ -19,8 +18,7 @@ play_before-requires-clause-within g c =
     ap (λ (l : List Line). length l)
     (sym
     (c.lines.ensures.value
-    ∙ ap (λ (p : Scenario × List ℕ × List ℕ). p.0.lines) parts))
-    ∙ count_lines c.lines.result.now in
+    ∙ ap (λ (p : Scenario × List ℕ × List ℕ). p.0.lines) parts)) in
     let same : length c.in_ok-cluster.cluster.script.lines ≡ length c.args.script.script.lines =
     ap (λ (k : Cluster). length k.script.lines) c.in_ok-cluster.ensures
     ∙ ap (λ (p : Scenario × List ℕ × List ℕ). length p.0.lines) parts in

@@ -16,6 +16,7 @@ returns-clause-ok c = λ notes have there. record {
       (sym c.write.ensures.settled)
       (c.in_ok-take.ensures.ok notes have.settling);
   ending_views = c.write.ensures.ended notes have.ending_views there.ended;
+  running = c.write.ensures.runs notes have.saying have.running there.run;
   entering =
       greatest_with entered c.args.self.now.epoch c.write.new.self.epoch notes c.args.note.now
       have.entering c.write.ensures.epoch;

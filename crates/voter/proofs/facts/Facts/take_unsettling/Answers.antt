@@ -17,6 +17,7 @@ returns c = λ notes have there none. record {
       (settled_same c.args.self.now.settled.by_key.entries notes c.args.note.now have.settling
       none);
   ending_views = c.write.ensures.ended notes have.ending_views there.ended;
+  running = c.write.ensures.runs notes have.saying have.running there.run;
   entering =
       greatest_with entered c.args.self.now.epoch c.write.new.self.epoch notes c.args.note.now
       have.entering c.write.ensures.epoch;

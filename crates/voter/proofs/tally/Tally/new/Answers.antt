@@ -5,6 +5,7 @@ use Rattle.cw_rules.specs.Accepted.{Ballot}
 use Rattle.note_scans.specs.Countable.{is_countable}
 use Rattle.voter.specs.Certs.{HasFirst}
 use Rattle.voter.specs.Facts.{HaveFacts}
+use Rattle.voter.specs.Lists.{HasLists}
 use Rattle.voter.specs.Own.{HasOwn}
 use Rattle.voter.specs.Signing.{HaveSigners}
 use Rattle.voter.specs.Standing.{is_formed, is_signed}
@@ -34,6 +35,9 @@ invariant_of-result g c =
       places =
           subst (λ (bs : List Ballot). HasFirst bs c.new-4.result.certs.first.entries)
           (sym c.new-2.ensures) c.new-4.ensures.certs;
+      listed =
+          subst (λ (bs : List Ballot). HasLists bs c.new-4.result.certs.lists.by_vote.entries)
+          (sym c.new-2.ensures) c.new-4.ensures.lists;
       owned =
           subst (λ (os : List OwnChunk). HasOwn os c.new-4.result.own.by_key.entries)
           (sym c.new-3.ensures) c.new-4.ensures.own;

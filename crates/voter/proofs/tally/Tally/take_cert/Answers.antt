@@ -1,8 +1,9 @@
 use Rattle.std.proofs.Common.{◌≡◌, ◌++◌, ◌∙◌, ◌∷◌, [], ℕ, List, ap, refl, subst, sym, true}
-use Rattle.std.specs.List.{list_all}
-use Rattle.cw_rules.specs.Accepted.{Ballot, Many}
+use Rattle.std.specs.List.{list_all, list_any}
+use Rattle.cw_rules.specs.Accepted.{Ballot, Many, same_ballot}
 use Rattle.voter.specs.Certs.{HasFirst}
 use Rattle.voter.specs.Known.{Known}
+use Rattle.voter.specs.Lists.{HasLists}
 use Rattle.voter.specs.Signing.{HaveSigners}
 use Rattle.voter.specs.Standing.{are_signers, is_formed, is_signed}
 use Rattle.voter.specs.Waiting.{AreWaiting}
@@ -41,8 +42,10 @@ invariant_of-self-2 g c =
       facts = c.self.invariant.facts;
       places =
           subst (λ (bs : List Ballot). HasFirst bs c.take.new.self.first.entries) (sym more)
-          (c.in_default.ensures.ok ballots c.args.cert.now c.self.invariant.places
-          c.len-len.ensures refl);
+          (c.in_default.ensures.first ballots c.self.invariant.places c.len-len.ensures);
+      listed =
+          subst (λ (bs : List Ballot). HasLists bs c.take.new.self.lists.by_vote.entries) (sym more)
+          (c.in_default.ensures.lists ballots c.self.invariant.listed);
       owned = c.self.invariant.owned;
       waiting =
           subst
@@ -80,8 +83,14 @@ invariant_of-self-in-Err g c =
       facts = c.self.invariant.facts;
       places =
           subst (λ (bs : List Ballot). HasFirst bs c.take.new.self.first.entries) (sym back)
-          (subst (λ (es : List (VoteKey × ℕ)). HasFirst ballots es) (sym c.in-Err.ensures.err)
+          (subst (λ (es : List (VoteKey × ℕ)). HasFirst ballots es) (sym c.in-Err.ensures.same)
           c.self.invariant.places);
+      listed =
+          subst (λ (bs : List Ballot). HasLists bs c.take.new.self.lists.by_vote.entries) (sym back)
+          (c.in-Err.ensures.err ballots c.self.invariant.listed
+          (ap (λ (k : Known). list_any (same_ballot (Many c.args.cert.now)) k.ballots)
+          c.self.view_is
+          ∙ (sym c.has_same_cert.ensures ∙ c.if-has_same_cert.false)));
       owned = c.self.invariant.owned;
       waiting =
           subst

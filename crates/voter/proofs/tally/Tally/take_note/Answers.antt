@@ -5,6 +5,7 @@ use Rattle.note_scans.specs.Countable.{is_countable}
 use Rattle.voter.specs.Certs.{HasFirst}
 use Rattle.voter.specs.Facts.{HaveFacts}
 use Rattle.voter.specs.Known.{Known}
+use Rattle.voter.specs.Lists.{HasLists}
 use Rattle.voter.specs.Own.{HasOwn}
 use Rattle.voter.specs.Signing.{HaveSigners, counted_vote}
 use Rattle.voter.specs.Waiting.{AreWaiting}
@@ -24,6 +25,9 @@ invariant_of-self-in-Err g c =
     let places =
     subst (λ (f : Certs). HasFirst ballots f.first.entries) (sym c.take_note.ensures.certs)
     c.self.invariant.places in
+    let listed =
+    subst (λ (f : Certs). HasLists ballots f.lists.by_vote.entries) (sym c.take_note.ensures.certs)
+    c.self.invariant.listed in
     let facts = c.take_note.new.self.facts in
     let back : c.truncate.new.self ≡ notes =
     taken_back notes c.push.new.self c.truncate.new.self c.in_ok-copy.copy c.len-len.result
@@ -41,6 +45,7 @@ invariant_of-self-in-Err g c =
           subst (λ (ns : List Note). HaveFacts ns facts) (sym back)
           (c.in-Err.ensures.refused notes c.self.invariant.facts);
       places = places;
+      listed = listed;
       owned =
           subst (λ (o : OwnKeys). HasOwn c.self.inside.own o.by_key.entries)
           (sym c.take_note.ensures.own) c.self.invariant.owned;
@@ -64,6 +69,9 @@ invariant_of-self-2 g c =
     let places =
     subst (λ (f : Certs). HasFirst ballots f.first.entries) (sym c.take_note.ensures.certs)
     c.self.invariant.places in
+    let listed =
+    subst (λ (f : Certs). HasLists ballots f.lists.by_vote.entries) (sym c.take_note.ensures.certs)
+    c.self.invariant.listed in
     let facts = c.take_note.new.self.facts in
     let more : c.push.new.self ≡ notes ++ c.args.note.now ∷ [] =
     c.in_ok-push.ensures.ok ∙ ap (λ (n : Note). notes ++ n ∷ []) c.in_ok-copy.ensures in
@@ -83,6 +91,7 @@ invariant_of-self-2 g c =
           subst (λ (ns : List Note). HaveFacts ns facts) (sym more)
           (c.in_default.ensures.facts x notes c.self.invariant.facts counted);
       places = places;
+      listed = listed;
       owned =
           subst (λ (o : OwnKeys). HasOwn c.self.inside.own o.by_key.entries)
           (sym c.take_note.ensures.own) c.self.invariant.owned;

@@ -15,6 +15,7 @@ invariant_of-self-in-Err g c =
       signers = c.self.invariant.signers;
       facts = c.self.invariant.facts;
       places = c.self.invariant.places;
+      listed = c.self.invariant.listed;
       owned =
           subst (λ (os : List OwnChunk). HasOwn os c.take.new.self.by_key.entries)
           (sym
@@ -34,6 +35,7 @@ invariant_of-self-in_default g c =
       signers = c.self.invariant.signers;
       facts = c.self.invariant.facts;
       places = c.self.invariant.places;
+      listed = c.self.invariant.listed;
       owned =
           subst (λ (os : List OwnChunk). HasOwn os c.take.new.self.by_key.entries)
           (sym c.in_ok-push.ensures.ok)

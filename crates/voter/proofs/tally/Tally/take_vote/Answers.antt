@@ -6,6 +6,7 @@ use Rattle.cw_rules.specs.Owed.{is_single}
 use Rattle.voter.specs.Certs.{HasFirst}
 use Rattle.voter.specs.Facts.{HaveFacts}
 use Rattle.voter.specs.Known.{Known}
+use Rattle.voter.specs.Lists.{HasLists}
 use Rattle.voter.specs.Own.{HasOwn}
 use Rattle.voter.specs.Signing.{HaveSigners}
 use Rattle.voter.specs.Standing.{is_formed, is_signed}
@@ -13,6 +14,7 @@ use Rattle.voter.specs.Waiting.{AreWaiting}
 use Rattle.voter.specs.declared.cert_places.Certs.{Certs}
 use Rattle.voter.specs.declared.facts.Facts.{Facts}
 use Rattle.voter.proofs.FirstCerts.{single_first}
+use Rattle.voter.proofs.Listed.{single_listed}
 use Rattle.voter.specs.declared.own_keys.OwnKeys.{OwnKeys}
 use Rattle.voter.proofs.Taking.{all_more, taken_back}
 use Rattle.voter.proofs.tally.Tally.take_vote.Goals as goal
@@ -52,6 +54,12 @@ invariant_of-self-in-Err g c =
           (subst
           (λ (bs : List Ballot). HasFirst bs c.self.inside.index.certs.first.entries) (sym back)
           c.self.invariant.places);
+      listed =
+          subst (λ (f : Certs). HasLists c.truncate.new.self f.lists.by_vote.entries)
+          (sym c.take_vote.ensures.certs)
+          (subst
+          (λ (bs : List Ballot). HasLists bs c.self.inside.index.certs.lists.by_vote.entries)
+          (sym back) c.self.invariant.listed);
       owned =
           subst (λ (o : OwnKeys). HasOwn c.self.inside.own o.by_key.entries)
           (sym c.take_vote.ensures.own) c.self.invariant.owned;
@@ -100,6 +108,14 @@ invariant_of-self-2 g c =
           (λ (bs : List Ballot). HasFirst bs c.self.inside.index.certs.first.entries) (sym more)
           (single_first ballots c.args.signer c.args.vote.now
           c.self.inside.index.certs.first.entries c.self.invariant.places));
+      listed =
+          subst (λ (f : Certs). HasLists c.push.new.self f.lists.by_vote.entries)
+          (sym c.take_vote.ensures.certs)
+          (subst
+          (λ (bs : List Ballot). HasLists bs c.self.inside.index.certs.lists.by_vote.entries)
+          (sym more)
+          (single_listed ballots c.args.signer c.args.vote.now
+          c.self.inside.index.certs.lists.by_vote.entries c.self.invariant.listed));
       owned =
           subst (λ (o : OwnKeys). HasOwn c.self.inside.own o.by_key.entries)
           (sym c.take_vote.ensures.own) c.self.invariant.owned;
