@@ -1,4 +1,4 @@
-use Rattle.std.proofs.Common.{◌≡◌, ◌++◌, ◌∙◌, refl, ap, subst}
+use Rattle.std.proofs.Common.{◌≡◌, ◌++◌, ◌∙◌, refl, sym, ap, subst}
 use Rattle.cw_rules.specs.Report.{Entry}
 use Rattle.cw_rules.specs.World.{Line, Faulty}
 use Rattle.hail_script.specs.Events.{line_of}
@@ -17,14 +17,14 @@ pub returns-in_ok-entry-in-Faulty-clause-turn : goal.returns-in_ok-entry-in-Faul
 returns-in_ok-entry-in-Faulty-clause-turn g c w members pools flags =
     let s = c.args.setting.now in
     let r = rules_of g.H.Hasher.digest_of s.script.now in
-    let is : Faulty c.in-Faulty.member.now c.in-Faulty.fault.now ≡ s.line.now =
-    ap line_of c.in-Faulty.is ∙ c.kind.ensures in
+    let entry = c.in_ok-entry-in-Faulty.entry in
+    let told = c.in_ok-entry-in-Faulty.ensures in
+    let is : Faulty c.in-Faulty.member c.in-Faulty.fault ≡ s.line.now =
+    sym (ap line_of c.in-Faulty.is) ∙ c.kind.ensures in
     subst
     (λ (l : Line). IsTurn r w s.number l c.args.places.now
-    (sent_in s.pool.now ++ c.in_ok-entry.entry.sent) c.in_ok-entry.entry)
+    (sent_in s.pool.now ++ entry.sent) entry)
     is
-    (fault_turn r w s.number c.in-Faulty.member.now c.in-Faulty.member.now c.in-Faulty.fault.now
-    c.args.places.now (sent_in s.pool.now)
-    (sent_in s.pool.now ++ c.in_ok-entry.entry.sent) c.in_ok-entry.entry refl members
-    pools c.in_ok-entry.ensures
-    (ap (λ (e : Entry). sent_in s.pool.now ++ e.sent) c.in_ok-entry.ensures))
+    (fault_turn r w s.number c.in-Faulty.member c.in-Faulty.member c.in-Faulty.fault
+    c.args.places.now (sent_in s.pool.now) (sent_in s.pool.now ++ entry.sent) entry refl members
+    pools told (ap (λ (e : Entry). sent_in s.pool.now ++ e.sent) told))
