@@ -16,7 +16,6 @@ use crate::world::{Report, World};
 use cw_base::{Digest32, Gate, Hasher, Items, NoMemory, Sink, Source, Strategy};
 use hail_report::{Early, Exit, Reading, clash_text, early_of, end_early, finish, read_script};
 use hail_script::RunError;
-use hail_world::end_usage;
 use std::alloc::Global;
 use std::sync::Wait;
 use std::thread::Threads;
@@ -69,7 +68,7 @@ pub fn lanes_program<
     ensures silent { IsSilent (O.held output.old) (O.held output.new) result }
 {
     if !words.is_empty() {
-        return end_usage(output, USAGE);
+        return finish(output, USAGE, Exit::Usage);
     }
     match read_script(alloc, input) {
         Reading::Whole(text) => run_whole(rt, alloc, &text, output, strategy, gate),

@@ -13,7 +13,7 @@ use crate::world::{Report, World};
 use cw_base::{Digest32, Hasher, NoMemory, Sink, Source, Strategy};
 use hail_report::{Exit, early_of, end_early, finish, storm_laws, storm_script, summary_of_parts};
 use hail_script::number_of;
-use hail_world::{end_usage, run_input};
+use hail_world::run_input;
 use node::Chunked;
 use std::alloc::Global;
 use std::thread::Threads;
@@ -77,7 +77,7 @@ pub fn run_program<
     ensures silent { IsSilent (O.held output.old) (O.held output.new) result }
 {
     match asked_of(words) {
-        None => end_usage(output, USAGE),
+        None => finish(output, USAGE, Exit::Usage),
         Some(None) => run_input::<H, Chunked, R, I, O, S>(rt, alloc, input, output, strategy),
         Some(Some(number)) => run_storm(rt, alloc, number, output, strategy),
     }

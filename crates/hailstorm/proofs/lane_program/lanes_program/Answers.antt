@@ -49,7 +49,3 @@ returns-in-TooLong-clause-usage_only g c = λ is.
     (early_run (IsRunInLanes g.H.Hasher.digest_of) _ _ _ _ early.TooLong c.end_early.result
     c.end_early.ensures)
     is)
-
-pub returns-then-not-is_empty-clause-fault : goal.returns-then-not-is_empty-clause-fault
-returns-then-not-is_empty-clause-fault g c =
-    c.end_usage.ensures.fault (g.I.Source.faults c.args.input.now)

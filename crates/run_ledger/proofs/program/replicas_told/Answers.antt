@@ -1,8 +1,8 @@
 use Rattle.run_ledger.proofs.Meaning.{are_as_many, is_done}
 use Rattle.run_ledger.proofs.program.replicas_told.Goals as goal
 
-pub ledger_text-text-requires : goal.ledger_text-text-requires
-ledger_text-text-requires g c =
+pub ledger_text-requires : goal.ledger_text-requires
+ledger_text-requires g c =
     are_as_many c.args.report.now c.in_ok-replicas.replicas c.in_ok-replicas.ensures.given
     c.as_slice.result.now c.as_slice-2.result.now c.as_slice.ensures c.as_slice-2.ensures
 
