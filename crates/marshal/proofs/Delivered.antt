@@ -118,9 +118,6 @@ module _ (r : Rules) where
 
   -- ---- heights rise
 
-  heights : List Handed → List ℕ
-  heights out = map (λ (h : Handed). h.height) out
-
   within_rises : (steps : ℕ) (s : State)
       → rises_from (next s) (map (λ h. h.height) (deliveries_within r steps s)) ≡ true
   within_rises zero s = refl

@@ -94,9 +94,6 @@ module _ (r : Rules) where
 
   module _ (notes more : List Note) (h : ℕ) (is : IsUnpruned (notes ++ more) h)
       (agree : AgreeAt r (notes ++ more) h) where
-    all : List Note
-    all = notes ++ more
-
     -- a held finalized block reaches itself
     here : (p : Proposal) (b : Block) → held r (notes ++ more) p.payload ≡ Some b
         → (b.height == h) ≡ true → reached_by r (notes ++ more) h p ≡ Some p.payload

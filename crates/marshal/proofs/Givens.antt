@@ -123,9 +123,3 @@ rises_on given h n floor is up =
         e
         ∙ ap (λ o. max (option_map_or (λ y. y + 1) o n) floor) (last_value None x xs d) in
         subst (λ (k : ℕ). slice_index_or (x ∷ xs) k d ≤ h) at (omega (arith, above))
-
-pub all_taken : {X : Type 0} (P : X → Type 0) (k : ℕ) (xs : List X) → AllByRecursion P xs
-    → AllByRecursion P (take k xs)
-all_taken P zero xs all = tt
-all_taken P (suc k) [] all = tt
-all_taken P (suc k) (x ∷ xs) all = (all.0, all_taken P k xs all.1)

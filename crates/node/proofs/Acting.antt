@@ -97,16 +97,6 @@ module _ {D A : Type 0} (hash : List ℕ → Digest32) (accepts : A → Block �
       all : notes ≡ notes_of_event (rules_of hash accepts old) signed e old
       all = λ i. head i ++ tail i
 
-  -- it is the same node
-  pub same_acted : (old a b c : Holding D A) (came : Came) (xs ys : List Note)
-      → HasCome hash accepts came old a → HasNoted hash accepts xs a b
-      → HasNoted hash accepts ys b c → IsSameHolder old c
-  same_acted old a b c came xs ys come first rest = record {
-    travel = rest.travel ∙ (first.travel ∙ come.same.travel);
-    id = rest.id ∙ (first.id ∙ come.same.id);
-    epochs = rest.epochs ∙ (first.epochs ∙ come.same.epochs);
-    backlog = rest.backlog ∙ (first.backlog ∙ come.same.backlog);
-    app = rest.app ∙ (first.app ∙ come.same.app);
   }
 
   -- where no block was owed, one can be owed then only under what came last

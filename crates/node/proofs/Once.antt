@@ -53,11 +53,6 @@ seen_more old new x sees c =
     go true b = refl
     go false b = refl
 
--- no key is there at first
-pub first_seen : (new : List Commitment) (x : Commitment) → SeesMore [] new x
-    → (cs : List Commitment) → once new cs ≡ once (x ∷ []) cs
-first_seen new x sees cs = sym (once_same (x ∷ []) new (seen_more [] new x sees) cs)
-
 drop_item : {X : Type 0} (xs : List X) (i : ℕ) (x : X) → i < length xs → x ≡ get_or xs i x
     → drop i xs ≡ x ∷ drop (i + 1) xs
 drop_item xs i x l e = rw (add-one, drop-cons xs i x) (ap (λ z. z ∷ drop (suc i) xs) (sym e))

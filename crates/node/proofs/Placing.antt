@@ -131,18 +131,6 @@ one_placed block_of xs old new c place x has puts at is d =
     ∙ ((λ i. option_or (has d i) (if sym (is d) i then Some (at i) else None))
     ∙ sym (position_more (λ z. is_some (block_of d z)) xs x))
 
--- one more that gives none
-pub none_placed : {X : Type 0} (block_of : Commitment → X → Option Block) (xs : List X)
-    (entries : List (Commitment × ℕ)) (x : X) → HasFirsts block_of xs entries
-    → ((d : Commitment) → is_some (block_of d x) ≡ false)
-    → HasFirsts block_of (xs ++ x ∷ []) entries
-none_placed block_of xs entries x has none d =
-    has d
-    ∙ (sym (or_none (position (λ z. is_some (block_of d z)) xs))
-    ∙ ((λ i. option_or (position (λ z. is_some (block_of d z)) xs)
-    (if sym (none d) i then Some (length xs) else None))
-    ∙ sym (position_more (λ z. is_some (block_of d z)) xs x)))
-
 -- an arrival that came whole is under its commitment alone
 pub whole_is : (a : Arrival) → is_some a.block ≡ true → (d : Commitment)
     → is_some (whole_under d a) ≡ same_commitment d a.commitment
@@ -158,16 +146,6 @@ whole_is a whole d = go a.block whole
     go None h = absurd (false≢true h)
     go (Some b) h =
         by (same_commitment a.commitment d) b ∙ commitments_are_told.symm a.commitment d
-
-pub chunk_is : (a : Arrival) → is_some a.block ≡ false → (d : Commitment)
-    → is_some (whole_under d a) ≡ false
-chunk_is a chunk d = go a.block chunk
-  where
-    go : (o : Option Block) → is_some o ≡ false
-        → is_some (option_and_then (λ b. if same_commitment a.commitment d then Some b else None) o)
-        ≡ false
-    go None h = refl
-    go (Some b) h = absurd (false≢true (sym h))
 
 pub shown_is : (x : Shown) (d : Commitment)
     → is_some (shown_under d x) ≡ same_commitment d x.commitment
@@ -334,13 +312,6 @@ later_here xs a b (Some n) later = later_front xs a n b later.within later.none
 later_here xs a b None later =
     later_front xs a (length xs) b (at_most (length xs)) later.none
 
--- a place kept before there is one more
-later_kept : (xs : List Arrival) (b : Block) (found : Option ℕ) (kept : Bool) → IsLater xs found b
-    → IsLater xs (option_or found (if kept then Some (length xs) else None)) b
-later_kept xs b (Some n) kept later = later
-later_kept xs b None true later = record { within = later.within; none = later.none }
-later_kept xs b None false later = later
-
 is_later : (xs : List Arrival) (entries : List (Commitment × ℕ)) (b : Block) → IsBehind xs entries b
     → IsLater xs (lookup (same_commitment b.context.parent) entries) b
 is_later xs entries b behind = record { within = behind.within; none = behind.none }
@@ -360,17 +331,6 @@ found_put c d place n old new puts at =
     (λ m. option_or (lookup (same_commitment d) old)
     (if same_commitment d c then Some m else None))
     at
-
--- a place kept before the block itself
-pub kept_child : (xs : List Arrival) (old new : List (Commitment × ℕ)) (c : Commitment) (place : ℕ)
-    → PutsFirst c place old new → place ≡ length xs → ((b : Block) → IsBehind xs old b)
-    → (b : Block) → IsBehind xs new b
-kept_child xs old new c place puts at behind b =
-    is_behind xs new b
-    (subst (λ (o : Option ℕ). IsLater xs o b)
-    (sym (found_put c b.context.parent place (length xs) old new puts at))
-    (later_kept xs b (lookup (same_commitment b.context.parent) old)
-    (same_commitment b.context.parent c) (is_later xs old b (behind b))))
 
 -- one more whole block, with its place
 pub one_child : (xs : List Arrival) (old new : List (Commitment × ℕ)) (a : Arrival) (d : Block)
@@ -409,13 +369,3 @@ one_child xs old new a d place whole puts at behind b =
     go false e =
         subst (λ (o : Option ℕ). IsLater (xs ++ a ∷ []) o b) (sym (or_none found))
         (later_other xs a b found later (other e))
-
--- one more chunk
-pub none_child : (xs : List Arrival) (entries : List (Commitment × ℕ)) (a : Arrival)
-    → a.block ≡ None → ((b : Block) → IsBehind xs entries b)
-    → (b : Block) → IsBehind (xs ++ a ∷ []) entries b
-none_child xs entries a chunk behind b =
-    is_behind (xs ++ a ∷ []) entries b
-    (later_other xs a b (lookup (same_commitment b.context.parent) entries)
-    (is_later xs entries b (behind b))
-    (ap (λ o. option_map_or (same_block b) o false) chunk))

@@ -95,15 +95,6 @@ last_at g o (y ∷ (z ∷ zs)) x h =
     subst (λ n. slice_get (y ∷ (z ∷ zs)) n ≡ Some x) at h in
     last_at g (Some (g y)) (z ∷ zs) x there
 
-pub none_last : {X : Type 0} (xs : List X) → slice_get xs (length xs - 1) ≡ None → xs ≡ []
-none_last [] h = refl
-none_last (y ∷ []) h = cc
-none_last (y ∷ (z ∷ zs)) h =
-    let at : suc (length (z ∷ zs)) - 1 ≡ suc (length (z ∷ zs) - 1) = omega arith in
-    let there : slice_get (y ∷ (z ∷ zs)) (suc (length (z ∷ zs) - 1)) ≡ None =
-    subst (λ n. slice_get (y ∷ (z ∷ zs)) n ≡ None) at h in
-    let never : z ∷ zs ≡ [] = none_last (z ∷ zs) there in cc
-
 -- ---- what is owed is owed under what came last
 
 pub owed_last : (r : Rules) (s : State) (c : Commitment) → OwesLast r s
@@ -398,8 +389,3 @@ last_arrival r s arrivals a named owes last =
     ∙ (ap (first_some (block_owed r s)) (sym named)
     ∙ owed_last r s a.commitment owes
     (ap (last_or None) named ∙ last_at (λ (a : Arrival). a.commitment) None arrivals a last))
-
-pub no_arrival : (r : Rules) (s : State) (arrivals : List Arrival)
-    → slice_get arrivals (length arrivals - 1) ≡ None
-    → first_some (arrival_owed r s) arrivals ≡ None
-no_arrival r s arrivals none = ap (first_some (arrival_owed r s)) (none_last arrivals none)

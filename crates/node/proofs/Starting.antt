@@ -58,22 +58,6 @@ stands_told hash r law (note ∷ notes) t s stands =
     (record t { notes = (t.notes ++ note ∷ []) ++ notes }) r u)
     (notes_on s (note ∷ []) notes) more)
 
--- a note that can be stored can be counted
-pub storable_countable : (note : Note) → is_storable note ≡ true → is_countable note ≡ true
-storable_countable (Note.Cert c) h =
-    (and_parts (well_formed c.vote) (nat_lt (length c.signers) (2 ^ 16)) h).0
-storable_countable (Note.Vote v) h = h
-storable_countable (Note.Certified p) h = h
-storable_countable _ h = refl
-
--- what passes of all passes at each place
-pub all_at : {X : Type 0} (p : X → Bool) (xs : List X) (i : ℕ) (x : X) → list_all p xs ≡ true
-    → i < length xs → x ≡ get_or xs i x → p x ≡ true
-all_at p [] i x all l e = absurd (omega arith)
-all_at p (y ∷ ys) zero x all l e = ap p e ∙ (and_parts (p y) (list_all p ys) all).0
-all_at p (y ∷ ys) (suc i) x all l e =
-    all_at p ys i x (and_parts (p y) (list_all p ys) all).1 (omega arith) e
-
 filter_all : {X : Type 0} (xs : List X) → filter (λ x. true) xs ≡ xs
 filter_all [] = refl
 filter_all (x ∷ xs) = ap (λ l. x ∷ l) (filter_all xs)

@@ -45,24 +45,4 @@ module _ {D : Type 0} (state : D → DiskState) (continues : D → D → Type 0)
         goes_on = itself old.disk;
       })
 
--- a start that found its frames, and was refused for memory then
-pub found_refused : {D : Type 0} (state : D → DiskState) (continues : D → D → Type 0)
-    (frames : List (List Note)) (old new : D)
-    → HasFound state continues frames old new → WasRefused state continues store.NoMemory old new
-found_refused state continues frames old new found = record {
-  any_moment = found.any_moment;
-  foreign = λ place e. cc;
-  foreign_again = λ place e. cc;
-  calls_foreign = λ place e. cc;
-  calls_failed = λ e. cc;
-  calls_no_memory =
-      λ e. record {
-        did = start_calls (state old).now.seen;
-        rest = [];
-        whole = sym (append-nil (start_calls (state old).now.seen));
-        told = found.calls;
-      };
-  cause = λ e. cc;
-  faults = found.faults;
-  goes_on = found.goes_on;
 }
