@@ -5,13 +5,13 @@ use Rattle.cw_types.specs.Block.{Block}
 use Rattle.cw_types.specs.declared.event.Event.{Event}
 use Rattle.cw_types.specs.declared.note.Note.{Note}
 use Rattle.cw_types.specs.declared.vote.Vote.{Vote}
-use Rattle.cw_rules.specs.Accepted.{Came, State}
+use Rattle.cw_rules.specs.Accepted.{State}
 use Rattle.cw_rules.specs.Direct.{direct}
 use Rattle.cw_rules.specs.Rules.{Rules}
 use Rattle.cw_rules.specs.Step.{marks, settle, taken, taken_came, with_notes}
 use Rattle.node.proofs.Noting.{noted_on, same_rules}
 use Rattle.node.proofs.Resting.{event_owes, noted_owes}
-use Rattle.node.specs.Acting.{HasActed, IsSameHolder, notes_of_event}
+use Rattle.node.specs.Acting.{HasActed, notes_of_event}
 use Rattle.node.specs.Holding.{Holding, came_of, rules_of, state_of}
 use Rattle.node.specs.Noting.{HasNoted, with_all_staged}
 use Rattle.node.specs.Standing.{HasCome, OwesLast, OwesNoBlock}
@@ -96,8 +96,6 @@ module _ {D A : Type 0} (hash : List ℕ → Digest32) (accepts : A → Block �
 
       all : notes ≡ notes_of_event (rules_of hash accepts old) signed e old
       all = λ i. head i ++ tail i
-
-  }
 
   -- where no block was owed, one can be owed then only under what came last
   pub owes_then : (old a b : Holding D A) (notes : List Note)

@@ -1,6 +1,5 @@
 -- A member that starts stands for the notes of its store.
-use Rattle.std.proofs.Common.{◌≡◌, ℕ, ◌<◌, Bool, true, false, ◌==◌, List, [], ◌∷◌, ◌++◌, length, filter, map, take, None, option_and_then, refl, sym, ◌∙◌, ap, subst, append_assoc, append-nil, arith, get_or, zero, suc}
-use Rattle.std.specs.List.{list_all}
+use Rattle.std.proofs.Common.{◌≡◌, ℕ, ◌<◌, Bool, true, false, ◌==◌, List, [], ◌∷◌, ◌++◌, filter, map, take, None, option_and_then, refl, sym, ◌∙◌, ap, subst, append_assoc, append-nil, arith, zero, suc}
 use Rattle.cw_base.specs.declared.hash.Digest32.{Digest32}
 use Rattle.cw_types.specs.Block.{Block}
 use Rattle.cw_types.specs.declared.commitment.Commitment.{Commitment}
@@ -29,11 +28,7 @@ use Rattle.node.specs.Store.{Store, stored_notes}
 use Rattle.node.specs.declared.leads.Led.{Led}
 use Rattle.voter.specs.Known.{Known, unknowing, with_note}
 use Rattle.voter.specs.Standing as voter
-use Rattle.std.specs.Prelude.{nat_lt, ◌^◌}
-use Rattle.std.proofs.lemmas.Bool.{and_parts, le-ltb}
-use Rattle.cw_types.specs.Values.{is_storable}
-use Rattle.cw_types.specs.Votes.{well_formed}
-use Rattle.note_scans.specs.Countable.{is_countable}
+use Rattle.std.proofs.lemmas.Bool.{le-ltb}
 use Rattle.marshal.proofs.Floors.{no_notes}
 use Rattle.node.proofs.Noting.{notes_on}
 

@@ -1,14 +1,14 @@
 -- What a step did to the disk, by where it ended.
-use Rattle.std.proofs.Common.{◌≡◌, ap, List, [], Result, Ok, Err, refl, sym, subst, arith, append-nil}
+use Rattle.std.proofs.Common.{◌≡◌, ap, List, [], Result, Ok, Err, refl, sym, subst, arith}
 use Rattle.std.specs.Prelude.{IsErrAnd}
 use Rattle.cw_types.specs.declared.note.Note.{Note}
 use Rattle.marshal.specs.Frames.{FindsAllOrNone, frame_bytes}
 use Rattle.node_disk.specs.Disk.{DiskState, LeavesOnly}
-use Rattle.node_disk.specs.Log.{LogState, calls_of_append, start_calls}
+use Rattle.node_disk.specs.Log.{LogState, calls_of_append}
 use Rattle.node_disk.specs.declared.log.StoreError.{StoreError}
 use Rattle.node_disk.specs.declared.log.StoreError.TheVariants as store
 use Rattle.node_disk.proofs.Moments.{told_none}
-use Rattle.node.specs.Disks.{HasFound, HasTried, WasRefused}
+use Rattle.node.specs.Disks.{HasTried}
 
 -- an error that is want of memory
 pub err_is : {X : Type 0} (r : Result X StoreError) → IsErrAnd r (λ e. e ≡ store.NoMemory)
@@ -44,5 +44,3 @@ module _ {D : Type 0} (state : D → DiskState) (continues : D → D → Type 0)
         faults = omega arith;
         goes_on = itself old.disk;
       })
-
-}
