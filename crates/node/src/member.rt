@@ -34,13 +34,11 @@ pub type NodeError = StoreError;
 /// `use_cluster` runs four members; parts of it:
 ///
 /// ```text
-/// // on an empty disk, or on what a crash left
-/// match Node::start(rt, alloc, id, all, 3, disk, Rising, &Sequential) {
-///     Ok(started) => Ok(started), // the member, and what it sends and hands out
-///     Err((_disk, error)) => Err(error.into()),
-/// }
+/// // on an empty disk, or on what a crash left; it answers what a step does
+/// let started = Node::start(self.rt, self.alloc, id, all, 3, disk, Rising, &Sequential);
+/// let (member, out) = started.map_err(|(_disk, error)| error)?;
 /// // once it answers, the notes of the step lie on the disk
-/// let out = member.step(self.rt, self.alloc, event, &self.signed, &Sequential)?;
+/// let out = member.step(self.rt, self.alloc, &event, signed, &Sequential)?;
 /// ```
 #[derive(Drop)]
 pub struct Member<H: Hasher<Digest = Digest32>, D: Disk, A: Application + Drop, W: Way> {
