@@ -10,7 +10,6 @@ use crate::gf16;
 pub type Eight = [u16; 8];
 
 /// The sum of two in each lane.
-#[inline(always)]
 pub fn sum_of_two(a: &Eight, b: &Eight) -> Eight
     ensures { (l : ℕ) → l < 8
         → slice_index result l ≡ bit_xor (slice_index a.now l) (slice_index b.now l) }
@@ -117,7 +116,6 @@ pub fn products(a: &Eight, b: &Eight) -> Eight
 }
 
 // The product with elements of eight bits.
-#[inline(always)]
 fn by_eight_bits(a: &Eight, b: &Eight) -> Eight
     ensures { (l : ℕ) → l < 8 → slice_index b.now l < 256
         → slice_index result l ≡ times (slice_index a.now l) (slice_index b.now l) }
@@ -129,7 +127,6 @@ fn by_eight_bits(a: &Eight, b: &Eight) -> Eight
 }
 
 // The product with elements of four bits.
-#[inline(always)]
 fn by_four_bits(a: &Eight, b: &Eight) -> Eight
     ensures { (l : ℕ) → l < 8 → slice_index b.now l < 16
         → slice_index result l ≡ times (slice_index a.now l) (slice_index b.now l) }
@@ -141,7 +138,6 @@ fn by_four_bits(a: &Eight, b: &Eight) -> Eight
 }
 
 // The product with elements of two bits.
-#[inline(always)]
 fn by_two_bits(a: &Eight, b: &Eight) -> Eight
     ensures { (l : ℕ) → l < 8 → slice_index b.now l < 4
         → slice_index result l ≡ times (slice_index a.now l) (slice_index b.now l) }
@@ -153,7 +149,6 @@ fn by_two_bits(a: &Eight, b: &Eight) -> Eight
 }
 
 // The product with 0 or 1 in each lane.
-#[inline(always)]
 fn by_bits(a: &Eight, b: &Eight) -> Eight
     ensures { (l : ℕ) → l < 8 → slice_index b.now l < 2
         → slice_index result l ≡ times (slice_index a.now l) (slice_index b.now l) }
@@ -178,7 +173,6 @@ fn by_bit(a: u16, b: u16) -> u16
 }
 
 // What each lane leaves over a power of two.
-#[inline(always)]
 fn low_parts(a: &Eight, size: u16) -> Eight
     requires { 0 < size }
     ensures { (l : ℕ) → l < 8 → slice_index result l ≡ slice_index a.now l % size }
@@ -196,7 +190,6 @@ fn low_parts(a: &Eight, size: u16) -> Eight
 }
 
 // How often each lane holds a power of two.
-#[inline(always)]
 fn high_parts(a: &Eight, size: u16) -> Eight
     requires { 0 < size }
     ensures { (l : ℕ) → l < 8 → slice_index result l ≡ slice_index a.now l / size }
@@ -214,7 +207,6 @@ fn high_parts(a: &Eight, size: u16) -> Eight
 }
 
 /// The product with 2 in each lane.
-#[inline(always)]
 pub fn each_by_2(a: &Eight) -> Eight
     ensures { (l : ℕ) → l < 8 → slice_index result l ≡ times (slice_index a.now l) 2 }
 {
@@ -231,7 +223,6 @@ pub fn each_by_2(a: &Eight) -> Eight
 }
 
 /// The product with 4 in each lane.
-#[inline(always)]
 pub fn each_by_4(a: &Eight) -> Eight
     ensures { (l : ℕ) → l < 8 → slice_index result l ≡ times (slice_index a.now l) 4 }
 {
@@ -248,7 +239,6 @@ pub fn each_by_4(a: &Eight) -> Eight
 }
 
 /// The product with 16 in each lane.
-#[inline(always)]
 pub fn each_by_16(a: &Eight) -> Eight
     ensures { (l : ℕ) → l < 8 → slice_index result l ≡ times (slice_index a.now l) 16 }
 {
@@ -265,7 +255,6 @@ pub fn each_by_16(a: &Eight) -> Eight
 }
 
 /// The product with 256 in each lane.
-#[inline(always)]
 pub fn each_by_256(a: &Eight) -> Eight
     ensures { (l : ℕ) → l < 8 → slice_index result l ≡ times (slice_index a.now l) 256 }
 {
