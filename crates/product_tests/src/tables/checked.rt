@@ -1,39 +1,9 @@
-//! Scripts that are run.
+//! Runs to which an independent program gave these answers.
 
-/// Sixteen messages, by which a block of one transfer is handed out to member 2.
-pub(crate) const TRANSFER: &str = "cluster 4 3
-propose 1 00000000000000070000000000000005
-deliver 0 0
-deliver 1 0
-deliver 4 0
-deliver 2 2
-deliver 4 2
-deliver 8 0
-deliver 9 1
-deliver 9 2
-deliver 5 2
-deliver 10 2
-deliver 12 2
-";
-
-/// The same messages with a block of two bytes, which are no transfers.
-pub(crate) const NO_TRANSFER: &str = "cluster 4 3
-propose 1 6869
-deliver 0 0
-deliver 1 0
-deliver 4 0
-deliver 2 2
-deliver 4 2
-deliver 8 0
-deliver 9 1
-deliver 9 2
-deliver 5 2
-deliver 10 2
-deliver 12 2
-";
-
-/// Three blocks of transfers, and nobody stops.
-pub(crate) const LONGER: &str = "cluster 4 18446744073709551615
+/// To member 2 of the first run genesis alone was handed out.
+pub(crate) const CHECKED: &str = "\
+== three blocks of transfers, and nobody stops
+cluster 4 18446744073709551615
 propose 1 -
 deliver 1 3
 deliver 4 0
@@ -153,10 +123,28 @@ deliver 68 1
 deliver 65 1
 deliver 76 3
 deliver 74 1
-";
+--
+> 0 ledger
+ledger 0 2
+balance 0 0 1000000000
+ledger 1 3
+balance 1 0 1000000000
+ledger 2 0
+balance 2 0 1000000000
+ledger 3 3
+balance 3 0 1000000000
 
-/// Members that stop and come back, one that is faulty, and floors.
-pub(crate) const STOPPING: &str = "cluster 4 18446744073709551615
+> 0 light 3
+yes 3 61825e16c84282e387235f90ab8670e3fe20e739d2bc08c6265165dc9d77034a
+
+> 0 archive 1000
+archive 1 no
+archive 2 yes
+archive 3 yes
+used 956
+
+== members that stop and come back, one that is faulty, and floors
+cluster 4 18446744073709551615
 faulty 1 silent
 floor 0 0
 timeout 0 1
@@ -276,10 +264,28 @@ prune 3 1
 deliver 69 3
 deliver 70 3
 deliver 70 0
-";
+--
+> 0 ledger
+ledger 0 2
+balance 0 0 999999999
+balance 0 9 1
+ledger 2 2
+balance 2 0 999999999
+balance 2 9 1
+ledger 3 2
+balance 3 0 999999999
+balance 3 9 1
 
-/// Three epochs, stops, and members that are faulty.
-pub(crate) const EPOCHS: &str = "epochs 6 3 1 3
+> 0 light 1
+yes 1 c5f846aa0c7d5cc9a2785766f9a531a249f3eebc0225455d145c044f043a4960
+
+> 0 archive 1000
+archive 1 no
+archive 2 yes
+used 940
+
+== three epochs, stops, and members that are faulty
+epochs 6 3 1 3
 members 0 1 2 3 4 5
 members 0 2 3 4
 members 0 1 2 3 4 5
@@ -399,4 +405,24 @@ restart 4
 deliver 42 0
 deliver 41 2
 cut 4 0 1 floor 1 44
+--
+> 0 ledger
+ledger 0 1
+balance 0 0 1000000000
+ledger 1 0
+balance 1 0 1000000000
+ledger 2 0
+balance 2 0 1000000000
+ledger 3 0
+balance 3 0 1000000000
+ledger 4 0
+balance 4 0 1000000000
+
+> 0 light 2
+none
+
+> 0 archive 87
+archive 1 no
+used 0
+
 ";
