@@ -8,7 +8,7 @@ ghost use Rattle.cw_base.specs.Rows.{row_hashes};
 
 use crate::error::NoMemory;
 use crate::rows::hash_rows;
-use crate::strategy::Strategy;
+use crate::strategy::{Sequential, Strategy};
 use sha2::Digest as Sha2Digest;
 use std::alloc::Global;
 use std::fmt;
@@ -99,6 +99,10 @@ impl Digest for Digest32 {
     ghost told_by_bytes = { λ a b same. ap (λ bytes. record { 0 = bytes }) same };
 }
 
+// Rows of fewer bytes in all are hashed on the caller's thread, whatever the strategy is: to start
+// the threads takes longer than they save there (docs/SPEED.md).
+const FEW_BYTES: usize = 32768;
+
 /// A hash function from byte texts to digests.
 ///
 /// Nothing more is asked of it than that it is a function: what is proved over a hasher holds also
@@ -131,6 +135,9 @@ pub trait Hasher: Send + Sync {
         ensures each_row { IfOk result
             (λ digests. digests.items ≡ row_hashes digest_of width rows.now) }
     {
+        if rows.len() < FEW_BYTES {
+            return hash_rows::<Self, R, Sequential>(rt, alloc, rows, width, &Sequential);
+        }
         hash_rows::<Self, R, S>(rt, alloc, rows, width, strategy)
     }
 
