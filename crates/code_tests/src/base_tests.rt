@@ -5,6 +5,7 @@ use cw_base::{
     Sha256, Sink, Source, Strategy, SumHasher, Threads, put_be16, put_be32, put_be64, put_bytes,
     put_u8, put_varint, run_of,
 };
+use std::alloc::Global;
 use std::sync::atomic::{AtomicU64, Ordering};
 use std::test::Fail;
 use std::thread;
@@ -191,6 +192,36 @@ fn pieces_run_beside_each_other(rt: HostRuntime) -> Result<(), Fail> {
     let halves = Threads::new(2, &door).map(&rt, rt.alloc(), &[8u64, 2, 5], &|x: &u64| *x / 2)?;
     assert!(rt; halves.as_slice() == [4, 1, 2].as_slice());
     assert_eq!(rt; door.passed.load(Ordering::SeqCst), 1);
+    Ok(())
+}
+
+// Whether rows of 128 bytes are hashed by four threads as one behind the other.
+fn hash_alike<R: thread::Threads + Sync>(
+    rt: &R,
+    alloc: Global,
+    count: usize,
+    counter: &Counter,
+) -> Result<bool, Fail> {
+    let rows = vec![in alloc; 7u8; 128 * count.min(512)]?;
+    if rows.len() % 128 != 0 {
+        return Ok(false);
+    }
+    let four = Threads::new(4, counter);
+    let beside = Sha256::hash_many(rt, alloc, &rows, 128, &four)?;
+    let behind = Sha256::hash_many(rt, alloc, &rows, 128, &Sequential)?;
+    Ok(beside.len() == count && beside.as_slice() == behind.as_slice())
+}
+
+#[test]
+fn few_rows_are_hashed_on_the_callers_thread(rt: HostRuntime) -> Result<(), Fail> {
+    for (count, arrived) in [(0, 0), (1, 0), (255, 0), (256, 0x1111)] {
+        let counter = Counter {
+            arrived: AtomicU64::new(0),
+        };
+        let alike = hash_alike(&rt, rt.alloc(), count, &counter)?;
+        assert!(rt; alike, "{count}");
+        assert_eq!(rt; counter.arrived.load(Ordering::SeqCst), arrived, "{count}");
+    }
     Ok(())
 }
 
