@@ -43,7 +43,8 @@ impl<R: Print + Threads + Sync> Cluster<'_, R> {
         self.start(id, member.into_disk().reopen())
     }
 
-    // Proposes a text at a member, which leads its view, and gives each what is due at it.
+    // Proposes a text at a member, which leads its view, and gives each what is due at it: so many
+    // messages and acknowledgements as one block among four takes, and no more than a thousand.
     fn propose(&mut self, id: u16, text: &str) -> Result<()> {
         let bytes = Vec::from_slice(self.alloc, text.as_bytes())?;
         let payload = Payload::new(bytes).ok().context("too long a text")?;
