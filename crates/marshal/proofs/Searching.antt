@@ -1,6 +1,6 @@
 -- What is searched from the first finalization on that may be high enough.
-use Rattle.std.proofs.Common.{◌≡◌, ◌⊎◌, inl, inr, ℕ, zero, suc, ◌<◌, ◌≤◌, ◌==◌, true, false, cond, nat_lt, drop, take, refl, sym, ◌∙◌, ap, arith, subst, List, [], ◌∷◌, Option, Some, None, IfSome, option_and_then, slice_get, if◌then◌else◌}
-use Rattle.std.specs.List.{AllByRecursion, filter_map}
+use Rattle.std.proofs.Common.{◌≡◌, ◌⊎◌, inl, inr, ℕ, zero, suc, ◌+◌, ◌<◌, ◌≤◌, ◌==◌, Bool, true, false, cond, nat_lt, drop, take, refl, sym, ◌∙◌, ap, arith, subst, List, [], ◌∷◌, length, Option, Some, None, IfSome, option_and_then, option_map, slice_get, if◌then◌else◌}
+use Rattle.std.specs.List.{AllByRecursion, filter_map, position}
 use Rattle.std.specs.Option.{option_or}
 use Rattle.std.proofs.lemmas.Bool.{cases_Bool}
 use Rattle.std.proofs.lemmas.Bool.Decides.{nat_tests}
@@ -10,13 +10,16 @@ use Rattle.cw_types.specs.declared.commitment.Commitment.{Commitment}
 use Rattle.cw_types.specs.declared.note.Note.{Note}
 use Rattle.cw_types.specs.declared.vote.Cert.{Cert}
 use Rattle.cw_types.specs.declared.vote.Proposal.{Proposal}
+use Rattle.cw_types.proofs.Same.{same_commitment_self}
 use Rattle.cw_rules.specs.Accepted.{first_some}
 use Rattle.cw_rules.specs.Held.{finalization_of, held, reached}
 use Rattle.cw_rules.specs.Rules.{Rules}
 use Rattle.cw_rules.specs.Sends.{finalization_at}
 use Rattle.marshal.specs.Bare.{reached_by}
 use Rattle.marshal.specs.Finding.{final_block, higher_of, highest}
+use Rattle.marshal.specs.Reach.{HasFinals, is_final}
 use Rattle.marshal.proofs.Growing.{reached_low}
+use Rattle.marshal.proofs.Placing.{position_cons}
 
 -- ---- searches
 
@@ -161,3 +164,41 @@ highest_at f (suc k) (x ∷ xs) b e low all =
     go (Some c) is l later =
         let yes : nat_lt c.height b.height ≡ true = grind (arith, nat_tests) in
         rw (is, later) (ap (λ s. Some (cond s b c)) yes)
+
+-- where no payload has a finalization, no block of one is held
+none_of : (r : Rules) (all notes : List Note) → HasFinals [] notes
+    → highest (filter_map (final_block r all) notes) ≡ None
+none_of r all [] has = refl
+none_of r all (x ∷ xs) has = go (finalization_of x) refl (none_of r all xs later)
+  where
+    tail : (b : Bool) (o : Option ℕ) → None ≡ cond b (Some 0) (option_map (λ i. 1 + i) o)
+        → None ≡ o
+    tail true o e = absurd (none-some 0 e)
+    tail false None e = refl
+    tail false (Some n) e = absurd (none-some (1 + n) e)
+
+    later : HasFinals [] xs
+    later q =
+        tail (is_final q x) (position (is_final q) xs)
+        (has q ∙ position_cons (is_final q) x xs)
+
+    here : (p : Proposal) → is_final p.payload x ≡ true → ⊥
+    here p e =
+        none-some 0
+        (has p.payload
+        ∙ (position_cons (is_final p.payload) x xs
+        ∙ ap
+        (λ b. cond b (Some 0) (option_map (λ i. 1 + i) (position (is_final p.payload) xs)))
+        e))
+
+    go : (o : Option Proposal) → finalization_of x ≡ o
+        → highest (filter_map (final_block r all) xs) ≡ None
+        → highest (filter_map (final_block r all) (x ∷ xs)) ≡ None
+    go None e none = rw e none
+    go (Some p) e none = absurd (here p (rw e (same_commitment_self p.payload)))
+
+pub none_final : (r : Rules) (all : List Note) (entries : List (Commitment × ℕ)) (notes : List Note)
+    → length entries ≡ 0 → HasFinals entries notes
+    → highest (filter_map (final_block r all) notes) ≡ None
+none_final r all [] notes none has = none_of r all notes has
+none_final r all (x ∷ xs) notes none has = absurd (omega (arith, none))
