@@ -26,9 +26,8 @@ use std::thread::Threads;
 /// In a cluster of four a block is cut into four chunks, of which any two give it back:
 ///
 /// ```text
-/// let committees = Committees::single(alloc, 4)?;
 /// let (commitment, chunks) =
-///     cut_block::<Sha256, _, _>(&rt, alloc, &committees, &block, &Sequential)?;
+///     cw_types::commit_with_chunks::<Sha256, _, _>(&rt, alloc, 4, &block, &Sequential)?;
 /// let mut archive = Archive::<Sha256>::new(alloc, 200)?;
 /// for chunk in chunks {
 ///     archive.put(&rt, &commitment, chunk, &Sequential)?;

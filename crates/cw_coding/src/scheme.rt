@@ -35,7 +35,7 @@ use std::thread::Threads;
 ///     checked.push(Rs::check(alloc, &config, &root, chunk.index(), chunk, &Sequential)?)?;
 /// }
 /// let data = Rs::decode(&rt, alloc, &config, &root, checked.iter(), &Sequential)?;
-/// assert_eq!(rt; data.as_slice(), b"some data"); // where the config has a shard to spare
+/// assert_eq!(rt; data.as_slice(), b"some data".as_slice()); // with a shard to spare
 /// ```
 ///
 /// `crates/use_coding` is a whole program.

@@ -134,8 +134,9 @@ impl<D: Disk> Replica<D> {
     }
 
     /// Applies a block, by its height: a block of the next height is written on the disk and its
-    /// transfers pass; one below it is known; one above it leaves a gap. Refused for memory before
-    /// a device call, it changes nothing.
+    /// transfers pass, in order; one below it is known; one above it leaves a gap. A transfer of
+    /// more than its account has, or from an account to itself, is passed over. Refused for memory
+    /// before a device call, it changes nothing.
     pub fn apply(&mut self, alloc: Global, block: &ChainBlock) -> Result<Applied, StoreError>
         ensures answer { IfOk result
             (λ answer. answer ≡ answer_to (length self.old.payloads) block.now.height) }
@@ -286,7 +287,8 @@ impl<D: Disk> Replica<D> {
         }
     }
 
-    /// What an account has. It takes no memory.
+    /// What an account has. Before the first block account 0 has 1,000,000,000, and the others have
+    /// nothing. It takes no memory.
     pub fn balance(&self, account: u32) -> u64
         ensures { result ≡ balances self.now.payloads account }
     {

@@ -6,7 +6,8 @@ ghost use Rattle.cw_ledger.specs.Transfers.{transfer_at, transfers};
 use cw_base::{NoMemory, Reader};
 use std::alloc::Global;
 
-/// An amount that goes from one account to another. In bytes: 4, 4 and 8, the high byte first.
+/// An amount that goes from one account to another. In a payload it takes 16 bytes: 4 for `from`, 4
+/// for `to`, 8 for `amount`, the high byte first.
 #[derive(Clone, Copy, Debug, PartialEq, Eq)]
 pub struct Transfer {
     pub from: u32,

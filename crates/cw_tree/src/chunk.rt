@@ -36,7 +36,8 @@ impl<D> Model for Chunk<D> {
 }
 
 impl<D> Chunk<D> {
-    /// The chunk of these parts. It may not stand in any tree.
+    /// The chunk of these parts, as they came from somewhere. It may not stand in any tree: that is
+    /// what a check under a root finds.
     pub fn new(shard: Bytes, index: u16, proof: Proof<D>) -> Chunk<D>
         ensures { result
             ≡ record {

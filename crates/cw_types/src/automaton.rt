@@ -11,6 +11,9 @@ use std::alloc::Global;
 
 /// Proposes payloads, and says which of those that others propose may be voted for. It answers at
 /// once, with what it knows.
+///
+/// Nothing here asks for it: it is for code around other engines. A member asks its
+/// [`Application`](crate::Application) alone.
 pub trait Automaton {
     /// Where a payload is proposed.
     type Context: Drop;
@@ -37,7 +40,7 @@ pub trait Automaton {
 }
 
 /// An automaton that is asked again before a payload is certified: a payload that was notarized may
-/// still be held back.
+/// still be held back. Nothing here asks for it.
 pub trait CertifiableAutomaton: Automaton {
     /// Where nothing is made ready ahead: everywhere, unless an automaton says otherwise.
     ghost waits: { Self → Self.Context → Type 0 } = { λ automaton context. ⊤ };

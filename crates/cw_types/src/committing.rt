@@ -21,6 +21,12 @@ use std::thread::Threads;
 ///
 /// The first block of the chain is named by [`genesis_commitment`](crate::genesis_commitment), and
 /// not by this.
+///
+/// ```text
+/// let named = commit::<Sha256, _, _>(&rt, alloc, 4, &block, &Sequential)?;
+/// let cut = commit_with_chunks::<Sha256, _, _>(&rt, alloc, 4, &block, &Sequential)?;
+/// assert_eq!(rt; cut.0, named);
+/// ```
 pub fn commit<H: Hasher<Digest = Digest32>, R: Threads + Sync, S: Strategy>(
     rt: &R,
     alloc: Global,

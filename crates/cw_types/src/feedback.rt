@@ -11,7 +11,8 @@ pub enum Feedback {
     Closed,
 }
 
-/// Sends payloads to other members.
+/// Sends payloads to other members. Nothing here asks for it: what a member sends is in its
+/// [`StepOut`](crate::StepOut).
 pub trait Relay {
     /// What a payload is known by.
     type Digest;
@@ -24,7 +25,7 @@ pub trait Relay {
     fn broadcast(&mut self, payload: Self::Digest, plan: Self::Plan) -> Feedback;
 }
 
-/// Hears of what happens.
+/// Hears of what happens. Nothing here asks for it.
 pub trait Reporter {
     /// What happens.
     type Activity;
@@ -33,7 +34,7 @@ pub trait Reporter {
     fn report(&mut self, activity: Self::Activity) -> Feedback;
 }
 
-/// Knows how far something has come.
+/// Knows how far something has come. Nothing here asks for it.
 pub trait Monitor {
     /// How far it has come.
     type Index;

@@ -44,7 +44,8 @@ pub enum Vote {
 pub struct Cert {
     /// What is signed.
     pub vote: Vote,
-    /// The numbers of the members, in the order in which they are written.
+    /// The numbers of the members, in the order in which they are written. Where they don't rise,
+    /// each above the one before, the certificate isn't valid.
     pub signers: Items<u16>,
 }
 

@@ -29,6 +29,15 @@ use std::alloc::Global;
 /// An append writes length, frame and a closed gate behind the last gate, syncs, opens the last
 /// gate and syncs. So the gate stands closed on the disk until the frame behind it is there whole,
 /// and no checksum is needed.
+///
+/// ```text
+/// let mut log = match RecordLog::start(alloc, disk, &mut records) {
+///     Ok(log) => log, // `records` has read each frame that the disk holds
+///     Err((_disk, error)) => return Err(error),
+/// };
+/// log.append(b"one more")?; // on the disk from here on
+/// let disk = log.into_disk(); // a start on it reads that frame last
+/// ```
 #[derive(Drop)]
 pub struct RecordLog<D: Disk> {
     alloc: Global,

@@ -13,6 +13,9 @@ use std::alloc::Global;
 
 /// What a store keeps of the records in the frames of its log: some or all of them, or what they
 /// come to. A start reads the frames in order.
+///
+/// `Loading` of `crates/cw_ledger` is a short one: it keeps the balances that the payloads in the
+/// frames leave, and refuses a frame of another height than the next.
 pub trait Records {
     /// Whether the frame of this number, counted from 0, is a record.
     ghost is_record: { ℕ → List ℕ → Bool };

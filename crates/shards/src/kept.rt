@@ -28,7 +28,7 @@ use std::thread::Threads;
 /// ```text
 /// let committees = Committees::single(alloc, 4)?;
 /// let (commitment, chunks) =
-///     cut_block::<Sha256, _, _>(&rt, alloc, &committees, &block, &Sequential)?;
+///     shards::cut_block::<Sha256, _, _>(&rt, alloc, &committees, &block, &Sequential)?;
 /// let mut shards = Shards::<Sha256>::new(alloc, committees);
 /// for (at, want) in [(3, Verdict::Kept), (3, Verdict::Known), (0, Verdict::Held(block))] {
 ///     let chunk = chunks[at].copy(alloc)?;

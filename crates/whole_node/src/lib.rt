@@ -25,7 +25,8 @@ use std::thread::Threads;
 /// committees: what it promises holds over any, by the rules of epochs.
 ///
 /// ```text
-/// let started = start_whole(&rt, alloc, 1, 4, 3, disk, app, &Sequential);
+/// let started =
+///     start_whole::<Sha256, _, _, _, _>(&rt, alloc, 1, 4, 3, disk, app, &Sequential);
 /// let (mut member, out) = started.map_err(|(_disk, error)| error)?;
 /// let out = member.step(&rt, alloc, &event, &verifier, &Sequential)?;
 /// ```
