@@ -1,46 +1,46 @@
 //! Four members in one process: a block is proposed, voted on, finalized and handed out at each.
-//! Then one crashes and starts again from its disk, and a second block follows. A third is shorter
-//! than the second, which the application doesn't accept.
+//! Then one crashes and starts again from its disk, and a second block follows.
 #![tactic(auto)]
 
-mod supplied;
-
-use crate::supplied::{Network, Rising};
 use anyhow::{Context, Result, ensure};
 use cw_base::{Sequential, Sha256};
-use cw_types::{Committees, Event, Payload, StepOut};
+use cw_types::{AcceptAll, Committees, Event, Payload, StepOut, To, Verifier, Vote};
 use marshal::Identifier;
 use node::Node;
 use node_disk::MemoryDisk;
-use std::alloc::Global;
 use std::collections::BTreeMap;
-use std::thread::Threads;
 
-/// The members by number, each on a disk in memory, and what is between them.
+/// The verifier: in one process nobody forges, so whoever is said to have signed a vote has.
+struct Everybody;
+
+impl Verifier for Everybody {
+    ghost use Rattle.std.specs.Prelude.{true};
+
+    ghost signs = { λ _ _ _. true };
+
+    fn signed(&self, _member: u16, _vote: &Vote) -> bool {
+        true
+    }
+}
+
+/// The members by number, each on a disk in memory, and what is to happen at whom, in order.
 #[derive(Drop)]
 struct Cluster<'a, R> {
     rt: &'a R,
-    alloc: Global,
-    members: BTreeMap<u16, Node<Sha256, MemoryDisk, Rising>>,
-    network: Network,
+    alloc: std::alloc::Global,
+    members: BTreeMap<u16, Node<Sha256, MemoryDisk, AcceptAll>>,
+    due: Vec<(u16, Event)>,
 }
 
-impl<R: Print + Threads + Sync> Cluster<'_, R> {
+impl<R: Print + std::thread::Threads + Sync> Cluster<'_, R> {
     // Starts a member on its disk: an empty one, or what a crash left.
     fn start(&mut self, id: u16, disk: MemoryDisk) -> Result<()> {
         ensure!(id < 4, "no member {id}");
-        let all = Committees::single(self.alloc, 4)?;
-        let started = Node::start(self.rt, self.alloc, id, all, 3, disk, Rising, &Sequential);
+        let (rt, all) = (self.rt, Committees::single(self.alloc, 4)?);
+        let started = Node::start(rt, self.alloc, id, all, 3, disk, AcceptAll, &Sequential);
         let (member, out) = started.map_err(|(_disk, error)| error)?;
         drop(self.members.insert(id, member)?);
         self.take(id, &out)
-    }
-
-    // Stops a member as a crash does: all that is left of it is its disk. It starts again on that.
-    fn crash(&mut self, id: u16) -> Result<()> {
-        println!(self.rt; "member {id} crashes, and starts again on its disk")?;
-        let member = self.members.remove(&id).context("no member")?;
-        self.start(id, member.into_disk().reopen())
     }
 
     // Proposes a text at a member, which leads its view, and gives each what is due at it: so many
@@ -48,16 +48,15 @@ impl<R: Print + Threads + Sync> Cluster<'_, R> {
     fn propose(&mut self, id: u16, text: &str) -> Result<()> {
         let bytes = Vec::from_slice(self.alloc, text.as_bytes())?;
         let payload = Payload::new(bytes).ok().context("too long a text")?;
-        self.network.due.push((id, Event::Propose(payload)))?;
+        self.due.push((id, Event::Propose(payload)))?;
         for place in 0..1_000 {
-            if let Some((id, event)) = self.network.due.get(place) {
-                let (id, signed) = (*id, &self.network.signed);
+            if let Some(&(id, ref event)) = self.due.get(place) {
                 let member = self.members.get_mut(&id).context("no member")?;
-                let out = member.step(self.rt, self.alloc, event, signed, &Sequential)?;
+                let out = member.step(self.rt, self.alloc, event, &Everybody, &Sequential)?;
                 self.take(id, &out)?;
             }
         }
-        self.network.due.clear();
+        self.due.clear();
         Ok(())
     }
 
@@ -65,34 +64,36 @@ impl<R: Print + Threads + Sync> Cluster<'_, R> {
     // hands out is its user's, who acknowledges what is kept for good.
     fn take(&mut self, id: u16, out: &StepOut) -> Result<()> {
         for sent in out.sent.as_slice() {
-            self.network.send(self.alloc, id, sent)?;
+            for to in (0..4).filter(|to| sent.to == To::All || sent.to == To::One(*to)) {
+                let message = sent.message.copy(self.alloc)?;
+                self.due.push((to, Event::Deliver(message)))?;
+            }
         }
         for handed in out.handed.as_slice() {
-            let member = self.members.get(&id).context("no member")?;
-            let named = Identifier::Commitment(handed.commitment);
-            let block = member.marshal().get_block(named).context("no block")?;
-            let text = str::from_utf8(block.payload().bytes())?;
+            let store = self.members.get(&id).context("no member")?.marshal();
+            let block = store.get_block(Identifier::Commitment(handed.commitment));
+            let text = str::from_utf8(block.context("no block")?.payload().bytes())?;
             println!(self.rt; "member {id}: height {} is {text:?}", handed.height)?;
-            self.network.due.push((id, Event::Ack))?;
+            self.due.push((id, Event::Ack))?;
         }
         Ok(())
     }
 }
 
 fn main(rt: HostRuntime) -> Result<()> {
-    let alloc = rt.alloc();
     let mut cluster = Cluster {
         rt: &rt,
-        alloc,
-        members: BTreeMap::new(alloc),
-        network: Network::new(alloc),
+        alloc: rt.alloc(),
+        members: BTreeMap::new(rt.alloc()),
+        due: Vec::new(rt.alloc()),
     };
     for id in 0..4 {
-        cluster.start(id, MemoryDisk::new(alloc, Vec::new(alloc)))?;
+        cluster.start(id, MemoryDisk::new(rt.alloc(), Vec::new(rt.alloc())))?;
     }
     // Among four, member v leads view v, for the first three views.
     cluster.propose(1, "one")?;
-    cluster.crash(2)?;
-    cluster.propose(2, "and two")?;
-    cluster.propose(3, "three?")
+    println!(rt; "member 2 crashes, and starts again on its disk")?;
+    let crashed = cluster.members.remove(&2).context("no member")?;
+    cluster.start(2, crashed.into_disk().reopen())?;
+    cluster.propose(2, "and two")
 }

@@ -1,9 +1,10 @@
 //! Each trait of the surface at a type of its own, and generic code over its bounds.
 
-use cw_base::NoMemory;
+use crate::types_tests::first_block;
+use cw_base::{NoMemory, SumHasher};
 use cw_types::{
     AcceptAll, Application, Automaton, CertifiableAutomaton, ChainBlock, Context, Feedback,
-    Handoff, Monitor, Relay, Reporter, Round, To, Vote,
+    Handoff, Monitor, Relay, Reporter, Round, To, Vote, genesis,
 };
 use std::alloc::Global;
 use std::test::Fail;
@@ -116,6 +117,37 @@ impl Application for Refuser {
 fn an_application_waits_unless_it_says_otherwise(rt: HostRuntime) {
     let prepared = (AcceptAll.prepare(), Refuser.prepare());
     assert_eq!(rt; prepared, (Handoff::Wait, Handoff::Stage(())));
+}
+
+// no payload is shorter than the one below
+#[derive(Clone, Copy)]
+struct Rising;
+
+impl Application for Rising {
+    ghost use Rattle.std.specs.Prelude.{length, nat_le};
+
+    ghost accepts = { λ _ block parent. nat_le (length parent.payload) (length block.payload) };
+
+    fn verify(&self, block: &ChainBlock, parent: &ChainBlock) -> bool {
+        parent.payload().bytes().len() <= block.payload().bytes().len()
+    }
+}
+
+fn stand<A: Application>(app: &A, block: &ChainBlock, parent: &ChainBlock) -> [bool; 3] {
+    [
+        app.verify(block, parent),
+        app.verify(block, block),
+        app.verify(parent, block),
+    ]
+}
+
+#[test]
+fn an_application_says_which_block_may_stand_over_which(rt: HostRuntime) -> Result<(), Fail> {
+    let (block, parent) = (first_block(rt.alloc())?, genesis::<SumHasher>(rt.alloc()));
+    assert!(rt; stand(&Rising, &block, &parent) == [true, true, false]);
+    assert!(rt; stand(&AcceptAll, &block, &parent) == [true, true, true]);
+    assert!(rt; stand(&Refuser, &block, &parent) == [false, false, false]);
+    Ok(())
 }
 
 // takes so many, and is then closed
