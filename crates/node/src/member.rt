@@ -35,7 +35,7 @@ pub type NodeError = StoreError;
 ///
 /// ```text
 /// // on an empty disk, or on what a crash left; it answers what a step does
-/// let started = Node::start(self.rt, self.alloc, id, all, 3, disk, AcceptAll, &Sequential);
+/// let started = Node::start(rt, self.alloc, id, all, 3, disk, AcceptAll, &Sequential);
 /// let (member, out) = started.map_err(|(_disk, error)| error)?;
 /// // once it answers, the notes of the step lie on the disk
 /// let out = member.step(self.rt, self.alloc, event, &Everybody, &Sequential)?;
