@@ -119,35 +119,11 @@ pub fn add_products(sums: &mut [u16], factor: u16, symbols: &[u16], from: usize)
     add_by_tables(sums, &low, &high, symbols, from);
 }
 
-// One step from coefficients to values, by the factor's tables, at the first `count` places.
-fn forward_by_tables(first: &mut [u16], second: &mut [u16], low: &[u16], high: &[u16], count: usize)
-    requires second { length second.old ≡ length first.old }
-    requires count { count ≤ length first.old }
-    requires low { length low.now ≡ 256 }
-    requires high { length high.now ≡ 256 }
-    ensures first_count { length first.new ≡ length first.old }
-    ensures second_count { length second.new ≡ length first.old }
-    ensures first { (p : ℕ) → p < count
-        → slice_index first.new p ≡ bit_xor (slice_index first.old p)
-        (bit_xor (slice_index high.now (slice_index second.old p / 256))
-        (slice_index low.now (slice_index second.old p % 256))) }
-    ensures second { (p : ℕ) → p < count
-        → slice_index second.new p ≡ bit_xor (slice_index first.new p) (slice_index second.old p) }
-    ensures first_rest { (p : ℕ) → count ≤ p → slice_index first.new p ≡ slice_index first.old p }
-    ensures second_rest { (p : ℕ) → count ≤ p
-        → slice_index second.new p ≡ slice_index second.old p }
-{
-    for place in 0..count {
-        let other = second[place];
-        let sum = first[place] ^ product(low, high, other);
-        first[place] = sum;
-        second[place] = sum ^ other;
-    }
-}
-
 /// One step from coefficients to values: the first half gets the second's products with a factor,
 /// and the second half gets the first. The second half has zeros from the place `filled` on, which
 /// have no products.
+///
+/// Products and sums have a loop each, since a loop of sums alone is done eight symbols at a time.
 pub fn step_forward(first: &mut [u16], second: &mut [u16], factor: u16, filled: usize)
     requires second { length second.old ≡ length first.old }
     requires filled { filled ≤ length first.old }
@@ -159,39 +135,9 @@ pub fn step_forward(first: &mut [u16], second: &mut [u16], factor: u16, filled: 
     ensures second { (p : ℕ) → p < length first.old
         → slice_index second.new p ≡ bit_xor (slice_index first.new p) (slice_index second.old p) }
 {
-    if factor == 0 {
-        add(second, first, 0);
-        return;
-    }
-    let mut low = [0u16; 256];
-    let mut high = [0u16; 256];
-    spread(&mut low, factor);
-    spread(&mut high, gf16::by_256(factor));
-    symbols_fit(second);
-    forward_by_tables(first, second, &low, &high, filled);
-    add(second, first, filled);
-}
-
-// One step from values to coefficients, by the factor's tables.
-fn back_by_tables(first: &mut [u16], second: &mut [u16], low: &[u16], high: &[u16])
-    requires second { length second.old ≡ length first.old }
-    requires low { length low.now ≡ 256 }
-    requires high { length high.now ≡ 256 }
-    ensures first_count { length first.new ≡ length first.old }
-    ensures second_count { length second.new ≡ length first.old }
-    ensures second { (p : ℕ) → p < length first.old
-        → slice_index second.new p ≡ bit_xor (slice_index first.old p) (slice_index second.old p) }
-    ensures first { (p : ℕ) → p < length first.old
-        → slice_index first.new p ≡ bit_xor (slice_index first.old p)
-        (bit_xor (slice_index high.now (slice_index second.new p / 256))
-        (slice_index low.now (slice_index second.new p % 256))) }
-{
-    for place in 0..first.len() {
-        let own = first[place];
-        let sum = own ^ second[place];
-        second[place] = sum;
-        first[place] = own ^ product(low, high, sum);
-    }
+    let (front, _) = first.split_at_mut(filled);
+    add_products(front, factor, &second[..filled], 0);
+    add(second, first, 0);
 }
 
 /// One step from values to coefficients: the second half gets the first, and the first half gets
@@ -205,13 +151,6 @@ pub fn step_back(first: &mut [u16], second: &mut [u16], factor: u16)
     ensures first { (p : ℕ) → p < length first.old → slice_index first.new p
         ≡ bit_xor (slice_index first.old p) (times factor (slice_index second.new p)) }
 {
-    if factor == 0 {
-        add(second, first, 0);
-        return;
-    }
-    let mut low = [0u16; 256];
-    let mut high = [0u16; 256];
-    spread(&mut low, factor);
-    spread(&mut high, gf16::by_256(factor));
-    back_by_tables(first, second, &low, &high);
+    add(second, first, 0);
+    add_products(first, factor, second, 0);
 }
