@@ -7,11 +7,29 @@ ghost use Rattle.rs_code.specs.Codeword.{sum_below};
 ghost use Rattle.rs_code.specs.Coefficients.{lane, AreTables};
 ghost use Rattle.rs_code.specs.Field.{times};
 ghost use Rattle.rs_code.specs.Rows.{symbol};
+ghost use Rattle.rs_code.specs.Symbols.{symbol_in};
 
 use crate::lanes::{
     Eight, each_by_2, each_by_4, each_by_16, each_by_256, sum_of_three, sum_of_two,
 };
 use std::alloc::{AllocError, Global};
+
+/// Rows of one width, end to end, and the column of theirs to begin with.
+#[derive(Clone, Copy)]
+pub struct Columns<'a> {
+    pub rows: &'a [u8],
+    pub width: usize,
+    pub first: usize,
+}
+
+// Eight factors' products with each lower byte of a symbol, and with each upper byte.
+#[derive(Clone, Copy)]
+struct Tables<'a> {
+    low: &'a [Eight],
+    high: &'a [Eight],
+    ghost low_each: { length low.now ≡ 256 },
+    ghost high_each: { length high.now ≡ 256 },
+}
 
 /// As many entries, of 0 in each lane.
 pub fn zeros(alloc: Global, count: usize) -> Result<Vec<Eight>, AllocError>
@@ -20,6 +38,13 @@ pub fn zeros(alloc: Global, count: usize) -> Result<Vec<Eight>, AllocError>
 {
     let entries = vec![in alloc; [0u16; 8]; count]?;
     Ok(entries)
+}
+
+/// It does nothing: what is known of the bytes' type is its contract.
+pub fn bytes_fit(bytes: &[u8])
+    ensures { (n : ℕ) → slice_index bytes.now n < 256 }
+{
+    let _ = bytes;
 }
 
 // Copies the first `count` entries behind themselves, with a step added in each lane.
@@ -83,234 +108,175 @@ pub fn spread_short(table: &mut [Eight], factors: &Eight)
     double_products(table, 8, factors, &each_by_4(&two));
 }
 
-// Adds to the sums the products of eight factors with the row's symbols, from a first column on.
-// `low` has the factors' products with each lower byte, `high` with each upper byte.
-fn add_by_tables(
-    sums: &mut [Eight],
-    low: &[Eight],
-    high: &[Eight],
-    rows: &[u8],
-    width: usize,
-    row: usize,
-    first: usize,
-)
-    requires room { row * width + 2 * (first + length sums.old) ≤ length rows.now }
-    requires low { length low.now ≡ 256 }
-    requires high { length high.now ≡ 256 }
+// The products of eight factors with each lower byte of a symbol, and with each upper byte.
+fn fill_tables(low: &mut [Eight], high: &mut [Eight], factors: &Eight)
+    requires low { length low.old ≡ 256 }
+    requires high { length high.old ≡ 256 }
+    ensures { (upper lower l : ℕ) → upper < 256 → lower < 256 → l < 8
+        → bit_xor (lane high.new upper l) (lane low.new lower l)
+        ≡ times (upper * 256 + lower) (slice_index factors.now l) }
+{
+    spread(low, factors);
+    spread(high, &each_by_256(factors));
+}
+
+// Adds to the sums the products of eight factors with the row's symbols, from the first column on.
+fn add_by_tables(sums: &mut [Eight], tables: Tables, columns: Columns, row: usize)
+    requires room { row * columns.width + 2 * (columns.first + length sums.old)
+        ≤ length columns.rows.now }
     ensures count { length sums.new ≡ length sums.old }
-    ensures each { (j l : ℕ) → j < length sums.old → l < 8
-        → lane sums.new j l ≡ bit_xor (lane sums.old j l)
-        (bit_xor (lane high.now (slice_index rows.now (row * width + 2 * (first + j))) l)
-        (lane low.now (slice_index rows.now (row * width + 2 * (first + j) + 1)) l)) }
+    ensures each { (j l : ℕ) → j < length sums.old → l < 8 →
+        let place = row * columns.entry.width + 2 * (columns.entry.first + j) in
+        lane sums.new j l ≡ bit_xor (lane sums.old j l)
+        (bit_xor (lane tables.entry.high.now (slice_index columns.entry.rows.now place) l)
+        (lane tables.entry.low.now (slice_index columns.entry.rows.now (place + 1)) l)) }
 {
     for column in 0..sums.len() {
-        let place = row * width + 2 * (first + column);
-        let upper = &high[usize::from(rows[place])];
-        let lower = &low[usize::from(rows[place + 1])];
+        let place = row * columns.width + 2 * (columns.first + column);
+        let upper = &tables.high[usize::from(columns.rows[place])];
+        let lower = &tables.low[usize::from(columns.rows[place + 1])];
         sums[column] = sum_of_three(&sums[column], upper, lower);
     }
 }
 
-// Adds to the sums the products of eight factors with the row's symbols, from a first column on.
-// `low` and `high` are room for the tables.
-fn add_row(
-    sums: &mut [Eight],
-    low: &mut [Eight],
-    high: &mut [Eight],
-    factors: &Eight,
-    rows: &[u8],
-    width: usize,
-    row: usize,
-    first: usize,
-)
-    requires room { row * width + 2 * (first + length sums.old) ≤ length rows.now }
-    requires low { length low.old ≡ 256 }
-    requires high { length high.old ≡ 256 }
+// Adds to the sums the products of the row's factors with its symbols, from the first column on.
+// There is room for its tables.
+fn add_row(sums: &mut [Eight], room: &mut [Eight], factors: &[Eight], columns: Columns, row: usize)
+    requires row { row < length factors.now }
+    requires columns { row * columns.width + 2 * (columns.first + length sums.old)
+        ≤ length columns.rows.now }
+    requires room { length room.old ≡ 512 }
     ensures count { length sums.new ≡ length sums.old }
     ensures each { (j l : ℕ) → j < length sums.old → l < 8 → lane sums.new j l
         ≡ bit_xor (lane sums.old j l)
-        (times (symbol rows.now width row (first + j)) (slice_index factors.now l)) }
+        (times (symbol_in columns.entry row j) (lane factors.now row l)) }
 {
-    spread(low, factors);
-    spread(high, &each_by_256(factors));
-    add_by_tables(sums, low, high, rows, width, row, first);
+    bytes_fit(columns.rows);
+    let (low, high) = room.split_at_mut(256);
+    fill_tables(low, high, &factors[row]);
+    add_by_tables(sums, Tables { low, high }, columns, row);
 }
 
 // Adds to the sums the products of eight factors with the row's symbols and of eight others with
-// the next row's, from a first column on. The tables of the next row's are `next_low` and
-// `next_high`.
+// the next row's, from the first column on.
 fn add_two_by_tables(
     sums: &mut [Eight],
-    low: &[Eight],
-    high: &[Eight],
-    next_low: &[Eight],
-    next_high: &[Eight],
-    rows: &[u8],
-    width: usize,
+    tables: Tables,
+    next_tables: Tables,
+    columns: Columns,
     row: usize,
-    first: usize,
 )
-    requires room { (row + 1) * width + 2 * (first + length sums.old) ≤ length rows.now }
-    requires low { length low.now ≡ 256 }
-    requires high { length high.now ≡ 256 }
-    requires next_low { length next_low.now ≡ 256 }
-    requires next_high { length next_high.now ≡ 256 }
+    requires room { (row + 1) * columns.width + 2 * (columns.first + length sums.old)
+        ≤ length columns.rows.now }
     ensures count { length sums.new ≡ length sums.old }
-    ensures each { (j l : ℕ) → j < length sums.old → l < 8
-        → lane sums.new j l ≡ bit_xor (lane sums.old j l)
+    ensures each { (j l : ℕ) → j < length sums.old → l < 8 →
+        let place = row * columns.entry.width + 2 * (columns.entry.first + j) in
+        let next = place + columns.entry.width in
+        lane sums.new j l ≡ bit_xor (lane sums.old j l)
         (bit_xor
-        (bit_xor (lane high.now (slice_index rows.now (row * width + 2 * (first + j))) l)
-        (lane low.now (slice_index rows.now (row * width + 2 * (first + j) + 1)) l))
-        (bit_xor
-        (lane next_high.now (slice_index rows.now (row * width + 2 * (first + j) + width)) l)
-        (lane next_low.now (slice_index rows.now (row * width + 2 * (first + j) + width + 1)) l))) }
+        (bit_xor (lane tables.entry.high.now (slice_index columns.entry.rows.now place) l)
+        (lane tables.entry.low.now (slice_index columns.entry.rows.now (place + 1)) l))
+        (bit_xor (lane next_tables.entry.high.now (slice_index columns.entry.rows.now next) l)
+        (lane next_tables.entry.low.now (slice_index columns.entry.rows.now (next + 1)) l))) }
 {
     for column in 0..sums.len() {
-        let place = row * width + 2 * (first + column);
-        let next = place + width;
-        let upper = &high[usize::from(rows[place])];
-        let lower = &low[usize::from(rows[place + 1])];
-        let next_upper = &next_high[usize::from(rows[next])];
-        let next_lower = &next_low[usize::from(rows[next + 1])];
+        let place = row * columns.width + 2 * (columns.first + column);
+        let next = place + columns.width;
+        let upper = &tables.high[usize::from(columns.rows[place])];
+        let lower = &tables.low[usize::from(columns.rows[place + 1])];
+        let next_upper = &next_tables.high[usize::from(columns.rows[next])];
+        let next_lower = &next_tables.low[usize::from(columns.rows[next + 1])];
         let own = sum_of_two(upper, lower);
         let others = sum_of_two(next_upper, next_lower);
         sums[column] = sum_of_three(&sums[column], &own, &others);
     }
 }
 
-// Adds to the sums the products of eight factors with the row's symbols and of eight others with
-// the next row's, from a first column on. The four lists are room for the tables.
+// Adds to the sums the products of the row's factors with its symbols, and of the next row's with
+// its own, from the first column on. There is room for the tables of both.
 fn add_two_rows(
     sums: &mut [Eight],
-    low: &mut [Eight],
-    high: &mut [Eight],
-    next_low: &mut [Eight],
-    next_high: &mut [Eight],
-    factors: &Eight,
-    next_factors: &Eight,
-    rows: &[u8],
-    width: usize,
+    room: &mut [Eight],
+    factors: &[Eight],
+    columns: Columns,
     row: usize,
-    first: usize,
 )
-    requires room { (row + 1) * width + 2 * (first + length sums.old) ≤ length rows.now }
-    requires low { length low.old ≡ 256 }
-    requires high { length high.old ≡ 256 }
-    requires next_low { length next_low.old ≡ 256 }
-    requires next_high { length next_high.old ≡ 256 }
+    requires rows { row + 1 < length factors.now }
+    requires columns { (row + 1) * columns.width + 2 * (columns.first + length sums.old)
+        ≤ length columns.rows.now }
+    requires room { length room.old ≡ 1024 }
     ensures count { length sums.new ≡ length sums.old }
     ensures each { (j l : ℕ) → j < length sums.old → l < 8
         → lane sums.new j l ≡ bit_xor (lane sums.old j l)
-        (bit_xor (times (symbol rows.now width row (first + j)) (slice_index factors.now l))
-        (times (symbol rows.now width (row + 1) (first + j)) (slice_index next_factors.now l))) }
+        (bit_xor (times (symbol_in columns.entry row j) (lane factors.now row l))
+        (times (symbol_in columns.entry (row + 1) j) (lane factors.now (row + 1) l))) }
 {
-    spread(low, factors);
-    spread(high, &each_by_256(factors));
-    spread(next_low, next_factors);
-    spread(next_high, &each_by_256(next_factors));
-    add_two_by_tables(
-        sums, low, high, next_low, next_high, rows, width, row, first,
-    );
+    bytes_fit(columns.rows);
+    let (own, others) = room.split_at_mut(512);
+    let (low, high) = own.split_at_mut(256);
+    let (next_low, next_high) = others.split_at_mut(256);
+    fill_tables(low, high, &factors[row]);
+    fill_tables(next_low, next_high, &factors[row + 1]);
+    let tables = Tables { low, high };
+    let next_tables = Tables {
+        low: next_low,
+        high: next_high,
+    };
+    add_two_by_tables(sums, tables, next_tables, columns, row);
 }
 
 // Adds to the sums the products of each row's factors with its symbols, of two rows at a time, for
 // all rows but the last of an odd number of them.
-fn add_row_pairs(
-    sums: &mut [Eight],
-    low: &mut [Eight],
-    high: &mut [Eight],
-    next_low: &mut [Eight],
-    next_high: &mut [Eight],
-    factors: &[Eight],
-    rows: &[u8],
-    width: usize,
-    first: usize,
-)
-    requires rows { length rows.now ≡ length factors.now * width }
-    requires columns { 2 * (first + length sums.old) ≤ width }
-    requires low { length low.old ≡ 256 }
-    requires high { length high.old ≡ 256 }
-    requires next_low { length next_low.old ≡ 256 }
-    requires next_high { length next_high.old ≡ 256 }
+fn add_row_pairs(sums: &mut [Eight], room: &mut [Eight], factors: &[Eight], columns: Columns)
+    requires rows { length columns.rows.now ≡ length factors.now * columns.width }
+    requires columns { 2 * (columns.first + length sums.old) ≤ columns.width }
+    requires room { length room.old ≡ 1024 }
     ensures count { length sums.new ≡ length sums.old }
     ensures each { ((j l : ℕ) → j < length sums.old → l < 8 → lane sums.old j l ≡ 0) →
         (j l : ℕ) → j < length sums.old → l < 8 → lane sums.new j l
         ≡ sum_below (2 * (length factors.now / 2))
-        (λ s. times (symbol rows.now width s (first + j)) (lane factors.now s l)) }
+        (λ s. times (symbol_in columns.entry s j) (lane factors.now s l)) }
 {
     for pair in 0..factors.len() / 2 {
-        add_two_rows(
-            sums,
-            low,
-            high,
-            next_low,
-            next_high,
-            &factors[2 * pair],
-            &factors[2 * pair + 1],
-            rows,
-            width,
-            2 * pair,
-            first,
-        );
+        add_two_rows(sums, room, factors, columns, 2 * pair);
     }
 }
 
 // Adds to the sums the products of the last row's factors with its symbols, where the number of
 // rows is odd.
-fn add_odd_row(
-    sums: &mut [Eight],
-    low: &mut [Eight],
-    high: &mut [Eight],
-    factors: &[Eight],
-    rows: &[u8],
-    width: usize,
-    first: usize,
-)
-    requires rows { length rows.now ≡ length factors.now * width }
-    requires columns { 2 * (first + length sums.old) ≤ width }
-    requires low { length low.old ≡ 256 }
-    requires high { length high.old ≡ 256 }
+fn add_odd_row(sums: &mut [Eight], room: &mut [Eight], factors: &[Eight], columns: Columns)
+    requires rows { length columns.rows.now ≡ length factors.now * columns.width }
+    requires columns { 2 * (columns.first + length sums.old) ≤ columns.width }
+    requires room { length room.old ≡ 512 }
     ensures count { length sums.new ≡ length sums.old }
     ensures each { (j l : ℕ) → j < length sums.old → l < 8 → lane sums.old j l
         ≡ sum_below (2 * (length factors.now / 2))
-        (λ s. times (symbol rows.now width s (first + j)) (lane factors.now s l)) →
+        (λ s. times (symbol_in columns.entry s j) (lane factors.now s l)) →
         lane sums.new j l
         ≡ sum_below (length factors.now)
-        (λ s. times (symbol rows.now width s (first + j)) (lane factors.now s l)) }
+        (λ s. times (symbol_in columns.entry s j) (lane factors.now s l)) }
 {
     if factors.len() % 2 == 0 {
         return;
     }
-    let row = factors.len() - 1;
-    add_row(sums, low, high, &factors[row], rows, width, row, first);
+    add_row(sums, room, factors, columns, factors.len() - 1);
 }
 
-// Adds to the sums the products of each row's factors with its symbols, from a first column on.
+// Adds to the sums the products of each row's factors with its symbols, from the first column on.
 // There is room for the tables of two rows.
-fn add_rows(
-    sums: &mut [Eight],
-    tables: &mut [Eight],
-    factors: &[Eight],
-    rows: &[u8],
-    width: usize,
-    first: usize,
-)
-    requires rows { length rows.now ≡ length factors.now * width }
-    requires columns { 2 * (first + length sums.old) ≤ width }
-    requires tables { length tables.old ≡ 1024 }
+fn add_rows(sums: &mut [Eight], room: &mut [Eight], factors: &[Eight], columns: Columns)
+    requires rows { length columns.rows.now ≡ length factors.now * columns.width }
+    requires columns { 2 * (columns.first + length sums.old) ≤ columns.width }
+    requires room { length room.old ≡ 1024 }
     ensures count { length sums.new ≡ length sums.old }
     ensures each { ((j l : ℕ) → j < length sums.old → l < 8 → lane sums.old j l ≡ 0) →
         (j l : ℕ) → j < length sums.old → l < 8 → lane sums.new j l
         ≡ sum_below (length factors.now)
-        (λ s. times (symbol rows.now width s (first + j)) (lane factors.now s l)) }
+        (λ s. times (symbol_in columns.entry s j) (lane factors.now s l)) }
 {
-    let (own, others) = tables.split_at_mut(512);
-    let (low, high) = own.split_at_mut(256);
-    let (next_low, next_high) = others.split_at_mut(256);
-    add_row_pairs(
-        sums, low, high, next_low, next_high, factors, rows, width, first,
-    );
-    add_odd_row(sums, low, high, factors, rows, width, first);
+    add_row_pairs(sums, room, factors, columns);
+    let (own, _) = room.split_at_mut(512);
+    add_odd_row(sums, own, factors, columns);
 }
 
 /// For each of eight targets, one in a lane, the sums over the rows of a row's symbol times its
@@ -330,9 +296,10 @@ pub fn wide_sums(
         ≡ sum_below (length factors.now)
         (λ s. times (symbol rows.now width s (first + j)) (lane factors.now s l))) }
 {
-    let mut tables = zeros(alloc, 1024)?;
+    let mut room = zeros(alloc, 1024)?;
     let mut sums = zeros(alloc, count)?;
-    add_rows(&mut sums, &mut tables, factors, rows, width, first);
+    let columns = Columns { rows, width, first };
+    add_rows(&mut sums, &mut room, factors, columns);
     Ok(sums)
 }
 

@@ -7,8 +7,9 @@ ghost use Rattle.rs_code.specs.Codeword.{sum_below};
 ghost use Rattle.rs_code.specs.Coefficients.{lane};
 ghost use Rattle.rs_code.specs.Field.{times};
 ghost use Rattle.rs_code.specs.Rows.{symbol};
+ghost use Rattle.rs_code.specs.Symbols.{symbol_in};
 
-use crate::eights::{spread_short, wide_sums, zeros};
+use crate::eights::{Columns, bytes_fit, spread_short, wide_sums, zeros};
 use crate::lanes::{Eight, each_by_16, each_by_256, sum_of_three};
 use std::alloc::{AllocError, Global};
 
@@ -57,56 +58,50 @@ fn narrow_sums(
 {
     let mut tables = zeros(alloc, 32)?;
     let mut sums = zeros(alloc, count)?;
-    add_rows(&mut sums, &mut tables, factors, rows, width, first);
+    let columns = Columns { rows, width, first };
+    add_rows(&mut sums, &mut tables, factors, columns);
     Ok(sums)
 }
 
-// Adds to the sums the products of each row's factors with its symbols, from a first column on.
-fn add_rows(
-    sums: &mut [Eight],
-    tables: &mut [Eight],
-    factors: &[Eight],
-    rows: &[u8],
-    width: usize,
-    first: usize,
-)
-    requires rows { length rows.now ≡ length factors.now * width }
-    requires columns { 2 * (first + length sums.old) ≤ width }
+// Adds to the sums the products of each row's factors with its symbols, from the first column on.
+fn add_rows(sums: &mut [Eight], tables: &mut [Eight], factors: &[Eight], columns: Columns)
+    requires rows { length columns.rows.now ≡ length factors.now * columns.width }
+    requires columns { 2 * (columns.first + length sums.old) ≤ columns.width }
     requires tables { length tables.old ≡ 32 }
     ensures count { length sums.new ≡ length sums.old }
     ensures each { ((j l : ℕ) → j < length sums.old → l < 8 → lane sums.old j l ≡ 0) →
         (j l : ℕ) → j < length sums.old → l < 8 → lane sums.new j l
         ≡ sum_below (length factors.now)
-        (λ s. times (symbol rows.now width s (first + j)) (lane factors.now s l)) }
+        (λ s. times (symbol_in columns.entry s j) (lane factors.now s l)) }
 {
     let (low, high) = tables.split_at_mut(16);
     for row in 0..factors.len() {
-        add_row(sums, low, high, &factors[row], rows, width, row, first);
+        add_row(sums, low, high, &factors[row], columns, row);
     }
 }
 
-// Adds to the sums the products of eight factors with the row's symbols, from a first column on.
+// Adds to the sums the products of eight factors with the row's symbols, from the first column on.
 fn add_row(
     sums: &mut [Eight],
     low: &mut [Eight],
     high: &mut [Eight],
     factors: &Eight,
-    rows: &[u8],
-    width: usize,
+    columns: Columns,
     row: usize,
-    first: usize,
 )
-    requires room { row * width + 2 * (first + length sums.old) ≤ length rows.now }
+    requires room { row * columns.width + 2 * (columns.first + length sums.old)
+        ≤ length columns.rows.now }
     requires low { length low.old ≡ 16 }
     requires high { length high.old ≡ 16 }
     ensures count { length sums.new ≡ length sums.old }
     ensures each { (j l : ℕ) → j < length sums.old → l < 8 → lane sums.new j l
         ≡ bit_xor (lane sums.old j l)
-        (times (symbol rows.now width row (first + j)) (slice_index factors.now l)) }
+        (times (symbol_in columns.entry row j) (slice_index factors.now l)) }
 {
-    let start = row * width + 2 * first;
-    add_bytes(sums, low, high, &each_by_256(factors), rows, start);
-    add_bytes(sums, low, high, factors, rows, start + 1);
+    bytes_fit(columns.rows);
+    let start = row * columns.width + 2 * columns.first;
+    add_bytes(sums, low, high, &each_by_256(factors), columns.rows, start);
+    add_bytes(sums, low, high, factors, columns.rows, start + 1);
 }
 
 // Adds to the sums the products of eight factors with every other byte, from a first one on.

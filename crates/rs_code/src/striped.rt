@@ -8,10 +8,11 @@ ghost use Rattle.rs_code.specs.Coefficients.{lane, symbol_through};
 ghost use Rattle.rs_code.specs.Field.{times};
 ghost use Rattle.rs_code.specs.Recipes.{given_count, made_count, FitsField, made_symbol, made_row};
 ghost use Rattle.rs_code.specs.Rows.{symbol, symbol_bytes, joined};
+ghost use Rattle.rs_code.specs.Symbols.{symbol_in};
 ghost use Rattle.rs_code.specs.Stripes.{stripe_start, stripe_bytes, AreStripes};
 
 use crate::basis::Basis;
-use crate::eights::fill_lane;
+use crate::eights::{Columns, fill_lane};
 use crate::joining::{all_done, put_rows};
 use crate::lanes::{Eight, next_eight};
 use crate::narrow::group_sums;
@@ -26,6 +27,17 @@ use std::thread::Threads;
 
 // How many columns are worked on at once: their sums stay in the caches near the processor.
 const BLOCK: usize = 8192;
+
+// Where sums are written: into `lanes` rows of `wide` bytes each, behind those that are done, and
+// there into `count` columns from the column `start` on.
+#[derive(Clone, Copy)]
+struct Area {
+    wide: usize,
+    done: usize,
+    lanes: usize,
+    start: usize,
+    count: usize,
+}
 
 /// The rows of a recipe.
 ///
@@ -234,7 +246,8 @@ fn fill_rows(
 {
     match *recipe {
         Recipe::ByWeights(basis, targets) => {
-            fill_by_weights(alloc, out, basis, rows, width, targets, first, wide)
+            let columns = Columns { rows, width, first };
+            fill_by_weights(alloc, out, basis, columns, targets, wide)
         }
         Recipe::Transformed(k, m) => {
             fill_transformed(
@@ -252,57 +265,44 @@ fn fill_rows(
 }
 
 // Writes the rows of all targets, by what each given row counts for in each: `wide` bytes of each,
-// from the column `first` on.
+// from the first column on.
 fn fill_by_weights(
     alloc: Global,
     out: &mut [u8],
     basis: &Basis,
-    rows: &[u8],
-    width: usize,
+    columns: Columns,
     targets: &[u16],
-    first: usize,
     wide: usize,
 ) -> Result<(), AllocError>
-    requires rows { length rows.now ≡ length basis.now * width }
-    requires columns { 2 * first + wide ≤ width }
+    requires rows { length columns.rows.now ≡ length basis.now * columns.width }
+    requires columns { 2 * columns.first + wide ≤ columns.width }
     requires even { wide % 2 ≡ 0 }
     requires out { length out.old ≡ length targets.now * wide }
     ensures count { length out.new ≡ length out.old }
     ensures rows { OnOk result (out.new ≡ joined (length targets.now)
-        (λ i. symbol_bytes (wide / 2) (λ j. symbol_through basis.now rows.now width
-        (slice_index targets.now i) (first + j)))) }
+        (λ i. symbol_bytes (wide / 2)
+        (λ j. symbol_through basis.now columns.entry.rows.now columns.entry.width
+        (slice_index targets.now i) (columns.entry.first + j)))) }
 {
     for group in 0..targets.len().div_ceil(8) {
-        fill_group(
-            alloc,
-            out,
-            basis,
-            rows,
-            width,
-            targets,
-            8 * group,
-            first,
-            wide,
-        )?;
+        fill_group(alloc, out, basis, columns, targets, 8 * group, wide)?;
     }
     Ok(())
 }
 
 // Writes the rows of the next eight targets, or of those that are left: `wide` bytes of each, from
-// the column `first` on.
+// the first column on.
 fn fill_group(
     alloc: Global,
     out: &mut [u8],
     basis: &Basis,
-    rows: &[u8],
-    width: usize,
+    columns: Columns,
     targets: &[u16],
     done: usize,
-    first: usize,
     wide: usize,
 ) -> Result<(), AllocError>
-    requires rows { length rows.now ≡ length basis.now * width }
-    requires columns { 2 * first + wide ≤ width }
+    requires rows { length columns.rows.now ≡ length basis.now * columns.width }
+    requires columns { 2 * columns.first + wide ≤ columns.width }
     requires even { wide % 2 ≡ 0 }
     requires out { length out.old ≡ length targets.now * wide }
     requires done { done < length targets.now }
@@ -312,60 +312,55 @@ fn fill_group(
     ensures bytes { OnOk result ((i : ℕ) → slice_index out.new i < 256) }
     ensures group { OnOk result ((i j : ℕ) → done ≤ i → i < done + 8 → i < length targets.now
         → j < wide / 2 →
-        symbol out.new wide i j ≡ symbol_through basis.now rows.now width
-        (slice_index targets.now i) (first + j)) }
+        symbol out.new wide i j ≡ symbol_through basis.now columns.entry.rows.now
+        columns.entry.width (slice_index targets.now i) (columns.entry.first + j)) }
 {
     let lanes = (targets.len() - done).min(8);
     let factors = basis.coefficients(alloc, &next_eight(targets, done))?;
-    let columns = wide / 2;
-    for block in 0..columns.div_ceil(BLOCK) {
+    let total = wide / 2;
+    for block in 0..total.div_ceil(BLOCK) {
         let start = BLOCK * block;
-        let count = (columns - start).min(BLOCK);
-        fill_block(
-            alloc, out, &factors, rows, width, wide, done, lanes, first, start, count,
-        )?;
+        let count = (total - start).min(BLOCK);
+        let area = Area {
+            wide,
+            done,
+            lanes,
+            start,
+            count,
+        };
+        fill_area(alloc, out, &factors, columns, area)?;
     }
     Ok(())
 }
 
-// Writes the symbols of some lanes in a block of columns, from `start` on: the sums of the rows'
-// symbols from the column `first + start` on, each times its factor in the lane.
-fn fill_block(
+// Writes the sums of the rows' symbols, each times its factor in the lane: those of as many columns
+// behind the first as the area's stand in its rows.
+fn fill_area(
     alloc: Global,
     out: &mut [u8],
     factors: &[Eight],
-    rows: &[u8],
-    width: usize,
-    wide: usize,
-    done: usize,
-    lanes: usize,
-    first: usize,
-    start: usize,
-    count: usize,
+    columns: Columns,
+    area: Area,
 ) -> Result<(), AllocError>
-    requires rows { length rows.now ≡ length factors.now * width }
-    requires columns { 2 * (first + start + count) ≤ width }
-    requires own { 2 * (start + count) ≤ wide }
-    requires out { (done + lanes) * wide ≤ length out.old }
-    requires lanes { lanes ≤ 8 }
-    requires fits { done + lanes < 2 ^ 64 }
+    requires rows { length columns.rows.now ≡ length factors.now * columns.width }
+    requires columns { 2 * (columns.first + area.start + area.count) ≤ columns.width }
+    requires own { 2 * (area.start + area.count) ≤ area.wide }
+    requires out { (area.done + area.lanes) * area.wide ≤ length out.old }
+    requires lanes { area.lanes ≤ 8 }
+    requires fits { area.done + area.lanes < 2 ^ 64 }
     ensures count { length out.new ≡ length out.old }
-    ensures others { (i j : ℕ) → 2 * (j + 1) ≤ wide
-        → (done ≤ i → start ≤ j → j < start + count → ⊥) →
-        symbol out.new wide i j ≡ symbol out.old wide i j }
-    ensures written { OnOk result ((l j : ℕ) → l < lanes → j < count
-        → symbol out.new wide (done + l) (start + j)
+    ensures others { (i j : ℕ) → 2 * (j + 1) ≤ area.wide
+        → (area.done ≤ i → area.start ≤ j → j < area.start + area.count → ⊥) →
+        symbol out.new area.wide i j ≡ symbol out.old area.wide i j }
+    ensures written { OnOk result ((l j : ℕ) → l < area.lanes → j < area.count
+        → symbol out.new area.wide (area.done + l) (area.start + j)
         ≡ sum_below (length factors.now)
-        (λ s. times (symbol rows.now width s (first + (start + j))) (lane factors.now s l))) }
+        (λ s. times (symbol_in columns.entry s (area.start + j)) (lane factors.now s l))) }
 {
-    if lanes <= 2 {
-        return fill_pairs(
-            alloc, out, factors, rows, width, wide, done, lanes, first, start, count,
-        );
+    if area.lanes <= 2 {
+        return fill_pairs(alloc, out, factors, columns, area);
     }
-    fill_eights(
-        alloc, out, factors, rows, width, wide, done, lanes, first, start, count,
-    )
+    fill_eights(alloc, out, factors, columns, area)
 }
 
 // The same by tables for eight targets.
@@ -373,33 +368,35 @@ fn fill_eights(
     alloc: Global,
     out: &mut [u8],
     factors: &[Eight],
-    rows: &[u8],
-    width: usize,
-    wide: usize,
-    done: usize,
-    lanes: usize,
-    first: usize,
-    start: usize,
-    count: usize,
+    columns: Columns,
+    area: Area,
 ) -> Result<(), AllocError>
-    requires rows { length rows.now ≡ length factors.now * width }
-    requires columns { 2 * (first + start + count) ≤ width }
-    requires own { 2 * (start + count) ≤ wide }
-    requires out { (done + lanes) * wide ≤ length out.old }
-    requires lanes { lanes ≤ 8 }
-    requires fits { done + lanes < 2 ^ 64 }
+    requires rows { length columns.rows.now ≡ length factors.now * columns.width }
+    requires columns { 2 * (columns.first + area.start + area.count) ≤ columns.width }
+    requires own { 2 * (area.start + area.count) ≤ area.wide }
+    requires out { (area.done + area.lanes) * area.wide ≤ length out.old }
+    requires lanes { area.lanes ≤ 8 }
+    requires fits { area.done + area.lanes < 2 ^ 64 }
     ensures count { length out.new ≡ length out.old }
-    ensures others { (i j : ℕ) → 2 * (j + 1) ≤ wide
-        → (done ≤ i → start ≤ j → j < start + count → ⊥) →
-        symbol out.new wide i j ≡ symbol out.old wide i j }
-    ensures written { OnOk result ((l j : ℕ) → l < lanes → j < count
-        → symbol out.new wide (done + l) (start + j)
+    ensures others { (i j : ℕ) → 2 * (j + 1) ≤ area.wide
+        → (area.done ≤ i → area.start ≤ j → j < area.start + area.count → ⊥) →
+        symbol out.new area.wide i j ≡ symbol out.old area.wide i j }
+    ensures written { OnOk result ((l j : ℕ) → l < area.lanes → j < area.count
+        → symbol out.new area.wide (area.done + l) (area.start + j)
         ≡ sum_below (length factors.now)
-        (λ s. times (symbol rows.now width s (first + (start + j))) (lane factors.now s l))) }
+        (λ s. times (symbol_in columns.entry s (area.start + j)) (lane factors.now s l))) }
 {
-    let sums = group_sums(alloc, factors, rows, width, first + start, count)?;
-    for place in 0..lanes {
-        fill_lane(out, wide, done + place, start, &sums, place);
+    let first = columns.first + area.start;
+    let sums = group_sums(
+        alloc,
+        factors,
+        columns.rows,
+        columns.width,
+        first,
+        area.count,
+    )?;
+    for place in 0..area.lanes {
+        fill_lane(out, area.wide, area.done + place, area.start, &sums, place);
     }
     Ok(())
 }
@@ -409,33 +406,35 @@ fn fill_pairs(
     alloc: Global,
     out: &mut [u8],
     factors: &[Eight],
-    rows: &[u8],
-    width: usize,
-    wide: usize,
-    done: usize,
-    lanes: usize,
-    first: usize,
-    start: usize,
-    count: usize,
+    columns: Columns,
+    area: Area,
 ) -> Result<(), AllocError>
-    requires rows { length rows.now ≡ length factors.now * width }
-    requires columns { 2 * (first + start + count) ≤ width }
-    requires own { 2 * (start + count) ≤ wide }
-    requires out { (done + lanes) * wide ≤ length out.old }
-    requires lanes { lanes ≤ 2 }
-    requires fits { done + lanes < 2 ^ 64 }
+    requires rows { length columns.rows.now ≡ length factors.now * columns.width }
+    requires columns { 2 * (columns.first + area.start + area.count) ≤ columns.width }
+    requires own { 2 * (area.start + area.count) ≤ area.wide }
+    requires out { (area.done + area.lanes) * area.wide ≤ length out.old }
+    requires lanes { area.lanes ≤ 2 }
+    requires fits { area.done + area.lanes < 2 ^ 64 }
     ensures count { length out.new ≡ length out.old }
-    ensures others { (i j : ℕ) → 2 * (j + 1) ≤ wide
-        → (done ≤ i → start ≤ j → j < start + count → ⊥) →
-        symbol out.new wide i j ≡ symbol out.old wide i j }
-    ensures written { OnOk result ((l j : ℕ) → l < lanes → j < count
-        → symbol out.new wide (done + l) (start + j)
+    ensures others { (i j : ℕ) → 2 * (j + 1) ≤ area.wide
+        → (area.done ≤ i → area.start ≤ j → j < area.start + area.count → ⊥) →
+        symbol out.new area.wide i j ≡ symbol out.old area.wide i j }
+    ensures written { OnOk result ((l j : ℕ) → l < area.lanes → j < area.count
+        → symbol out.new area.wide (area.done + l) (area.start + j)
         ≡ sum_below (length factors.now)
-        (λ s. times (symbol rows.now width s (first + (start + j))) (lane factors.now s l))) }
+        (λ s. times (symbol_in columns.entry s (area.start + j)) (lane factors.now s l))) }
 {
-    let sums = pair_sums(alloc, factors, rows, width, first + start, count)?;
-    for place in 0..lanes {
-        fill_pair_lane(out, wide, done + place, start, &sums, place);
+    let first = columns.first + area.start;
+    let sums = pair_sums(
+        alloc,
+        factors,
+        columns.rows,
+        columns.width,
+        first,
+        area.count,
+    )?;
+    for place in 0..area.lanes {
+        fill_pair_lane(out, area.wide, area.done + place, area.start, &sums, place);
     }
     Ok(())
 }

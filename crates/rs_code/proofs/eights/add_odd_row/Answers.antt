@@ -2,7 +2,7 @@ use Rattle.std.proofs.Common.{◌≡◌, ℕ, ◌+◌, ◌-◌, ◌*◌, ◌/◌
 use Rattle.rs_code.specs.Codeword.{sum_below}
 use Rattle.rs_code.specs.Field.{times}
 use Rattle.rs_code.specs.Coefficients.{lane}
-use Rattle.rs_code.specs.Rows.{symbol}
+use Rattle.rs_code.specs.Symbols.{symbol_in}
 use Rattle.rs_code.proofs.Codewords.{sum_more}
 use Rattle.rs_code.proofs.eights.add_odd_row.Goals as goal
 
@@ -10,7 +10,7 @@ pub returns-clause-each : goal.returns-clause-each
 unfolding lane
 returns-clause-each c = λ j l hj hl before.
     let f : ℕ → ℕ =
-    λ s. times (symbol c.args.rows.now c.args.width s (c.args.first + j))
+    λ s. times (symbol_in c.args.columns s j)
     (lane c.args.factors.now s l) in
     let row : ℕ = length c.args.factors.now - 1 in
     let even : 2 * (length c.args.factors.now / 2) ≡ row = omega arith in

@@ -3,7 +3,7 @@ use Rattle.std.specs.Int.Bits.{xor_assoc}
 use Rattle.rs_code.specs.Codeword.{sum_below}
 use Rattle.rs_code.specs.Field.{times}
 use Rattle.rs_code.specs.Coefficients.{lane}
-use Rattle.rs_code.specs.Rows.{symbol}
+use Rattle.rs_code.specs.Symbols.{symbol_in}
 use Rattle.rs_code.proofs.Codewords.{sum_none, sum_more}
 use Rattle.rs_code.proofs.eights.add_row_pairs.Goals as goal
 
@@ -19,7 +19,7 @@ loop-pair-preserved c = record {
   count = c.add_two_rows.ensures.count ∙ c.loop-pair.invariant.count;
   each = λ none j i hj hi.
       (let f : ℕ → ℕ =
-      λ s. times (symbol c.args.rows.now c.args.width s (c.args.first + j))
+      λ s. times (symbol_in c.args.columns s j)
       (lane c.args.factors.now s i) in
       let n : ℕ = 2 * c.loop-pair.pair in
       c.add_two_rows.ensures.each j i (omega (arith, hj, c.loop-pair.invariant.count)) hi
@@ -32,9 +32,9 @@ loop-pair-preserved c = record {
       (let more : n + 1 + 1 ≡ 2 * (c.loop-pair.pair + 1) = omega arith in more));
 }
 
-pub add_two_rows-requires-clause-room : goal.add_two_rows-requires-clause-room
-add_two_rows-requires-clause-room c =
-    let whole : (2 * c.loop-pair.pair + 2) * c.args.width
-    ≤ length c.args.factors.now * c.args.width =
-    mul-le-mul_right c.args.width (omega arith) in
+pub add_two_rows-requires-clause-columns : goal.add_two_rows-requires-clause-columns
+add_two_rows-requires-clause-columns c =
+    let whole : (2 * c.loop-pair.pair + 2) * c.args.columns.width
+    ≤ length c.args.factors.now * c.args.columns.width =
+    mul-le-mul_right c.args.columns.width (omega arith) in
     omega (arith, whole, c.requires.rows, c.requires.columns, c.loop-pair.invariant.count)

@@ -4,13 +4,15 @@ use Rattle.rs_code.proofs.eights.add_two_by_tables.Given as goal
 
 -- the sums so far are done, the others are as they were
 abbrev pub invariant-loop-column : goal.invariant-loop-column
-invariant-loop-column l = record {
-  done : (j i : ℕ) → j < l.column → i < 8 → lane l.sums j i ≡ bit_xor (lane l.fn.sums j i)
-      (bit_xor
-      (bit_xor (lane l.high (get_or l.rows (l.row * l.width + 2 * (l.first + j)) 0) i)
-      (lane l.low (get_or l.rows (l.row * l.width + 2 * (l.first + j) + 1) 0) i))
-      (bit_xor
-      (lane l.next_high (get_or l.rows (l.row * l.width + 2 * (l.first + j) + l.width) 0) i)
-      (lane l.next_low (get_or l.rows (l.row * l.width + 2 * (l.first + j) + l.width + 1) 0) i)));
-  rest : (j i : ℕ) → l.column ≤ j → lane l.sums j i ≡ lane l.fn.sums j i;
-}
+invariant-loop-column l =
+    let place : ℕ → ℕ = λ j. l.row * l.columns.width + 2 * (l.columns.first + j) in
+    let next : ℕ → ℕ = λ j. place j + l.columns.width in
+    record {
+      done : (j i : ℕ) → j < l.column → i < 8 → lane l.sums j i ≡ bit_xor (lane l.fn.sums j i)
+          (bit_xor
+          (bit_xor (lane l.tables.high.now (get_or l.columns.rows.now (place j) 0) i)
+          (lane l.tables.low.now (get_or l.columns.rows.now (place j + 1) 0) i))
+          (bit_xor (lane l.next_tables.high.now (get_or l.columns.rows.now (next j) 0) i)
+          (lane l.next_tables.low.now (get_or l.columns.rows.now (next j + 1) 0) i)));
+      rest : (j i : ℕ) → l.column ≤ j → lane l.sums j i ≡ lane l.fn.sums j i;
+    }

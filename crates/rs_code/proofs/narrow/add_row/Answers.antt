@@ -9,12 +9,12 @@ use Rattle.rs_code.proofs.narrow.add_row.Goals as goal
 pub returns-clause-each : goal.returns-clause-each
 unfolding symbol
 returns-clause-each c = λ j l hj hl.
-    let place : ℕ = c.args.row * c.args.width + 2 * (c.args.first + j) in
-    let start : ℕ = c.args.row * c.args.width + 2 * c.args.first in
+    let place : ℕ = c.args.row * c.args.columns.width + 2 * (c.args.columns.first + j) in
+    let start : ℕ = c.args.row * c.args.columns.width + 2 * c.args.columns.first in
     let upper : start + 2 * j ≡ place = omega arith in
     let lower : start + 1 + 2 * j ≡ place + 1 = omega arith in
-    let byte : ℕ → ℕ = λ n. get_or c.args.rows.now n 0 in
-    let fits : (n : ℕ) → byte n < 256 = λ n. omega (arith, c.type_inv.rows n) in
+    let byte : ℕ → ℕ = λ n. get_or c.args.columns.rows.now n 0 in
+    let fits : (n : ℕ) → byte n < 256 = c.bytes_fit.ensures in
     let f : ℕ = get_or c.args.factors.now l 0 in
     let old : ℕ = lane c.args.sums.now j l in
     let high : ℕ = times (times f 256) (byte place) in

@@ -6,10 +6,10 @@ use Rattle.rs_code.proofs.pairs.add_by_tables.Goals as goal
 pub loop-column-preserved : goal.loop-column-preserved
 unfolding lane
 loop-column-preserved c =
-    let place : ℕ → ℕ = λ j. c.args.row * c.args.width + 2 * (c.args.first + j) in
-    let byte : ℕ → ℕ = λ n. get_or c.args.rows.now n 0 in
-    let upper : ℕ → ℕ = λ b. get_or c.args.high.now b 0 in
-    let lower : ℕ → ℕ = λ b. get_or c.args.low.now b 0 in
+    let place : ℕ → ℕ = λ j. c.args.row * c.args.columns.width + 2 * (c.args.columns.first + j) in
+    let byte : ℕ → ℕ = λ n. get_or c.args.columns.rows.now n 0 in
+    let upper : ℕ → ℕ = λ b. get_or c.args.tables.high.now b 0 in
+    let lower : ℕ → ℕ = λ b. get_or c.args.tables.low.now b 0 in
     record {
       done =
           summed 2 c.loop-column.sums c.args.sums.now c.loop-column.column c.sum_with.result

@@ -1,8 +1,8 @@
-use Rattle.std.proofs.Common.{◌≡◌, ℕ, ◌+◌, ◌*◌, ◌<◌, length}
+use Rattle.std.proofs.Common.{◌≡◌, ℕ, ◌*◌, ◌<◌, length}
 use Rattle.rs_code.specs.Field.{times}
 use Rattle.rs_code.specs.Codeword.{sum_below}
 use Rattle.rs_code.specs.Coefficients.{lane}
-use Rattle.rs_code.specs.Rows.{symbol}
+use Rattle.rs_code.specs.Symbols.{symbol_in}
 use Rattle.rs_code.proofs.pairs.add_row_pairs.Given as goal
 
 -- the sums over the pairs of rows so far
@@ -12,5 +12,5 @@ invariant-loop-pair l = record {
   each : ((j i : ℕ) → j < length l.fn.sums → i < 2 → lane l.fn.sums j i ≡ 0) →
       (j i : ℕ) → j < length l.fn.sums → i < 2 → lane l.sums j i
       ≡ sum_below (2 * l.pair)
-      (λ s. times (symbol l.rows l.width s (l.first + j)) (lane l.factors s i));
+      (λ s. times (symbol_in l.columns s j) (lane l.factors s i));
 }

@@ -6,13 +6,13 @@ use Rattle.rs_code.proofs.pairs.add_two_by_tables.Goals as goal
 pub loop-column-preserved : goal.loop-column-preserved
 unfolding lane
 loop-column-preserved c =
-    let place : ℕ → ℕ = λ j. c.args.row * c.args.width + 2 * (c.args.first + j) in
-    let next : ℕ → ℕ = λ j. place j + c.args.width in
-    let byte : ℕ → ℕ = λ n. get_or c.args.rows.now n 0 in
-    let upper : ℕ → ℕ = λ b. get_or c.args.high.now b 0 in
-    let lower : ℕ → ℕ = λ b. get_or c.args.low.now b 0 in
-    let next_upper : ℕ → ℕ = λ b. get_or c.args.next_high.now b 0 in
-    let next_lower : ℕ → ℕ = λ b. get_or c.args.next_low.now b 0 in
+    let place : ℕ → ℕ = λ j. c.args.row * c.args.columns.width + 2 * (c.args.columns.first + j) in
+    let next : ℕ → ℕ = λ j. place j + c.args.columns.width in
+    let byte : ℕ → ℕ = λ n. get_or c.args.columns.rows.now n 0 in
+    let upper : ℕ → ℕ = λ b. get_or c.args.tables.high.now b 0 in
+    let lower : ℕ → ℕ = λ b. get_or c.args.tables.low.now b 0 in
+    let next_upper : ℕ → ℕ = λ b. get_or c.args.next_tables.high.now b 0 in
+    let next_lower : ℕ → ℕ = λ b. get_or c.args.next_tables.low.now b 0 in
     record {
       done =
           summed 2 c.loop-column.sums c.args.sums.now c.loop-column.column c.sum_with.result

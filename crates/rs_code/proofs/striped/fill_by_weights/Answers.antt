@@ -27,7 +27,7 @@ returns-clause-rows c =
     let items : List ℕ = c.loop-group.out in
     let long : length items ≡ n * wide = c.loop-group.invariant.long ∙ c.requires.out in
     let value : ℕ → ℕ → ℕ =
-    λ i j. symbol_through c.args.basis.now c.args.rows.now c.args.width
+    λ i j. symbol_through c.args.basis.now c.args.columns.rows.now c.args.columns.width
     (get_or c.args.targets.now i 0) j in
     let bytes : (i : ℕ) → get_or items i 0 < 256 = λ i.
     ⊎_elim
@@ -39,7 +39,7 @@ returns-clause-rows c =
     let past = get_or_past items i 0 (omega (arith, short)) in omega (arith, past)))
     (λ some. c.loop-group.invariant.bytes (omega (arith, some)) i)
     (cases_eq c.loop-group.group 0) in
-    rows_of_symbols n wide items (λ i j. value i (c.args.first + j))
+    rows_of_symbols n wide items (λ i j. value i (c.args.columns.first + j))
     (record { even = c.requires.even; long = long; bytes = bytes })
     (λ i j hi hj. c.loop-group.invariant.written i j
     (omega (arith, hi, c.div_ceil-group-end.ensures, c.loop-group-test.false)) hi hj)

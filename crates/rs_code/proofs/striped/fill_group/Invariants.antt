@@ -3,6 +3,7 @@ use Rattle.rs_code.specs.Codeword.{sum_below}
 use Rattle.rs_code.specs.Coefficients.{lane}
 use Rattle.rs_code.specs.Field.{times}
 use Rattle.rs_code.specs.Rows.{symbol}
+use Rattle.rs_code.specs.Symbols.{symbol_in}
 use Rattle.rs_code.proofs.striped.fill_group.Given as goal
 
 -- the blocks so far are written
@@ -12,8 +13,8 @@ invariant-loop-block l = record {
   bytes : (i : ℕ) → get_or l.out i 0 < 256;
   before : (i j : ℕ) → i < l.done → j < l.wide / 2
       → symbol l.out l.wide i j ≡ symbol l.fn.out l.wide i j;
-  written : (p j : ℕ) → p < l.lanes → j < l.columns → j < 8192 * l.block
+  written : (p j : ℕ) → p < l.lanes → j < l.total → j < 8192 * l.block
       → symbol l.out l.wide (l.done + p) j
       ≡ sum_below (length l.factors.items)
-      (λ s. times (symbol l.rows l.width s (l.first + j)) (lane l.factors.items s p));
+      (λ s. times (symbol_in l.columns s j) (lane l.factors.items s p));
 }
