@@ -1,6 +1,6 @@
 -- Symbols that are read from a column on.
 use Rattle.std.specs.Prelude.{ℕ, ◌+◌}
-use Rattle.rs_code.specs.declared.eights.Columns.{Columns}
+use Rattle.rs_code.specs.declared.columns.Columns.{Columns}
 use Rattle.rs_code.specs.Rows.{symbol}
 
 -- the symbol of row s that stands j columns behind the first

@@ -9,18 +9,11 @@ ghost use Rattle.rs_code.specs.Field.{times};
 ghost use Rattle.rs_code.specs.Rows.{symbol};
 ghost use Rattle.rs_code.specs.Symbols.{symbol_in};
 
+use crate::columns::{Columns, bytes_fit};
 use crate::lanes::{
     Eight, each_by_2, each_by_4, each_by_16, each_by_256, sum_of_three, sum_of_two,
 };
 use std::alloc::{AllocError, Global};
-
-/// Rows of one width, end to end, and the column of theirs to begin with.
-#[derive(Clone, Copy)]
-pub struct Columns<'a> {
-    pub rows: &'a [u8],
-    pub width: usize,
-    pub first: usize,
-}
 
 // Eight factors' products with each lower byte of a symbol, and with each upper byte.
 #[derive(Clone, Copy)]
@@ -38,13 +31,6 @@ pub fn zeros(alloc: Global, count: usize) -> Result<Vec<Eight>, AllocError>
 {
     let entries = vec![in alloc; [0u16; 8]; count]?;
     Ok(entries)
-}
-
-/// It does nothing: what is known of the bytes' type is its contract.
-pub fn bytes_fit(bytes: &[u8])
-    ensures { (n : ℕ) → slice_index bytes.now n < 256 }
-{
-    let _ = bytes;
 }
 
 // Copies the first `count` entries behind themselves, with a step added in each lane.

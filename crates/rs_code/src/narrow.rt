@@ -9,7 +9,8 @@ ghost use Rattle.rs_code.specs.Field.{times};
 ghost use Rattle.rs_code.specs.Rows.{symbol};
 ghost use Rattle.rs_code.specs.Symbols.{symbol_in};
 
-use crate::eights::{Columns, bytes_fit, spread_short, wide_sums, zeros};
+use crate::columns::{Columns, bytes_fit};
+use crate::eights::{spread_short, wide_sums, zeros};
 use crate::lanes::{Eight, each_by_16, each_by_256, sum_of_three};
 use std::alloc::{AllocError, Global};
 

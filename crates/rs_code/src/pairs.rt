@@ -8,7 +8,8 @@ ghost use Rattle.rs_code.specs.Field.{times};
 ghost use Rattle.rs_code.specs.Rows.{symbol};
 ghost use Rattle.rs_code.specs.Symbols.{symbol_in};
 
-use crate::eights::{Columns, bytes_fit, spread, zeros};
+use crate::columns::{Columns, bytes_fit};
+use crate::eights::{spread, zeros};
 use crate::lanes::{Eight, each_by_256};
 use std::alloc::{AllocError, Global};
 

@@ -12,7 +12,8 @@ ghost use Rattle.rs_code.specs.Symbols.{symbol_in};
 ghost use Rattle.rs_code.specs.Stripes.{stripe_start, stripe_bytes, AreStripes};
 
 use crate::basis::Basis;
-use crate::eights::{Columns, fill_lane};
+use crate::columns::Columns;
+use crate::eights::fill_lane;
 use crate::joining::{all_done, put_rows};
 use crate::lanes::{Eight, next_eight};
 use crate::narrow::group_sums;
@@ -244,22 +245,13 @@ fn fill_rows(
         (λ i. symbol_bytes (wide / 2)
         (λ j. made_symbol recipe.now rows.now width i (first + j)))) }
 {
+    let columns = Columns { rows, width, first };
     match *recipe {
         Recipe::ByWeights(basis, targets) => {
-            let columns = Columns { rows, width, first };
             fill_by_weights(alloc, out, basis, columns, targets, wide)
         }
         Recipe::Transformed(k, m) => {
-            fill_transformed(
-                alloc,
-                out,
-                usize::from(k),
-                usize::from(m),
-                rows,
-                width,
-                first,
-                wide,
-            )
+            fill_transformed(alloc, out, usize::from(k), usize::from(m), columns, wide)
         }
     }
 }

@@ -8,6 +8,15 @@ ghost use Rattle.rs_code.specs.Transform.{vanishing, combined};
 use crate::products::{add, add_products, step_back, step_forward, symbols_fit};
 use crate::subspaces::{STEPS, vanishing_at};
 
+/// Which rows hold coefficients, those from `given` on being zero, and which values are asked for:
+/// those of the rows from `first` on that are before `last`.
+#[derive(Clone, Copy)]
+pub struct Part {
+    pub given: usize,
+    pub first: usize,
+    pub last: usize,
+}
+
 /// How many rows a block has.
 pub fn size(t: usize) -> usize
     requires { t ≤ 16 }
@@ -27,55 +36,52 @@ fn factor_at(scales: &[u16; STEPS], t: usize, block: usize) -> u16
     vanishing_at(scales, t - 1, (block * size(t)) as u16)
 }
 
-/// From the coefficients in 2^t rows, of which those from `given` on are zero, to their polynomial's
-/// values at the elements of a block, in the rows from `first` on that are before `last`. What the
-/// others have then isn't said.
+/// From the coefficients in 2^t rows to their polynomial's values at the elements of a block, in the
+/// rows that are asked for. What the others have then isn't said.
 pub fn forward(
     rows: &mut [u16],
     n: usize,
     scales: &[u16; STEPS],
     t: usize,
     block: usize,
-    first: usize,
-    last: usize,
-    given: usize,
+    part: Part,
 )
     requires fits { t ≤ 16 }
     requires block { (block + 1) * 2 ^ t ≤ 2 ^ 16 }
     requires rows { length rows.old ≡ 2 ^ t * n }
-    requires given { given ≤ 2 ^ t }
-    requires zeros { (i j : ℕ) → given ≤ i → i < 2 ^ t → j < n → entry rows.old n i j ≡ 0 }
+    requires given { part.given ≤ 2 ^ t }
+    requires zeros { (i j : ℕ) → part.given ≤ i → i < 2 ^ t → j < n → entry rows.old n i j ≡ 0 }
     requires scales { AreScales 15 scales.now }
     ensures count { length rows.new ≡ length rows.old }
-    ensures values { (i j : ℕ) → first ≤ i → i < last → i < 2 ^ t → j < n
+    ensures values { (i j : ℕ) → part.first ≤ i → i < part.last → i < 2 ^ t → j < n
         → entry rows.new n i j
         ≡ combined t (λ r. entry rows.old n r j) (block * 2 ^ t + i) }
 {
     if t == 0 {
         return;
     }
-    if last <= first {
+    if part.last <= part.first {
         return;
     }
-    if size(t) <= first {
+    if size(t) <= part.first {
         return;
     }
     symbols_fit(rows);
     let half = size(t - 1);
     let factor = factor_at(scales, t, block);
     let (low, high) = rows.split_at_mut(half * n);
-    step_forward(low, high, factor, given.saturating_sub(half) * n);
-    forward(low, n, scales, t - 1, 2 * block, first, last, half);
-    forward(
-        high,
-        n,
-        scales,
-        t - 1,
-        2 * block + 1,
-        first.saturating_sub(half),
-        last.saturating_sub(half),
-        half,
-    );
+    step_forward(low, high, factor, part.given.saturating_sub(half) * n);
+    let front = Part {
+        given: half,
+        ..part
+    };
+    let back = Part {
+        given: half,
+        first: part.first.saturating_sub(half),
+        last: part.last.saturating_sub(half),
+    };
+    forward(low, n, scales, t - 1, 2 * block, front);
+    forward(high, n, scales, t - 1, 2 * block + 1, back);
 }
 
 /// From the values of a polynomial at the first elements of a block, and its coefficients from their

@@ -6,11 +6,13 @@ ghost use Rattle.std.specs.Prelude.{slice_index, OnOk};
 ghost use Rattle.rs_code.specs.Codeword.{codeword};
 ghost use Rattle.rs_code.specs.Columns.{entry, AreScales};
 ghost use Rattle.rs_code.specs.Rows.{symbol, symbol_bytes, joined};
+ghost use Rattle.rs_code.specs.Symbols.{symbol_in};
 ghost use Rattle.rs_code.specs.Transform.{combined};
 
+use crate::columns::{Columns, bytes_fit};
 use crate::products::symbols_fit;
 use crate::subspaces::{STEPS, scales};
-use crate::transform::{forward, inverse, size};
+use crate::transform::{Part, forward, inverse, size};
 use std::alloc::{AllocError, Global};
 
 // How many coefficients are worked on at once. A factor's tables are made anew for each piece of the
@@ -38,52 +40,43 @@ struct Window {
     n: usize,
 }
 
-/// Writes the recovery rows: `wide` bytes of each, from the column `first` on.
+/// Writes the recovery rows: `wide` bytes of each, from the first column on.
 pub fn fill_transformed(
     alloc: Global,
     out: &mut [u8],
     k: usize,
     m: usize,
-    rows: &[u8],
-    width: usize,
-    first: usize,
+    columns: Columns,
     wide: usize,
 ) -> Result<(), AllocError>
     requires total { k + m ≤ 65535 }
-    requires rows { length rows.now ≡ k * width }
-    requires columns { 2 * first + wide ≤ width }
+    requires rows { length columns.rows.now ≡ k * columns.width }
+    requires columns { 2 * columns.first + wide ≤ columns.width }
     requires even { wide % 2 ≡ 0 }
     requires out { length out.old ≡ m * wide }
     ensures count { length out.new ≡ length out.old }
     ensures rows { OnOk result (out.new ≡ joined m (λ i. symbol_bytes (wide / 2)
-        (λ j. codeword k (λ s. symbol rows.now width s (first + j)) (k + i)))) }
+        (λ j. codeword k (λ s. symbol_in columns.entry s j) (k + i)))) }
 {
     let t = exponent(k);
     let scales = scales();
     let setting = Setting { k, m, t, scales };
-    let columns = wide / 2;
-    let each = columns_at_once(columns, t);
-    for block in 0..pieces(columns, each) {
+    let total = wide / 2;
+    let each = columns_at_once(total, t);
+    for block in 0..pieces(total, each) {
         let start = each * block;
-        let n = (columns - start).min(each);
+        let n = (total - start).min(each);
         let window = Window {
-            from: first + start,
-            width,
+            from: columns.first + start,
+            width: columns.width,
             start,
             wide,
             n,
         };
-        fill_columns(alloc, out, &setting, rows, window)?;
+        fill_columns(alloc, out, &setting, columns.rows, window)?;
     }
     bytes_fit(out);
     Ok(())
-}
-
-// It does nothing: what is known of the bytes' type is its contract.
-fn bytes_fit(out: &[u8])
-    ensures { (p : ℕ) → slice_index out.now p < 256 }
-{
-    let _ = out;
 }
 
 // The exponent of the least power of two that is no less.
@@ -269,16 +262,12 @@ fn fill_block(
     let first = setting.k.saturating_sub(begin);
     let last = each.min(setting.k + setting.m - begin);
     values.copy_from_slice(coefficients);
-    forward(
-        values,
-        window.n,
-        &setting.scales,
-        setting.t,
-        block,
+    let part = Part {
+        given: setting.k,
         first,
         last,
-        setting.k,
-    );
+    };
+    forward(values, window.n, &setting.scales, setting.t, block, part);
     store(
         out,
         window,

@@ -30,7 +30,7 @@ filled_within t n given half filled some is_half small is_filled =
 pub step_forward-requires-clause-filled : goal.step_forward-requires-clause-filled
 step_forward-requires-clause-filled t c =
     let within =
-    filled_within c.args.t c.args.n c.args.given c.size-half.result c.saturating_sub.result
+    filled_within c.args.t c.args.n c.args.part.given c.size-half.result c.saturating_sub.result
     c.if-t-eq0.false c.size-half.ensures c.requires.given c.saturating_sub.ensures in
     omega (arith, within, c.split_at_mut-low.ensures.front_len)
 
@@ -38,7 +38,7 @@ pub step_forward-requires-clause-zeros : goal.step_forward-requires-clause-zeros
 step_forward-requires-clause-zeros t c = λ p from to.
     let half : ℕ = c.size-half.result in
     let is_half = c.size-half.ensures in
-    high_zeros c.args.n half c.args.t c.args.given c.args.rows.now c.split_at_mut-low.result.0.now
+    high_zeros c.args.n half c.args.t c.args.part.given c.args.rows.now c.split_at_mut-low.result.0.now
     c.split_at_mut-low.result.1.now c.split_at_mut-low.ensures.value
     c.split_at_mut-low.ensures.front_len
     (omega (arith, halves c.args.t c.if-t-eq0.false, is_half))
@@ -112,7 +112,7 @@ returns-clause-values t c =
     c.split_at_mut-low.ensures.value front (omega (arith, c.requires.fits, c.if-t-eq0.false))
     c.args.t (next c.args.t c.if-t-eq0.false) c.factor_at-factor.ensures
     c.step_forward.new.first c.step_forward.new.second c.forward.new.rows c.forward-2.new.rows
-    c.args.first c.args.last c.symbols_fit.ensures
+    c.args.part.first c.args.part.last c.symbols_fit.ensures
     (λ p l. c.step_forward.ensures.first p (omega (arith, l, front)))
     (λ p l. c.step_forward.ensures.second p (omega (arith, l, front)))
     c.forward.ensures.values

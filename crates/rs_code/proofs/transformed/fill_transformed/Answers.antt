@@ -17,12 +17,12 @@ loop-block-preserved c =
           ∙ c.loop-block.invariant.written i j hi before hj)
           (λ here.
           let place : start + (j - start) ≡ j = omega (arith, here) in
-          let column : c.args.first + start + (j - start) ≡ c.args.first + j = omega (arith, here) in
+          let column : c.args.columns.first + start + (j - start) ≡ c.args.columns.first + j = omega (arith, here) in
           let within : j - start < c.min-n.result = omega (arith, c.min-n.ensures, to, hj, here) in
           ap (λ (m : ℕ). symbol c.fill_columns.new.out c.args.wide i m) (sym place)
           ∙ c.in_ok-fill_columns.ensures.written i (j - start) hi within
           ∙ ap
-          (λ (m : ℕ). codeword c.args.k (λ s. symbol c.args.rows.now c.args.width s m) (c.args.k + i))
+          (λ (m : ℕ). codeword c.args.k (λ s. symbol c.args.columns.rows.now c.args.columns.width s m) (c.args.k + i))
           column)
           (cases_lt j start);
     }
@@ -36,7 +36,7 @@ returns-clause-rows c =
     let done : c.args.wide / 2 ≤ each * c.loop-block.block =
     omega (arith, c.pieces-block-end.ensures.all, covered) in
     rows_of_symbols c.args.m c.args.wide items
-    (λ i j. codeword c.args.k (λ s. symbol c.args.rows.now c.args.width s (c.args.first + j))
+    (λ i j. codeword c.args.k (λ s. symbol c.args.columns.rows.now c.args.columns.width s (c.args.columns.first + j))
     (c.args.k + i))
     (record {
       even = c.requires.even;

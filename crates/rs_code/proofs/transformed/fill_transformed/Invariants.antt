@@ -9,5 +9,5 @@ invariant-loop-block l = record {
   long : length l.out ≡ length l.fn.out;
   written : (i j : ℕ) → i < l.m → j < l.each * l.block → j < l.wide / 2
       → symbol l.out l.wide i j
-      ≡ codeword l.k (λ s. symbol l.rows l.width s (l.first + j)) (l.k + i);
+      ≡ codeword l.k (λ s. symbol l.columns.rows.now l.columns.width s (l.columns.first + j)) (l.k + i);
 }
