@@ -8,7 +8,7 @@ use Rattle.cw_base.proofs.Lengths.{length-be32}
 use Rattle.rs_code.specs.Rows.{joined, code_row, AreRows, OriginalsComeFirst}
 use Rattle.cw_base.specs.Rows.{row_of, listed, row_hashes}
 use Rattle.rs_code.proofs.RowBytes.{joined_none, joined_more, length-joined, length-symbol_bytes}
-use Rattle.cw_base.proofs.Listed.{listed_same, length-listed}
+use Rattle.cw_base.proofs.Listed.{listed_same}
 use Rattle.cw_tree.specs.Widths.{shard_len}
 use Rattle.cw_tree.proofs.WidthLaws.{shard_len-even, shard_len-covers, shard_len-some}
 use Rattle.cw_coding.specs.Layout.{layout, row_at, row_digests}
@@ -171,14 +171,22 @@ bytes_layout k text b =
 
 -- the rows of a text: those that its layout is cut into, and the recoveries behind them
 pub codeword_rows : OriginalsComeFirst → (k m : ℕ) (text laid rows : List ℕ) (width : ℕ) → 1 ≤ k
-    → k + m ≤ 65535 → ((i : ℕ) → get_or text i 0 < 256) → width ≡ shard_len (length text) k
+    → k + m ≤ 65535 → ((i : ℕ) → get_or laid i 0 < 256) → width ≡ shard_len (length text) k
     → laid ≡ layout k text → rows ≡ laid ++ joined m (λ i. code_row k laid width (k + i))
     → rows ≡ joined (k + m) (row_at k text)
 codeword_rows law k m text laid rows width some small bytes w l r =
-    rows_are law k m text rows _ some small (bytes_layout k text bytes) refl (rw (l, w) at r)
+    rows_are law k m text rows _ some small (rw l at bytes) refl (rw (l, w) at r)
 
 -- how long they are
 pub rows_long : (k m : ℕ) (text rows : List ℕ) → rows ≡ joined (k + m) (row_at k text)
     → length rows ≡ (k + m) * shard_len (length text) k
 rows_long k m text rows r =
     ap length r ∙ length-joined (k + m) _ (row_at k text) (λ i l. length-row_at k text i)
+
+-- how long a codeword is that begins with so many rows
+pub codeword_long : (k m width : ℕ) (laid rows : List ℕ) → width % 2 ≡ 0 → length laid ≡ k * width
+    → rows ≡ laid ++ joined m (λ i. code_row k laid width (k + i)) → length rows ≡ (k + m) * width
+codeword_long k m width laid rows even long r =
+    let more : length (joined m (λ i. code_row k laid width (k + i))) ≡ m * width =
+    length-joined m width _ (λ i l. length-code_row k laid width (k + i) even) in
+    ap length r ∙ length-append laid _ ∙ omega (arith, long, more)

@@ -9,3 +9,6 @@ pub mod PlanLaws
 pub mod CheckingLaws
 pub mod ClashLaws
 pub mod FindLaws
+pub mod DigestLaws
+pub mod Matches
+pub mod RecoveringLaws

@@ -213,15 +213,15 @@ rows_long_of c root chunks k width indices rows d ew ei er =
 
 -- F gathers something of each chunk. What is taken of chunk i, with what is gathered behind it, is
 -- what is gathered from it on
-pub taken_more : {D : Type 0} (F : List (Checked D) → List ℕ) (p : Checked D → Bool)
-    (cs : List (Checked D)) (i : ℕ) (c : Checked D) (taken : Bool) (x old new whole : List ℕ)
+pub taken_more : {D E : Type 0} (F : List (Checked D) → List E) (p : Checked D → Bool)
+    (cs : List (Checked D)) (i : ℕ) (c : Checked D) (taken : Bool) (x old new whole : List E)
     → ((rest : List (Checked D)) → F (c ∷ rest) ≡ x ++ F rest) → i < length cs → c ≡ get_or cs i c
     → taken ≡ p c → new ≡ cond taken (old ++ x) old → old ++ F (filter p (drop i cs)) ≡ whole
     → new ++ F (filter p (drop (i + 1) cs)) ≡ whole
-taken_more {D = D} F p cs i c taken x old new whole first l is t e before =
+taken_more {D = D} {E = E} F p cs i c taken x old new whole first l is t e before =
     let rest : List (Checked D) = drop (i + 1) cs in
     let here : drop i cs ≡ c ∷ rest = drop_more cs i c l ∙ ap (λ y. y ∷ rest) (sym is) in
-    ap (λ (xs : List ℕ). xs ++ F (filter p rest)) e
+    ap (λ (xs : List E). xs ++ F (filter p rest)) e
     ∙ ap (λ (b : Bool). cond b (old ++ x) old ++ F (filter p rest)) t
     ∙ step (p c) (filter p rest)
     ∙ ap (λ (xs : List (Checked D)). old ++ F (filter p xs)) (sym here) ∙ before
@@ -232,8 +232,8 @@ taken_more {D = D} F p cs i c taken x old new whole first l is t e before =
     step false ys = refl
 
 -- behind the last chunk nothing is gathered
-pub taken_all : {D : Type 0} (F : List (Checked D) → List ℕ) (p : Checked D → Bool)
-    (cs : List (Checked D)) (n : ℕ) (now whole : List ℕ)
+pub taken_all : {D E : Type 0} (F : List (Checked D) → List E) (p : Checked D → Bool)
+    (cs : List (Checked D)) (n : ℕ) (now whole : List E)
     → F [] ≡ [] → length cs ≤ n → now ++ F (filter p (drop n cs)) ≡ whole → now ≡ whole
 taken_all F p cs n now whole none l all =
     sym (append-nil now) ∙ ap (λ zs. now ++ zs) (sym none)

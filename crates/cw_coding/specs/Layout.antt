@@ -1,5 +1,5 @@
 -- The layout of a text, and the rows of its codeword.
-use Rattle.std.specs.Prelude.{ℕ, ◌+◌, ◌-◌, ◌*◌, List, ◌++◌, length, replicate}
+use Rattle.std.specs.Prelude.{ℕ, ◌+◌, ◌-◌, ◌*◌, List, ◌++◌, length, take, drop, replicate}
 use Rattle.cw_base.specs.Bytes.{be32}
 use Rattle.cw_base.specs.Rows.{listed}
 use Rattle.rs_code.specs.Rows.{code_row}
@@ -9,6 +9,10 @@ use Rattle.cw_tree.specs.Widths.{shard_len}
 unfoldable pub layout : (k : ℕ) (text : List ℕ) → List ℕ
 layout k text =
     be32 (length text) ++ text ++ replicate (k * shard_len (length text) k - (length text + 4)) 0
+
+-- so many bytes behind the length that a layout begins with
+abbrev pub text_in : (laid : List ℕ) (count : ℕ) → List ℕ
+text_in laid count = take count (drop 4 laid)
 
 -- row i of the text's codeword, whose first k rows joined are its layout
 unfoldable pub row_at : (k : ℕ) (text : List ℕ) (i : ℕ) → List ℕ

@@ -10,5 +10,6 @@ pub mod Checked
 pub mod Checking
 pub mod Encoding
 pub mod Decoding
+pub mod Digests
 pub mod Laws
 pub mod Clash

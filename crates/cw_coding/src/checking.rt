@@ -13,7 +13,8 @@ use std::fmt::Debug;
 use std::marker::{Model, PhantomData};
 use std::thread::Threads;
 
-/// A chunk that was checked under a commitment. It keeps the commitment and its shard's digest.
+/// A chunk that was checked under a commitment. It keeps the commitment and its shard's digest,
+/// which decoding doesn't make again.
 #[derive(Drop)]
 #[derive_where(PartialEq, Eq; H: Hasher)]
 #[derive_where(Debug; H: Hasher, H::Digest: Debug)]
@@ -27,6 +28,7 @@ pub struct CheckedChunk<H: Hasher> {
 }
 
 impl<H: Hasher> Model for CheckedChunk<H> {
+    ghost use Rattle.std.specs.Prelude.{◌≡◌};
     ghost use Rattle.cw_coding.specs.Checked.{Checked};
 
     ghost Value = { Checked H.Digest };
@@ -45,6 +47,8 @@ impl<H: Hasher> Model for CheckedChunk<H> {
       digest = c.digest;
       hasher = record {};
     } };
+
+    ghost invariant = { λ c. c.digest ≡ H.digest_of c.shard };
 }
 
 impl<H: Hasher> CheckedChunk<H> {
@@ -67,6 +71,13 @@ impl<H: Hasher> CheckedChunk<H> {
         ensures { result ≡ self.now.index }
     {
         self.index
+    }
+
+    // The digest of the shard.
+    pub(crate) fn digest(&self) -> H::Digest
+        ensures { result ≡ H.digest_of self.now.shard }
+    {
+        self.digest
     }
 
     /// An equal chunk, which shares the bytes of the shard.
@@ -221,6 +232,7 @@ fn checked<H: Hasher>(
     shard: &Chunk<H::Digest>,
     digest: H::Digest,
 ) -> Result<CheckedChunk<H>, NoMemory>
+    requires { digest ≡ H.digest_of shard.now.shard }
     ensures { IfOk result
         (λ c. c
         ≡ record {

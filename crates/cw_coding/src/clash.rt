@@ -10,7 +10,6 @@ ghost use Rattle.cw_coding.specs.Clash.{way_of};
 
 use crate::encoding::encode_text;
 use crate::error::ReedSolomonError;
-use crate::recovering::same_bytes;
 use cw_base::{Config, Digest, Hasher, Items, NoMemory, Strategy};
 use cw_tree::Chunk;
 use rs_code::laws::prove_rows;
@@ -154,4 +153,10 @@ fn collide<H: Hasher>(one: &[u8], other: &[u8]) -> bool
         return false;
     }
     H::hash(one).is_same(&H::hash(other))
+}
+
+fn same_bytes(first: &[u8], second: &[u8]) -> bool
+    ensures { IsTrue result ↔ (first.now ≡ second.now) }
+{
+    first == second
 }

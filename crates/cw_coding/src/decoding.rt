@@ -1,9 +1,10 @@
 //! From chunks to the text that they come of.
 
-ghost use Rattle.std.specs.Prelude.{◌≡◌, ◌⊎◌, ◌↔◌, ℕ, List, map, IfOk, IfErr};
+ghost use Rattle.std.specs.Prelude.{◌≡◌, ◌⊎◌, ◌↔◌, ℕ, List, length, map, IfOk, IfErr};
 ghost use Rattle.std.specs.Iterator.{IsFinite, Drains};
 ghost use Rattle.cw_coding.specs.Decoding.{AreDecodable, AreRecoverable, Fits, IsDecoding};
 ghost use Rattle.cw_coding.specs.Decoding.{IsDecodeRefusal};
+ghost use Rattle.cw_coding.specs.Digests.{AreDigests};
 
 use crate::checking::CheckedChunk;
 use crate::error::ReedSolomonError;
@@ -95,10 +96,12 @@ fn prepared<H: Hasher>(
     config: &Config,
     commitment: &H::Digest,
     shards: &[CheckedChunk<H>],
-) -> Result<Given, ReedSolomonError>
+) -> Result<Given<H>, ReedSolomonError>
     ensures decodable { IfOk result (λ _. AreDecodable config.now commitment.now shards.now) }
     ensures recoverable { IfOk result (λ given. AreRecoverable config.now given.width
         given.indices.items given.rows.items given.compared) }
+    ensures digests { IfOk result (λ given. AreDigests H.digest_of given.width given.rows.items
+        (length given.indices.items) given.digests.items) }
     ensures same { IfOk result (λ given. (text : List ℕ)
         → Fits H.digest_of H.Digest.content config.now.minimum config.now.extra commitment.now
         given.width given.indices.items given.rows.items given.compared text

@@ -179,8 +179,21 @@ fn with_tree<H: Hasher>(
     ensures digests { IfOk result (λ coded. coded.tree
         ≡ row_digests H.digest_of config.now.minimum config.now.extra text.now) }
 {
-    let tree = Builder::<H>::of(Items::from_vec(digests)).build(alloc)?;
+    let tree = tree_of::<H>(alloc, digests)?;
     Ok(CodedText { rows, tree })
+}
+
+// The tree over digests.
+pub(crate) fn tree_of<H: Hasher>(
+    alloc: Global,
+    digests: Vec<H::Digest>,
+) -> Result<Tree<H>, NoMemory>
+    requires some { 1 ≤ length digests.items }
+    requires few { length digests.items ≤ 65535 }
+    ensures { IfOk result (λ tree. tree ≡ digests.items) }
+{
+    let tree = Builder::<H>::of(Items::from_vec(digests)).build(alloc)?;
+    Ok(tree)
 }
 
 // The root of a text that is coded, and its chunks in the order of their indices.

@@ -66,10 +66,11 @@ pub(crate) fn decodable<H: Hasher>(
 
 // Chunks of one width in the order in which they are used.
 #[derive(Drop)]
-pub(crate) struct Given {
+pub(crate) struct Given<H: Hasher> {
     pub(crate) width: usize,
     pub(crate) indices: Vec<u16>,
     pub(crate) rows: Vec<u8>,
+    pub(crate) digests: Vec<H::Digest>,
     pub(crate) compared: usize,
 }
 
@@ -78,23 +79,27 @@ pub(crate) fn ordered<H: Hasher>(
     k: u16,
     width: usize,
     shards: &[CheckedChunk<H>],
-) -> Result<Given, NoMemory>
+) -> Result<Given<H>, NoMemory>
     ensures width { IfOk result (λ given. given.width ≡ width) }
     ensures indices { IfOk result
         (λ given. given.indices.items ≡ indices_of (in_order k shards.now)) }
     ensures rows { IfOk result
         (λ given. given.rows.items ≡ flat_map (λ c. c.shard) (in_order k shards.now)) }
+    ensures digests { IfOk result (λ given. given.digests.items
+        ≡ map (λ c. H.digest_of c.shard) (in_order k shards.now)) }
     ensures compared { IfOk result (λ given. given.compared ≡ compared k shards.now) }
 {
     let mut indices = Vec::new(alloc);
-    let mut rows = Vec::new(alloc);
-    put_originals::<H>(k, &mut indices, &mut rows, shards)?;
+    let mut rows = Vec::with_capacity(alloc, shards.len().saturating_mul(width))?;
+    let mut digests = Vec::new(alloc);
+    put_originals::<H>(k, &mut indices, &mut rows, &mut digests, shards)?;
     let compared = compared_of(indices.len(), shards.len(), k);
-    put_recoveries::<H>(k, &mut indices, &mut rows, shards)?;
+    put_recoveries::<H>(k, &mut indices, &mut rows, &mut digests, shards)?;
     Ok(Given {
         width,
         indices,
         rows,
+        digests,
         compared,
     })
 }
@@ -176,6 +181,7 @@ fn put_originals<H: Hasher>(
     k: u16,
     indices: &mut Vec<u16>,
     rows: &mut Vec<u8>,
+    digests: &mut Vec<H::Digest>,
     shards: &[CheckedChunk<H>],
 ) -> Result<(), NoMemory>
     ensures indices { OnOk result
@@ -184,9 +190,12 @@ fn put_originals<H: Hasher>(
     ensures rows { OnOk result
         (rows.new.items ≡ rows.old.items ++ flat_map (λ c. c.shard)
         (filter (λ c. nat_lt c.index k) shards.now)) }
+    ensures digests { OnOk result
+        (digests.new.items ≡ digests.old.items ++ map (λ c. H.digest_of c.shard)
+        (filter (λ c. nat_lt c.index k) shards.now)) }
 {
     for chunk in shards {
-        put_if::<H>(chunk.index() < k, indices, rows, chunk)?;
+        put_if::<H>(chunk.index() < k, indices, rows, digests, chunk)?;
     }
     Ok(())
 }
@@ -196,6 +205,7 @@ fn put_recoveries<H: Hasher>(
     k: u16,
     indices: &mut Vec<u16>,
     rows: &mut Vec<u8>,
+    digests: &mut Vec<H::Digest>,
     shards: &[CheckedChunk<H>],
 ) -> Result<(), NoMemory>
     ensures indices { OnOk result
@@ -204,18 +214,22 @@ fn put_recoveries<H: Hasher>(
     ensures rows { OnOk result
         (rows.new.items ≡ rows.old.items ++ flat_map (λ c. c.shard)
         (filter (λ c. not (nat_lt c.index k)) shards.now)) }
+    ensures digests { OnOk result
+        (digests.new.items ≡ digests.old.items ++ map (λ c. H.digest_of c.shard)
+        (filter (λ c. not (nat_lt c.index k)) shards.now)) }
 {
     for chunk in shards {
-        put_if::<H>(!(chunk.index() < k), indices, rows, chunk)?;
+        put_if::<H>(!(chunk.index() < k), indices, rows, digests, chunk)?;
     }
     Ok(())
 }
 
-// Adds a chunk's index and shard, where it is taken.
+// Adds a chunk's index, shard and digest, where it is taken.
 fn put_if<H: Hasher>(
     taken: bool,
     indices: &mut Vec<u16>,
     rows: &mut Vec<u8>,
+    digests: &mut Vec<H::Digest>,
     chunk: &CheckedChunk<H>,
 ) -> Result<(), NoMemory>
     ensures indices { OnOk result
@@ -223,10 +237,13 @@ fn put_if<H: Hasher>(
         ≡ (if taken then indices.old.items ++ chunk.now.index ∷ [] else indices.old.items)) }
     ensures rows { OnOk result
         (rows.new.items ≡ (if taken then rows.old.items ++ chunk.now.shard else rows.old.items)) }
+    ensures digests { OnOk result (digests.new.items ≡ (if taken
+        then digests.old.items ++ H.digest_of chunk.now.shard ∷ [] else digests.old.items)) }
 {
     if taken {
         indices.push(chunk.index())?;
         put_bytes(rows, chunk.shard())?;
+        digests.push(chunk.digest())?;
     }
     Ok(())
 }

@@ -1,7 +1,7 @@
 //! The layout of data in shards, and the rows of its codeword.
 
 ghost use Rattle.std.specs.Prelude.{◌≡◌, ℕ, ◌+◌, ◌-◌, ◌*◌, ◌^◌, ◌<◌, ◌≤◌, ◌%◌, ◌++◌, length};
-ghost use Rattle.std.specs.Prelude.{replicate, IfOk, OnOk};
+ghost use Rattle.std.specs.Prelude.{replicate, slice_index, List, take, IfOk, OnOk};
 ghost use Rattle.rs_code.specs.Rows.{joined, code_row};
 ghost use Rattle.cw_tree.specs.Widths.{shard_len};
 ghost use Rattle.cw_coding.specs.Layout.{layout, row_at};
@@ -26,7 +26,7 @@ fn put_zeros(out: &mut Vec<u8>, count: usize) -> Result<(), NoMemory>
 // The text's length, the text, and zeros up to `k` shards of this width, with room for `total` of
 // them.
 #[tactic(auto, unfolding(crate::specs::Layout::layout))]
-pub(crate) fn lay_out(
+fn lay_out(
     alloc: Global,
     k: u16,
     total: u16,
@@ -47,13 +47,14 @@ pub(crate) fn lay_out(
     Ok(out)
 }
 
-// A text laid out in `k` rows of one width, with room for `m` more.
+// A text laid out in `k` rows of one width.
 #[derive(Drop)]
-struct Originals {
-    width: usize,
-    rows: Vec<u8>,
+pub(crate) struct Originals {
+    pub(crate) width: usize,
+    pub(crate) rows: Vec<u8>,
 }
 
+// The same, with room for `m` rows more.
 fn lay_originals(alloc: Global, k: u16, m: u16, text: &[u8]) -> Result<Originals, NoMemory>
     requires short { length text.now ≤ 2 ^ 32 - 1 }
     requires some { 1 ≤ k }
@@ -68,6 +69,64 @@ fn lay_originals(alloc: Global, k: u16, m: u16, text: &[u8]) -> Result<Originals
     let width = canonical_shard_len(text.len(), k);
     let rows = lay_out(alloc, k, k + m, width, text)?;
     Ok(Originals { width, rows })
+}
+
+// All rows of the codeword that begins with these, end to end.
+pub(crate) fn codeword<R: Threads + Sync, S: Strategy>(
+    rt: &R,
+    alloc: Global,
+    k: u16,
+    m: u16,
+    originals: Originals,
+    strategy: &S,
+) -> Result<Vec<u8>, NoMemory>
+    requires some { 1 ≤ k }
+    requires more { 1 ≤ m }
+    requires total { k + m ≤ 65535 }
+    requires positive { 0 < originals.width }
+    requires even { originals.width % 2 ≡ 0 }
+    requires long { length originals.rows.items ≡ k * originals.width }
+    requires room { (k + m) * originals.width < 2 ^ 63 }
+    ensures first { IfOk result (λ v. take (length originals.rows.items) v.items
+        ≡ originals.rows.items) }
+    ensures long { IfOk result (λ v. length v.items ≡ (k + m) * originals.width) }
+    ensures value { (text : List ℕ) → originals.width ≡ shard_len (length text) k
+        → originals.rows.items ≡ layout k text →
+        IfOk result (λ v. v.items ≡ joined (k + m) (row_at k text)) }
+{
+    let mut rows = originals.rows;
+    bytes_fit(&rows);
+    add_recoveries(rt, alloc, k, m, &mut rows, originals.width, strategy)?;
+    prove_rows();
+    Ok(rows)
+}
+
+// The same on the caller's thread.
+pub(crate) fn codeword_here(
+    alloc: Global,
+    k: u16,
+    m: u16,
+    originals: Originals,
+) -> Result<Vec<u8>, NoMemory>
+    requires some { 1 ≤ k }
+    requires more { 1 ≤ m }
+    requires total { k + m ≤ 65535 }
+    requires positive { 0 < originals.width }
+    requires even { originals.width % 2 ≡ 0 }
+    requires long { length originals.rows.items ≡ k * originals.width }
+    requires room { (k + m) * originals.width < 2 ^ 63 }
+    ensures first { IfOk result (λ v. take (length originals.rows.items) v.items
+        ≡ originals.rows.items) }
+    ensures long { IfOk result (λ v. length v.items ≡ (k + m) * originals.width) }
+    ensures value { (text : List ℕ) → originals.width ≡ shard_len (length text) k
+        → originals.rows.items ≡ layout k text →
+        IfOk result (λ v. v.items ≡ joined (k + m) (row_at k text)) }
+{
+    let mut rows = originals.rows;
+    bytes_fit(&rows);
+    add_recoveries_here(alloc, k, m, &mut rows, originals.width)?;
+    prove_rows();
+    Ok(rows)
 }
 
 // All rows of the text's codeword, end to end.
@@ -86,11 +145,8 @@ pub(crate) fn rows_of_text<R: Threads + Sync, S: Strategy>(
     ensures value { IfOk result (λ v. v.items ≡ joined (k + m) (row_at k text.now)) }
     ensures long { IfOk result (λ v. length v.items ≡ (k + m) * shard_len (length text.now) k) }
 {
-    let laid = lay_originals(alloc, k, m, text)?;
-    let mut rows = laid.rows;
-    add_recoveries(rt, alloc, k, m, &mut rows, laid.width, strategy)?;
-    prove_rows();
-    Ok(rows)
+    let originals = lay_originals(alloc, k, m, text)?;
+    codeword(rt, alloc, k, m, originals, strategy)
 }
 
 // The same on the caller's thread.
@@ -107,9 +163,11 @@ pub(crate) fn rows_of_text_here(
     ensures value { IfOk result (λ v. v.items ≡ joined (k + m) (row_at k text.now)) }
     ensures long { IfOk result (λ v. length v.items ≡ (k + m) * shard_len (length text.now) k) }
 {
-    let laid = lay_originals(alloc, k, m, text)?;
-    let mut rows = laid.rows;
-    add_recoveries_here(alloc, k, m, &mut rows, laid.width)?;
-    prove_rows();
-    Ok(rows)
+    let originals = lay_originals(alloc, k, m, text)?;
+    codeword_here(alloc, k, m, originals)
 }
+
+// That bytes are below 256, as their type says.
+pub(crate) fn bytes_fit(bytes: &[u8])
+    ensures { (i : ℕ) → slice_index bytes.now i < 256 }
+{}

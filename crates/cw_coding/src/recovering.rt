@@ -1,18 +1,22 @@
 //! From rows to the text that they come of.
 
-ghost use Rattle.std.specs.Prelude.{◌≡◌, ℕ, ◌+◌, ◌-◌, ◌*◌, ◌%◌, ◌^◌, ◌<◌, ◌≤◌, ◌↔◌, List, length};
-ghost use Rattle.std.specs.Prelude.{slice_index, take, IfOk, IsTrue, MatchOption};
+ghost use Rattle.std.specs.Prelude.{◌≡◌, ◌≢◌, ℕ, ◌+◌, ◌-◌, ◌*◌, ◌%◌, ◌^◌, ◌<◌, ◌≤◌, ◌↔◌, List};
+ghost use Rattle.std.specs.Prelude.{length, slice_index, take, replicate, Some, IfOk, IsTrue};
+ghost use Rattle.std.specs.Prelude.{MatchOption};
 ghost use Rattle.rs_code.specs.Rows.{joined, code_row};
 ghost use Rattle.cw_base.specs.Rows.{row_of};
 ghost use Rattle.rs_code.specs.Indices.{AreSound};
 ghost use Rattle.cw_tree.specs.Widths.{shard_len};
-ghost use Rattle.cw_coding.specs.Layout.{layout, row_at, row_digests};
+ghost use Rattle.cw_tree.specs.Tree.{root_of};
+ghost use Rattle.cw_coding.specs.Layout.{layout, text_in};
 ghost use Rattle.cw_coding.specs.Decoding.{AreRecoverable, Fits};
+ghost use Rattle.cw_coding.specs.Digests.{AreDigests};
 ghost use Rattle.cw_coding.specs.Totals.{total_of};
 
-use crate::encoding::{CodedText, coded_text, coded_text_here};
+use crate::encoding::tree_of;
 use crate::gathering::Given;
-use crate::layout::lay_out;
+use crate::hashing::{hash_others, hash_others_here};
+use crate::layout::{Originals, bytes_fit, codeword, codeword_here};
 use cw_base::{Config, Digest, Hasher, NoMemory, Strategy};
 use cw_tree::canonical_shard_len;
 use rs_code::laws::prove_rows;
@@ -20,39 +24,38 @@ use rs_code::{Plan, PlanError};
 use std::alloc::Global;
 use std::thread::Threads;
 
-pub(crate) fn same_bytes(first: &[u8], second: &[u8]) -> bool
-    ensures { IsTrue result ↔ (first.now ≡ second.now) }
-{
-    first == second
-}
-
-// The text that has this layout.
-fn text_of(
-    alloc: Global,
-    k: u16,
-    width: usize,
-    originals: &[u8],
-) -> Result<Option<Vec<u8>>, NoMemory>
+// The length of the text that has this layout.
+fn text_length(k: u16, width: usize, originals: &[u8]) -> Option<usize>
     requires some { 1 ≤ k }
     requires long { length originals.now ≡ k * width }
-    ensures { IfOk result (λ found. MatchOption found
+    ensures { MatchOption result
         ((text : List ℕ) → length text ≤ 2 ^ 32 - 1 → layout k text ≡ originals.now → ⊥)
-        (λ text. (length text.items ≤ 2 ^ 32 - 1) × (layout k text.items ≡ originals.now)
-        × (shard_len (length text.items) k ≡ width))) }
+        (λ count. (count ≤ 2 ^ 32 - 1) × (count + 4 ≤ length originals.now)
+        × (layout k (text_in originals.now count) ≡ originals.now)
+        × (shard_len count k ≡ width)) }
 {
     let [a, b, c, d, rest @ ..] = originals else {
-        return Ok(None);
+        return None;
     };
     let count = u32::from_be_bytes([*a, *b, *c, *d]) as usize;
     if rest.len() < count || canonical_shard_len(count, k) != width {
-        return Ok(None);
+        return None;
     }
-    let text = &rest[..count];
-    let laid = lay_out(alloc, k, k, width, text)?;
-    if !same_bytes(&laid, originals) {
-        return Ok(None);
+    if !are_zeros(&rest[count..]) {
+        return None;
     }
-    Ok(Some(Vec::from_slice(alloc, text)?))
+    Some(count)
+}
+
+fn are_zeros(bytes: &[u8]) -> bool
+    ensures { IsTrue result ↔ (bytes.now ≡ replicate (length bytes.now) 0) }
+{
+    for i in 0..bytes.len() {
+        if bytes[i] != 0 {
+            return false;
+        }
+    }
+    true
 }
 
 // Whether a row of the one is a row of the other.
@@ -118,7 +121,11 @@ struct Rebuilding {
     targets: Vec<u16>,
 }
 
-fn plan_rebuilding(alloc: Global, config: &Config, given: &Given) -> Result<Rebuilding, NoMemory>
+fn plan_rebuilding<H: Hasher>(
+    alloc: Global,
+    config: &Config,
+    given: &Given<H>,
+) -> Result<Rebuilding, NoMemory>
     requires { AreRecoverable config.now given.now.width given.now.indices.items
         given.now.rows.items given.now.compared }
     ensures plan { IfOk result (λ by. by.plan ≡ record {
@@ -137,7 +144,7 @@ fn plan_rebuilding(alloc: Global, config: &Config, given: &Given) -> Result<Rebu
 }
 
 // The rows that are used: as many as there are originals.
-fn used_rows<'a>(config: &Config, given: &'a Given) -> &'a [u8]
+fn used_rows<'a, H: Hasher>(config: &Config, given: &'a Given<H>) -> &'a [u8]
     requires { AreRecoverable config.now given.now.width given.now.indices.items
         given.now.rows.items given.now.compared }
     ensures value { result.now
@@ -149,11 +156,11 @@ fn used_rows<'a>(config: &Config, given: &'a Given) -> &'a [u8]
 }
 
 // The originals, rebuilt from the first rows given.
-fn rebuilt<R: Threads + Sync, S: Strategy>(
+fn rebuilt<H: Hasher, R: Threads + Sync, S: Strategy>(
     rt: &R,
     alloc: Global,
     config: &Config,
-    given: &Given,
+    given: &Given<H>,
     strategy: &S,
 ) -> Result<Vec<u8>, NoMemory>
     requires given { AreRecoverable config.now given.now.width given.now.indices.items
@@ -180,7 +187,11 @@ fn rebuilt<R: Threads + Sync, S: Strategy>(
 }
 
 // The same on the caller's thread.
-fn rebuilt_here(alloc: Global, config: &Config, given: &Given) -> Result<Vec<u8>, NoMemory>
+fn rebuilt_here<H: Hasher>(
+    alloc: Global,
+    config: &Config,
+    given: &Given<H>,
+) -> Result<Vec<u8>, NoMemory>
     requires given { AreRecoverable config.now given.now.width given.now.indices.items
         given.now.rows.items given.now.compared }
     requires positive { 0 < given.now.width }
@@ -201,6 +212,19 @@ fn rebuilt_here(alloc: Global, config: &Config, given: &Given) -> Result<Vec<u8>
     }
 }
 
+// The indices of the rows that are compared, and their digests.
+fn compared_digests<'a, H: Hasher>(given: &'a Given<H>) -> (&'a [u16], &'a [H::Digest])
+    requires indices { given.now.compared ≤ length given.now.indices.items }
+    requires digests { given.now.compared ≤ length given.now.digests.items }
+    ensures indices { result.0.now ≡ take given.now.compared given.now.indices.items }
+    ensures digests { result.1.now ≡ take given.now.compared given.now.digests.items }
+{
+    (
+        &given.indices[..given.compared],
+        &given.digests[..given.compared],
+    )
+}
+
 // The first numbers.
 fn first_indices(alloc: Global, count: u16) -> Result<Vec<u16>, NoMemory>
     ensures count { IfOk result (λ v. length v.items ≡ count) }
@@ -213,90 +237,92 @@ fn first_indices(alloc: Global, count: u16) -> Result<Vec<u16>, NoMemory>
     Ok(values)
 }
 
-// The only text that the rows given can come of, by the originals that were rebuilt from them.
-fn candidate<H: Hasher>(
-    alloc: Global,
-    config: &Config,
-    given: &Given,
-    originals: Vec<u8>,
-) -> Result<Option<Vec<u8>>, NoMemory>
+// The length of the only text that the rows given can come of, by the originals that were rebuilt
+// from them, in which it is laid out.
+fn candidate<H: Hasher>(config: &Config, given: &Given<H>, originals: &[u8]) -> Option<usize>
     requires given { AreRecoverable config.now given.now.width given.now.indices.items
         given.now.rows.items given.now.compared }
-    requires long { length originals.items ≡ config.now.minimum * given.now.width }
+    requires long { length originals.now ≡ config.now.minimum * given.now.width }
     requires value { (xs : List ℕ) →
         ((s : ℕ) → s < config.now.minimum → row_of given.now.rows.items given.now.width s
         ≡ code_row config.now.minimum xs given.now.width (slice_index given.now.indices.items s)) →
-        originals.items ≡ joined config.now.minimum
+        originals.now ≡ joined config.now.minimum
         (λ i. code_row config.now.minimum xs given.now.width i) }
-    ensures { IfOk result (λ found. MatchOption found
+    ensures { MatchOption result
         ((root : H.Digest) (text : List ℕ)
         → Fits H.digest_of H.Digest.content config.now.minimum config.now.extra root
         given.now.width given.now.indices.items given.now.rows.items given.now.compared text → ⊥)
-        (λ text. (length text.items ≤ 2 ^ 32 - 1)
-        × (shard_len (length text.items) config.now.minimum ≡ given.now.width)
+        (λ count. (count ≤ 2 ^ 32 - 1) × (count + 4 ≤ length originals.now)
+        × (layout config.now.minimum (text_in originals.now count) ≡ originals.now)
+        × (shard_len count config.now.minimum ≡ given.now.width)
         × ((root : H.Digest) (other : List ℕ)
         → Fits H.digest_of H.Digest.content config.now.minimum config.now.extra root
         given.now.width given.now.indices.items given.now.rows.items given.now.compared other
-        → other ≡ text.items))) }
+        → other ≡ text_in originals.now count)) }
 {
     prove_rows();
-    let found = text_of(alloc, config.minimum(), given.width, &originals)?;
+    let found = text_length(config.minimum(), given.width, originals);
     match found {
-        Some(text) => Ok(Some(text)),
-        None => Ok(None),
+        Some(count) => Some(count),
+        None => None,
     }
 }
 
-// The only text that the rows given can come of, if they do come of it and it has this root.
-fn kept<H: Hasher>(
-    config: &Config,
-    root: &H::Digest,
-    given: &Given,
-    text: Vec<u8>,
-    coded: CodedText<H>,
-) -> Option<Vec<u8>>
+// Whether a codeword has the rows that are compared.
+fn has_rows<H: Hasher>(config: &Config, given: &Given<H>, rows: &[u8]) -> bool
     requires given { AreRecoverable config.now given.now.width given.now.indices.items
         given.now.rows.items given.now.compared }
-    requires short { length text.items ≤ 2 ^ 32 - 1 }
-    requires bytes { (i : ℕ) → slice_index text.items i < 256 }
-    requires width { shard_len (length text.items) config.now.minimum ≡ given.now.width }
-    requires only { (other : List ℕ)
-        → Fits H.digest_of H.Digest.content config.now.minimum config.now.extra root.now
-        given.now.width given.now.indices.items given.now.rows.items given.now.compared other
-        → other ≡ text.items }
-    requires rows { coded.rows.items
-        ≡ joined (total_of config.now) (row_at config.now.minimum text.items) }
-    requires digests { coded.tree
-        ≡ row_digests H.digest_of config.now.minimum config.now.extra text.items }
-    ensures { MatchOption result
-        ((other : List ℕ)
-        → Fits H.digest_of H.Digest.content config.now.minimum config.now.extra root.now
-        given.now.width given.now.indices.items given.now.rows.items given.now.compared other → ⊥)
-        (λ found. Fits H.digest_of H.Digest.content config.now.minimum config.now.extra root.now
-        given.now.width given.now.indices.items given.now.rows.items given.now.compared
-        found.items) }
+    requires rows { length rows.now ≡ total_of config.now * given.now.width }
+    ensures { IsTrue result ↔ ((s : ℕ) → s < given.now.compared
+        → row_of given.now.rows.items given.now.width s
+        ≡ row_of rows.now given.now.width (slice_index given.now.indices.items s)) }
 {
-    let same = same_rows(
-        &coded.rows,
+    same_rows(
+        rows,
         given.width,
         config.minimum() + config.extra(),
         &given.indices,
         &given.rows,
         given.compared,
-    );
-    let rooted = coded.tree.root().is_same(root);
-    let yes = both(same, rooted);
-    drop(coded);
-    if !yes {
-        return None;
-    }
-    Some(text)
+    )
 }
 
-fn both(first: bool, second: bool) -> bool
-    ensures { IsTrue result ↔ (IsTrue first × IsTrue second) }
+// The text in rows whose digests have this root, if they have it.
+fn text_under<H: Hasher>(
+    alloc: Global,
+    root: &H::Digest,
+    count: usize,
+    rows: Vec<u8>,
+    digests: Vec<H::Digest>,
+) -> Result<Option<Vec<u8>>, NoMemory>
+    requires text { count + 4 ≤ length rows.items }
+    requires some { 1 ≤ length digests.items }
+    requires few { length digests.items ≤ 65535 }
+    ensures { IfOk result (λ found. MatchOption found
+        (root_of H.digest_of H.Digest.content digests.items ≢ Some root.now)
+        (λ text. (root_of H.digest_of H.Digest.content digests.items ≡ Some root.now)
+        × (text.items ≡ text_in rows.items count)
+        × ((i : ℕ) → slice_index text.items i < 256))) }
 {
-    first && second
+    let tree = tree_of::<H>(alloc, digests)?;
+    if !tree.root().is_same(root) {
+        return Ok(None);
+    }
+    Ok(Some(text_behind(rows, count)))
+}
+
+// The text in rows, in their room.
+fn text_behind(rows: Vec<u8>, count: usize) -> Vec<u8>
+    requires { count + 4 ≤ length rows.items }
+    ensures value { result.items ≡ text_in rows.items count }
+    ensures bytes { (i : ℕ) → slice_index result.items i < 256 }
+{
+    let mut text = rows;
+    text.copy_within(4..4 + count, 0);
+    text.truncate(count);
+    text.shrink_to_fit();
+    bytes_fit(&text);
+    text
 }
 
 // Whether rows of codewords have this width.
@@ -312,11 +338,13 @@ pub(crate) fn recovered<H: Hasher, R: Threads + Sync, S: Strategy>(
     alloc: Global,
     config: &Config,
     root: &H::Digest,
-    given: &Given,
+    given: &Given<H>,
     strategy: &S,
 ) -> Result<Option<Vec<u8>>, NoMemory>
-    requires { AreRecoverable config.now given.now.width given.now.indices.items
+    requires given { AreRecoverable config.now given.now.width given.now.indices.items
         given.now.rows.items given.now.compared }
+    requires digests { AreDigests H.digest_of given.now.width given.now.rows.items
+        (length given.now.indices.items) given.now.digests.items }
     ensures { IfOk result (λ found. MatchOption found
         ((text : List ℕ)
         → Fits H.digest_of H.Digest.content config.now.minimum config.now.extra root.now
@@ -325,18 +353,32 @@ pub(crate) fn recovered<H: Hasher, R: Threads + Sync, S: Strategy>(
         given.now.width given.now.indices.items given.now.rows.items given.now.compared
         text.items)) }
 {
-    if !is_row_width(given.width) {
+    let width = given.width;
+    if !is_row_width(width) {
         return Ok(None);
     }
     let originals = rebuilt(rt, alloc, config, given, strategy)?;
-    let found = candidate::<H>(alloc, config, given, originals)?;
-    match found {
-        Some(text) => {
-            let coded = coded_text::<H, R, S>(rt, alloc, config, &text, strategy)?;
-            Ok(kept::<H>(config, root, given, text, coded))
-        }
-        None => Ok(None),
+    let Some(count) = candidate::<H>(config, given, &originals) else {
+        return Ok(None);
+    };
+    let originals = Originals {
+        width,
+        rows: originals,
+    };
+    let rows = codeword(
+        rt,
+        alloc,
+        config.minimum(),
+        config.extra(),
+        originals,
+        strategy,
+    )?;
+    if !has_rows::<H>(config, given, &rows) {
+        return Ok(None);
     }
+    let (indices, digests) = compared_digests(given);
+    let digests = hash_others::<H, R, S>(rt, alloc, &rows, width, indices, digests, strategy)?;
+    text_under::<H>(alloc, root, count, rows, digests)
 }
 
 // The same on the caller's thread.
@@ -344,10 +386,12 @@ pub(crate) fn recovered_here<H: Hasher>(
     alloc: Global,
     config: &Config,
     root: &H::Digest,
-    given: &Given,
+    given: &Given<H>,
 ) -> Result<Option<Vec<u8>>, NoMemory>
-    requires { AreRecoverable config.now given.now.width given.now.indices.items
+    requires given { AreRecoverable config.now given.now.width given.now.indices.items
         given.now.rows.items given.now.compared }
+    requires digests { AreDigests H.digest_of given.now.width given.now.rows.items
+        (length given.now.indices.items) given.now.digests.items }
     ensures { IfOk result (λ found. MatchOption found
         ((text : List ℕ)
         → Fits H.digest_of H.Digest.content config.now.minimum config.now.extra root.now
@@ -356,16 +400,23 @@ pub(crate) fn recovered_here<H: Hasher>(
         given.now.width given.now.indices.items given.now.rows.items given.now.compared
         text.items)) }
 {
-    if !is_row_width(given.width) {
+    let width = given.width;
+    if !is_row_width(width) {
         return Ok(None);
     }
     let originals = rebuilt_here(alloc, config, given)?;
-    let found = candidate::<H>(alloc, config, given, originals)?;
-    match found {
-        Some(text) => {
-            let coded = coded_text_here::<H>(alloc, config, &text)?;
-            Ok(kept::<H>(config, root, given, text, coded))
-        }
-        None => Ok(None),
+    let Some(count) = candidate::<H>(config, given, &originals) else {
+        return Ok(None);
+    };
+    let originals = Originals {
+        width,
+        rows: originals,
+    };
+    let rows = codeword_here(alloc, config.minimum(), config.extra(), originals)?;
+    if !has_rows::<H>(config, given, &rows) {
+        return Ok(None);
     }
+    let (indices, digests) = compared_digests(given);
+    let digests = hash_others_here::<H>(alloc, &rows, width, indices, digests)?;
+    text_under::<H>(alloc, root, count, rows, digests)
 }

@@ -109,43 +109,69 @@ pub fn products(a: &Eight, b: &Eight) -> Eight
     ensures { (l : ℕ) → l < 8
         → slice_index result l ≡ times (slice_index a.now l) (slice_index b.now l) }
 {
-    let step = each_by_256(a);
-    let low = low_parts(b, 256);
-    let high = high_parts(b, 256);
-    sum_of_two(&by_eight_bits(a, &low), &by_eight_bits(&step, &high))
+    let multiples = multiples_of(a);
+    let low = by_eight_bits(&multiples, &low_parts(b, 256));
+    let high = by_eight_bits(&multiples, &high_parts(b, 256));
+    sum_of_two(&low, &each_by_256(&high))
+}
+
+// An element's products with 1, 2, 4 and 8 in each lane.
+#[derive(Drop)]
+struct Multiples {
+    one: Eight,
+    two: Eight,
+    four: Eight,
+    eight: Eight,
+    ghost one_fits: { (l : ℕ) → l < 8 → slice_index one l < 65536 },
+    ghost two_each: { (l : ℕ) → l < 8 → slice_index two l ≡ times (slice_index one l) 2 },
+    ghost four_each: { (l : ℕ) → l < 8 → slice_index four l ≡ times (slice_index one l) 4 },
+    ghost eight_each: { (l : ℕ) → l < 8 → slice_index eight l ≡ times (slice_index one l) 8 },
+}
+
+// The products with 1, 2, 4 and 8 in each lane.
+fn multiples_of(a: &Eight) -> Multiples
+    ensures { result.one ≡ a.now }
+{
+    let two = each_by_2(a);
+    let four = each_by_4(a);
+    let eight = each_by_4(&two);
+    Multiples {
+        one: *a,
+        two,
+        four,
+        eight,
+    }
 }
 
 // The product with elements of eight bits.
-fn by_eight_bits(a: &Eight, b: &Eight) -> Eight
+fn by_eight_bits(a: &Multiples, b: &Eight) -> Eight
     ensures { (l : ℕ) → l < 8 → slice_index b.now l < 256
-        → slice_index result l ≡ times (slice_index a.now l) (slice_index b.now l) }
+        → slice_index result l ≡ times (slice_index a.now.one l) (slice_index b.now l) }
 {
-    let step = each_by_16(a);
-    let low = low_parts(b, 16);
-    let high = high_parts(b, 16);
-    sum_of_two(&by_four_bits(a, &low), &by_four_bits(&step, &high))
+    let low = by_four_bits(a, &low_parts(b, 16));
+    let high = by_four_bits(a, &high_parts(b, 16));
+    sum_of_two(&low, &each_by_16(&high))
 }
 
 // The product with elements of four bits.
-fn by_four_bits(a: &Eight, b: &Eight) -> Eight
+fn by_four_bits(a: &Multiples, b: &Eight) -> Eight
     ensures { (l : ℕ) → l < 8 → slice_index b.now l < 16
-        → slice_index result l ≡ times (slice_index a.now l) (slice_index b.now l) }
+        → slice_index result l ≡ times (slice_index a.now.one l) (slice_index b.now l) }
 {
-    let step = each_by_4(a);
-    let low = low_parts(b, 4);
-    let high = high_parts(b, 4);
-    sum_of_two(&by_two_bits(a, &low), &by_two_bits(&step, &high))
+    let low = by_two_bits(&a.one, &a.two, &low_parts(b, 4));
+    let high = by_two_bits(&a.four, &a.eight, &high_parts(b, 4));
+    sum_of_two(&low, &high)
 }
 
-// The product with elements of two bits.
-fn by_two_bits(a: &Eight, b: &Eight) -> Eight
+// The product with elements of two bits, where the product with 2 is known.
+fn by_two_bits(a: &Eight, twice: &Eight, b: &Eight) -> Eight
+    requires { (l : ℕ) → l < 8 → slice_index twice.now l ≡ times (slice_index a.now l) 2 }
     ensures { (l : ℕ) → l < 8 → slice_index b.now l < 4
         → slice_index result l ≡ times (slice_index a.now l) (slice_index b.now l) }
 {
-    let step = each_by_2(a);
-    let low = low_parts(b, 2);
-    let high = high_parts(b, 2);
-    sum_of_two(&by_bits(a, &low), &by_bits(&step, &high))
+    let low = by_bits(a, &low_parts(b, 2));
+    let high = by_bits(twice, &high_parts(b, 2));
+    sum_of_two(&low, &high)
 }
 
 // The product with 0 or 1 in each lane.

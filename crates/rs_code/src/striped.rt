@@ -65,25 +65,9 @@ pub fn rows_at<R: Threads + Sync, S: Strategy>(
         return whole_rows_at(alloc, recipe, rows, width);
     }
     let n = recipe.count();
-    let size = n * width;
-    let (room, done) = thread::join_mut(
-        rt,
-        &mut move || -> Result<Vec<u8>, AllocError>
-            requires { size < 2 ^ 63 }
-            ensures { IfOk result (λ v. length v.items ≡ size) }
-        { vec![in alloc; 0u8; size] },
-        &mut || -> Result<Vec<Vec<u8>>, NoMemory>
-            requires { IsSync R.row
-                × (length rows.now ≡ given_count recipe.now * width) × (width % 2 ≡ 0)
-                × FitsField recipe.now
-                × (made_count recipe.now * width < 2 ^ 63) × (1 ≤ count) }
-            ensures { IfOk result (λ v. (length v.items ≡ count)
-                × AreStripes width (made_count recipe.entry.now)
-                (made_symbol recipe.entry.now rows.entry.now width) v.items) }
-        { run_stripes(rt, alloc, recipe, rows, width, count, strategy) },
-    );
-    let mut out = room?;
-    put_rows(rt, &done?, width, n, &mut out);
+    let done = run_with_room(rt, alloc, recipe, rows, width, count, n * width, strategy)?;
+    let mut out = done.room;
+    put_rows(rt, &done.stripes, width, n, &mut out);
     Ok(out)
 }
 
@@ -105,7 +89,8 @@ pub fn whole_rows_at(
     Ok(whole)
 }
 
-/// Appends the rows of a recipe to the given rows, as a strategy does `count` stripes of them.
+/// Appends the rows of a recipe to the given rows, as a strategy does `count` stripes of them. The
+/// rows move to room that is made meanwhile.
 pub fn put_rows_at<R: Threads + Sync, S: Strategy>(
     rt: &R,
     alloc: Global,
@@ -125,15 +110,20 @@ pub fn put_rows_at<R: Threads + Sync, S: Strategy>(
         ++ joined (made_count recipe.now) (made_row recipe.now rows.old.items width)) }
     ensures err { OnErr result (take (length rows.old.items) rows.new.items ≡ rows.old.items) }
 {
-    let stripes = run_stripes(rt, alloc, recipe, rows, width, count, strategy)?;
+    let n = recipe.count();
     let size = rows.len();
-    rows.resize(size + recipe.count() * width, 0)?;
-    let (_, out) = rows.split_at_mut(size);
-    put_rows(rt, &stripes, width, recipe.count(), out);
+    let total = size + n * width;
+    let done = run_with_room(rt, alloc, recipe, rows, width, count, total, strategy)?;
+    let mut all = done.room;
+    let (given, out) = all.split_at_mut(size);
+    given.copy_from_slice(rows);
+    put_rows(rt, &done.stripes, width, n, out);
+    *rows = all;
     Ok(())
 }
 
-/// What [`put_rows_at`] does, on the caller's thread: all columns in one piece, where the rows stay.
+/// What [`put_rows_at`] does, on the caller's thread: all columns in one piece, where the rows
+/// stay.
 pub fn put_whole_rows(
     alloc: Global,
     recipe: &Recipe,
@@ -153,6 +143,57 @@ pub fn put_whole_rows(
     let (given, out) = rows.split_at_mut(size);
     fill_rows(alloc, out, recipe, given, width, 0, width)?;
     Ok(())
+}
+
+// The stripes of the rows of a recipe, and room for what they are put into.
+#[derive(Drop)]
+struct Done {
+    stripes: Vec<Vec<u8>>,
+    room: Vec<u8>,
+}
+
+// The stripes of the rows of a recipe, as a strategy does them, and `size` zeros, which a thread
+// beside it writes: no other may write memory that nobody has written before.
+fn run_with_room<R: Threads + Sync, S: Strategy>(
+    rt: &R,
+    alloc: Global,
+    recipe: &Recipe,
+    rows: &[u8],
+    width: usize,
+    count: usize,
+    size: usize,
+    strategy: &S,
+) -> Result<Done, NoMemory>
+    requires rows { length rows.now ≡ given_count recipe.now * width }
+    requires even { width % 2 ≡ 0 }
+    requires some_stripes { 1 ≤ count }
+    requires fits { FitsField recipe.now }
+    requires room { made_count recipe.now * width < 2 ^ 63 }
+    requires size { size < 2 ^ 63 }
+    ensures count { IfOk result (λ done. length done.stripes.items ≡ count) }
+    ensures stripes { IfOk result (λ done. AreStripes width (made_count recipe.now)
+        (made_symbol recipe.now rows.now width) done.stripes.items) }
+    ensures room { IfOk result (λ done. length done.room.items ≡ size) }
+{
+    let (room, stripes) = thread::join_mut(
+        rt,
+        &mut move || -> Result<Vec<u8>, AllocError>
+            requires { size < 2 ^ 63 }
+            ensures { IfOk result (λ v. length v.items ≡ size) }
+        { vec![in alloc; 0u8; size] },
+        &mut || -> Result<Vec<Vec<u8>>, NoMemory>
+            requires { IsSync R.row
+                × (length rows.now ≡ given_count recipe.now * width) × (width % 2 ≡ 0)
+                × FitsField recipe.now
+                × (made_count recipe.now * width < 2 ^ 63) × (1 ≤ count) }
+            ensures { IfOk result (λ v. (length v.items ≡ count)
+                × AreStripes width (made_count recipe.entry.now)
+                (made_symbol recipe.entry.now rows.entry.now width) v.items) }
+        { run_stripes(rt, alloc, recipe, rows, width, count, strategy) },
+    );
+    let room = room?;
+    let stripes = stripes?;
+    Ok(Done { stripes, room })
 }
 
 // The stripes of the rows of a recipe, as a strategy does them.

@@ -2,6 +2,7 @@ use Rattle.std.proofs.Common.{◌≡◌, ◌≤◌, length, refl, ap, ◌∙◌,
 use Rattle.cw_coding.specs.Totals.{total_of}
 use Rattle.cw_coding.specs.Decoding.{width_of}
 use Rattle.cw_coding.proofs.OrderLaws.{sound_in_order, length-indices, compared-le, compared-ge, rows_long_of, decoding_from, fits_from}
+use Rattle.cw_coding.proofs.DigestLaws.{given_digests}
 use Rattle.cw_coding.proofs.decoding.prepared.Goals as goal
 
 pub returns-clause-recoverable : goal.returns-clause-recoverable
@@ -52,3 +53,10 @@ returns-clause-same g c text =
           config.extra _ _ _ _ text c.in-Ok.ensures.1 refl refl width indices rows compared
           decodes,
     )
+
+pub returns-clause-digests : goal.returns-clause-digests
+returns-clause-digests g c =
+    let given = c.in_ok-given.ensures in
+    given_digests g.H.Hasher.digest_of c.args.config.now c.args.commitment.now c.args.shards.now
+    c.minimum.result c.in_ok-given.given.width _ _ _ c.in-Ok.ensures.1
+    (given.width ∙ c.in-Ok.ensures.0) given.indices given.rows given.digests

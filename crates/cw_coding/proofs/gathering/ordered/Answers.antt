@@ -1,4 +1,4 @@
-use Rattle.std.proofs.Common.{List, ℕ, ◌++◌, filter, nat_lt, not, ap, sym, ◌∙◌}
+use Rattle.std.proofs.Common.{List, ℕ, ◌++◌, map, filter, nat_lt, not, ap, sym, ◌∙◌}
 use Rattle.std.specs.List.{flat_map}
 use Rattle.std.proofs.lemmas.List.{map-append}
 use Rattle.std.proofs.lemmas.List.Concat.{flat_map-append}
@@ -23,5 +23,16 @@ returns-clause-rows g c =
     c.in_ok-put_recoveries.ensures.rows
     ∙ ap (λ (xs : List ℕ). xs ++ flat_map (λ x. x.shard) second)
     (c.in_ok-put_originals.ensures.rows
-    ∙ ap (λ (xs : List ℕ). xs ++ flat_map (λ x. x.shard) first) c.new-rows.ensures.items)
+    ∙ ap (λ (xs : List ℕ). xs ++ flat_map (λ x. x.shard) first) c.in_ok-rows.ensures.items)
     ∙ sym (flat_map-append (λ (x : Checked _). x.shard) first second)
+
+pub returns-clause-digests : goal.returns-clause-digests
+returns-clause-digests g c =
+    let hash = g.H.Hasher.digest_of in
+    let first = filter (λ (x : Checked _). nat_lt x.index c.args.k) c.args.shards.now in
+    let second = filter (λ (x : Checked _). not (nat_lt x.index c.args.k)) c.args.shards.now in
+    c.in_ok-put_recoveries.ensures.digests
+    ∙ ap (λ xs. xs ++ map (λ (x : Checked _). hash x.shard) second)
+    (c.in_ok-put_originals.ensures.digests
+    ∙ ap (λ xs. xs ++ map (λ (x : Checked _). hash x.shard) first) c.new-digests.ensures.items)
+    ∙ sym (map-append (λ (x : Checked _). hash x.shard) first second)

@@ -1,4 +1,4 @@
-use Rattle.std.proofs.Common.{◌≡◌, ◌++◌, drop, filter, nat_lt, not}
+use Rattle.std.proofs.Common.{◌≡◌, ◌++◌, drop, map, filter, nat_lt, not}
 use Rattle.std.specs.List.{flat_map}
 use Rattle.cw_coding.specs.Decoding.{indices_of}
 use Rattle.cw_coding.proofs.gathering.put_recoveries.Given as goal
@@ -14,4 +14,10 @@ invariant-loop-chunk g l =
           (filter (λ c. not (nat_lt c.index l.k)) (drop l.chunk-index l.shards))
           ≡ l.fn.rows.items
           ++ flat_map (λ c. c.shard) (filter (λ c. not (nat_lt c.index l.k)) l.shards);
+      digests : l.digests.items
+          ++ map (λ c. g.H.Hasher.digest_of c.shard)
+          (filter (λ c. not (nat_lt c.index l.k)) (drop l.chunk-index l.shards))
+          ≡ l.fn.digests.items
+          ++ map (λ c. g.H.Hasher.digest_of c.shard)
+          (filter (λ c. not (nat_lt c.index l.k)) l.shards);
     }

@@ -1,13 +1,13 @@
-use Rattle.std.proofs.Common.{arith}
-use Rattle.cw_coding.proofs.LayoutLaws.{codeword_rows, rows_long}
+use Rattle.cw_coding.proofs.LayoutLaws.{rows_long}
+use Rattle.cw_coding.proofs.Matches.{ok_more}
 use Rattle.cw_coding.proofs.layout.rows_of_text.Goals as goal
 
 pub returns-clause-value : goal.returns-clause-value
 returns-clause-value g c =
-    codeword_rows c.prove_rows.ensures.originals c.args.k c.args.m c.args.text.now _ _ _
-    c.requires.some c.requires.total (λ i. omega (arith, c.type_inv.text i))
-    c.in_ok-laid.ensures.width c.in_ok-laid.ensures.rows c.in_ok-add_recoveries.ensures.ok
+    c.codeword.ensures.value c.args.text.now c.in_ok-originals.ensures.width
+    c.in_ok-originals.ensures.rows
 
 pub returns-clause-long : goal.returns-clause-long
 returns-clause-long g c =
-    rows_long c.args.k c.args.m c.args.text.now _ (returns-clause-value g c)
+    ok_more _ _ c.codeword.result (returns-clause-value g c)
+    (λ v is. rows_long c.args.k c.args.m c.args.text.now _ is)

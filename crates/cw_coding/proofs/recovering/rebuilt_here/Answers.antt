@@ -3,12 +3,12 @@ use Rattle.cw_coding.proofs.DecodingLaws.{rebuilt_long, rebuilt_value}
 use Rattle.cw_coding.proofs.recovering.rebuilt_here.Goals as goal
 
 pub returns-in-Ok-clause-long : goal.returns-in-Ok-clause-long
-returns-in-Ok-clause-long c =
+returns-in-Ok-clause-long g c =
     rebuilt_long c.args.config.now.minimum _ _ _ _ _ _ c.args.given.now.width c.requires.even
     (ap length c.deref.ensures.value ∙ c.in_ok-by.ensures.count) c.in-Ok.ensures.rows
 
 pub returns-in-Ok-clause-value : goal.returns-in-Ok-clause-value
-returns-in-Ok-clause-value c originals agree =
+returns-in-Ok-clause-value g c originals agree =
     let each : (s : ℕ) → s < c.args.config.now.minimum → get_or c.deref.result.now s 0 ≡ s =
     rw c.deref.ensures.value c.in_ok-by.ensures.each in
     rebuilt_value _ c.args.config.now.minimum c.args.config.now.extra

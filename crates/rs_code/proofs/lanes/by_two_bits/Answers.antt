@@ -7,11 +7,11 @@ pub returns : goal.returns
 returns c = λ l h w.
     let a : ℕ = get_or c.args.a.now l 0 in
     let b : ℕ = get_or c.args.b.now l 0 in
-    let low : get_or c.low_parts-low.result l 0 ≡ b % 2 = c.low_parts-low.ensures l h in
-    let high : get_or c.high_parts-high.result l 0 ≡ b / 2 = c.high_parts-high.ensures l h in
+    let low : get_or c.low_parts.result l 0 ≡ b % 2 = c.low_parts.ensures l h in
+    let high : get_or c.high_parts.result l 0 ≡ b / 2 = c.high_parts.ensures l h in
     c.sum_of_two.ensures l h
     ∙ ap₂ bit_xor
-    (c.by_bits.ensures l h (omega (arith, low)) ∙ ap (times a) low)
-    (c.by_bits-2.ensures l h (omega (arith, high, w))
-    ∙ ap₂ times (c.each_by_2-step.ensures l h) high)
+    (c.by_bits-low.ensures l h (omega (arith, low)) ∙ ap (times a) low)
+    (c.by_bits-high.ensures l h (omega (arith, high, w))
+    ∙ ap₂ times (c.requires l h) high)
     ∙ Steps.by_two_bits a b (omega arith) w
