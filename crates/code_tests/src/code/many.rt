@@ -16,11 +16,14 @@ fn are_recoveries<R: Threads + Sync>(rt: &R, alloc: Global, part: &str) -> Resul
     };
     let originals = originals_of(alloc, *k, *width)?;
     let found = recoveries(rt, alloc, *k, *m, &originals, *width, &Sequential)?;
-    let cut = recoveries(rt, alloc, *k, *m, &originals, *width, &Gate::new())?;
     let rows = with_recoveries(rt, alloc, *k, *m, &originals, *width, 4)?;
     let right = Sha256::hash(&found).as_bytes() == want.as_slice();
-    let same = cut.as_slice() == found.as_slice();
-    Ok(right && same && is_joined(&rows, &originals, &found))
+    let joined = is_joined(&rows, &originals, &found);
+    if stripe_count(usize::from(*width), 4) == 1 {
+        return Ok(right && joined);
+    }
+    let cut = recoveries(rt, alloc, *k, *m, &originals, *width, &Gate::new())?;
+    Ok(right && joined && cut.as_slice() == found.as_slice())
 }
 
 #[test]
