@@ -15,11 +15,11 @@ use Rattle.cw_coding.specs.declared.error.RsError.TheVariants.{InvalidShardSize}
 use Rattle.cw_coding.specs.declared.error.ReedSolomonError.{ReedSolomonError}
 use Rattle.cw_coding.specs.declared.error.ReedSolomonError.TheVariants.{ReedSolomon, Inconsistent, InvalidProof, NotEnoughChunks, DuplicateIndex, InvalidDataLength, InvalidIndex, TooManyTotalShards, CommitmentMismatch, NoMemory}
 use Rattle.cw_coding.proofs.CheckingLaws.{listed_get}
-use Rattle.coding_c.specs.Calls.{hash, content, counts, digest, status, IsChunk, IsRefused, IsCheckStatus, AreTaken, IsStopped, AreEnough}
+use Rattle.coding_c.specs.Calls.{hash, content, config_of_numbers, digest_of_bytes, status, IsChunk, IsNotTaken, IsCheckStatus, AreTaken, IsFirstNotTaken, AreChunksOfText}
 
 -- ---- bytes are one chunk at the most
 
-digests_back : (ds : List Digest32) → map digest (map content ds) ≡ ds
+digests_back : (ds : List Digest32) → map digest_of_bytes (map content ds) ≡ ds
 digests_back [] = refl
 digests_back (d ∷ ds) = ap (λ xs. d ∷ xs) (digests_back ds)
 
@@ -29,7 +29,7 @@ lifted p =
       shard = p.shard;
       index = p.index;
       leaf_count = p.leaf_count;
-      siblings = map digest p.siblings;
+      siblings = map digest_of_bytes p.siblings;
     }
 
 lifted_back : (p : Piece Digest32) → lifted (piece_of_bytes content p) ≡ p
@@ -81,26 +81,31 @@ stands_taken c root p u CommitmentMismatch h = absurd h
 -- ---- chunks of one encoding
 
 module _ (checks : EncodingsCheck hash content) (back : EncodingsReadBack hash content 32)
-    (k m : ℕ) (root text : List ℕ) (all : List (List ℕ)) (e : AreEnough k m root text all) where
+    (k m : ℕ) (root text : List ℕ) (all : List (List ℕ)) (e : AreChunksOfText k m root text all)
+    where
   abbrev Among : Piece Digest32 → Type 0
   Among p = (i : ℕ) × (slice_get e.pieces i ≡ Some p)
 
   reads : (p : Piece Digest32) → Among p → IsChunk k (chunk_bytes content p) p
   reads p a =
       ap (chunk_at 32 (widest k (2 ^ 32 - 1))) (sym (append-nil (chunk_bytes content p)))
-      ∙ (back (counts k m) text (digest root) e.pieces (2 ^ 32 - 1) e.some e.scheme
+      ∙ (back (config_of_numbers k m) text (digest_of_bytes root) e.pieces (2 ^ 32 - 1) e.some
+      e.scheme
       e.scheme.codable.short a.0 p a.1).again []
 
   under : (p : Piece Digest32) → Among p
-      → IsUnder hash content (counts k m) (digest root) p.index p
+      → IsUnder hash content (config_of_numbers k m) (digest_of_bytes root) p.index p
   under p a =
-      let there = checks (counts k m) text (digest root) e.pieces e.some e.scheme a.0 p a.1 in
-      subst (λ (i : ℕ). IsUnder hash content (counts k m) (digest root) i p) (sym there.same) there
+      let there = checks (config_of_numbers k m) text (digest_of_bytes root) e.pieces e.some
+      e.scheme a.0 p a.1 in
+      subst (λ (i : ℕ). IsUnder hash content (config_of_numbers k m) (digest_of_bytes root) i p)
+      (sym there.same) there
 
   row : (p : Piece Digest32) → Among p → p.shard ≡ row_at k text p.index
   row p a =
       let place =
-      listed_get (k + m) (piece_of hash content (counts k m) text) a.0 p (rw e.scheme.each at a.1)
+      listed_get (k + m) (piece_of hash content (config_of_numbers k m) text) a.0 p
+      (rw e.scheme.each at a.1)
       in
       ap (λ (q : Piece Digest32). q.shard) place.1
       ∙ ap (row_at k text) (sym (ap (λ (q : Piece Digest32). q.index) place.1))
@@ -118,31 +123,35 @@ module _ (checks : EncodingsCheck hash content) (back : EncodingsReadBack hash c
 
   refused : (bytes : List ℕ) (p : Piece Digest32) (code : ℕ) → Among p
       → bytes ≡ chunk_bytes content p
-      → IsCheckStatus (counts k m) root (λ q. q.index) bytes code → code ≡ 1
+      → IsCheckStatus (config_of_numbers k m) root (λ q. q.index) bytes code → code ≡ 1
   refused bytes p code a is why =
       let here : IsChunk k bytes p = rw is (reads p a) in
       ⊎_elim (λ memory. memory)
       (⊎_elim (λ none. absurd (none.1 p here)) (λ read. stopped read.0 read.1 read.2)) why
     where
       stopped : (q : Piece Digest32) → IsChunk k bytes q
-          → IsRefused (counts k m) root q.index q code → code ≡ 1
+          → IsNotTaken (config_of_numbers k m) root q.index q code → code ≡ 1
       stopped q read said =
           let same : p ≡ q = one_chunk k bytes p q (rw is (reads p a)) read in
-          let stands : IsUnder hash content (counts k m) (digest root) q.index q =
-          subst (λ (x : Piece Digest32). IsUnder hash content (counts k m) (digest root) x.index x)
+          let stands : IsUnder hash content (config_of_numbers k m) (digest_of_bytes root) q.index q
+          =
+          subst (λ (x : Piece Digest32). IsUnder hash content (config_of_numbers k m)
+          (digest_of_bytes root) x.index x)
           same (under p a) in
-          said.2 ∙ ap status (stands_taken (counts k m) (digest root) q stands said.0 said.1)
+          said.2 ∙ ap status
+          (stands_taken (config_of_numbers k m) (digest_of_bytes root) q stands said.0 said.1)
 
   -- none of the chunks is refused but for want of memory
-  pub never_stopped : (code : ℕ) → IsStopped (counts k m) root all code → code ≡ 1
+  pub never_stopped : (code : ℕ) → IsFirstNotTaken (config_of_numbers k m) root all code → code ≡ 1
   never_stopped code s =
       let one =
       found s.before s.after s.bytes e.chosen e.among (sym s.are ∙ e.are) in
       refused s.bytes one.0 code one.1 one.2 s.cause
 
   taken_of : (bs : List (List ℕ)) (xs : List (Checked Digest32)) (ps : List (Piece Digest32))
-      → All Among ps → bs ≡ map (chunk_bytes content) ps → AreTaken (counts k m) root bs xs
-      → All (IsChunkOf (counts k m) text (digest root)) xs
+      → All Among ps → bs ≡ map (chunk_bytes content) ps
+      → AreTaken (config_of_numbers k m) root bs xs
+      → All (IsChunkOf (config_of_numbers k m) text (digest_of_bytes root)) xs
       × (indices_of xs ≡ map (λ (p : Piece Digest32). p.index) ps)
   taken_of [] [] [] a same are = (λ i d l. absurd (omega arith), refl)
   taken_of [] [] (p ∷ ps) a same are = absurd (omega (arith, ap length same))
@@ -162,7 +171,7 @@ module _ (checks : EncodingsCheck hash content) (back : EncodingsReadBack hash c
       ap (λ (y : Checked Digest32). y.shard) it.is
       ∙ sym (ap (λ (y : Piece Digest32). y.shard) q) in
       let stands = under p among in
-      let one : IsChunkOf (counts k m) text (digest root) x =
+      let one : IsChunkOf (config_of_numbers k m) text (digest_of_bytes root) x =
       record {
         rooted = ap (λ (y : Checked Digest32). y.root) it.is;
         within = rw index stands.within;
@@ -171,19 +180,20 @@ module _ (checks : EncodingsCheck hash content) (back : EncodingsReadBack hash c
       (first x xs one rest.0, rw index (ap (λ is. p.index ∷ is) rest.1))
     where
       first : (y : Checked Digest32) (ys : List (Checked Digest32))
-          → IsChunkOf (counts k m) text (digest root) y
-          → All (IsChunkOf (counts k m) text (digest root)) ys
-          → All (IsChunkOf (counts k m) text (digest root)) (y ∷ ys)
+          → IsChunkOf (config_of_numbers k m) text (digest_of_bytes root) y
+          → All (IsChunkOf (config_of_numbers k m) text (digest_of_bytes root)) ys
+          → All (IsChunkOf (config_of_numbers k m) text (digest_of_bytes root)) (y ∷ ys)
       first y ys h hs zero d l = h
       first y ys h hs (suc i) d l = hs i d (omega arith)
 
   -- what they are decoded to
   pub enough_decode : AnyEnoughDecode hash content → (xs : List (Checked Digest32))
-      → AreTaken (counts k m) root all xs
-      → AreDecodedTo hash content (counts k m) (digest root) xs text
+      → AreTaken (config_of_numbers k m) root all xs
+      → AreDecodedTo hash content (config_of_numbers k m) (digest_of_bytes root) xs text
   enough_decode law xs are =
       let these = taken_of all xs e.chosen e.among e.are are in
-      law (counts k m) text (digest root) e.pieces xs e.some e.bytes e.scheme these.0
+      law (config_of_numbers k m) text (digest_of_bytes root) e.pieces xs e.some e.bytes e.scheme
+      these.0
       (rw these.1 e.different)
       (omega (
         arith,

@@ -6,7 +6,7 @@ use Rattle.cw_tree.specs.Chunks.{Piece}
 use Rattle.cw_tree.specs.Sizes.{IsHeight}
 use Rattle.cw_tree.specs.Widths.{shard_len}
 use Rattle.cw_coding.specs.Laws.{EncodingsFit}
-use Rattle.coding_c.specs.Calls.{hash, content, counts, digest, size_of, HoldsChunks}
+use Rattle.coding_c.specs.Calls.{hash, content, config_of_numbers, digest_of_bytes, size_of, HoldsChunks}
 
 -- one more item's size
 pub size_more : {X : Type 0} (size : X → ℕ) (xs : List X) (i : ℕ) (x : X) (before after : List ℕ)
@@ -35,5 +35,6 @@ sizes_hold law k m most levels size some height is text root bytes sizes e short
     rw e.each (
     all_sizes e.pieces size
     (λ i p at. rw is
-    (law (counts k m) text (digest root) e.pieces most levels some e.scheme short height i p at))
+    (law (config_of_numbers k m) text (digest_of_bytes root) e.pieces most levels some e.scheme
+    short height i p at))
     )

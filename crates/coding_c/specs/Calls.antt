@@ -15,8 +15,8 @@ use Rattle.cw_coding.specs.declared.error.ReedSolomonError.{ReedSolomonError}
 use Rattle.cw_coding.specs.declared.error.ReedSolomonError.TheVariants.{ReedSolomon, Inconsistent, InvalidProof, NotEnoughChunks, DuplicateIndex, InvalidDataLength, InvalidIndex, TooManyTotalShards, CommitmentMismatch, NoMemory}
 
 -- the digest with these bytes, the bytes of a digest, and the hash
-abbrev pub digest : List ℕ → Digest32
-digest bytes = record { 0 = bytes }
+abbrev pub digest_of_bytes : List ℕ → Digest32
+digest_of_bytes bytes = record { 0 = bytes }
 
 abbrev pub content : Digest32 → List ℕ
 content d = d.0
@@ -25,8 +25,8 @@ abbrev pub hash : List ℕ → Digest32
 hash bytes = record { 0 = sha256 bytes }
 
 -- the config of two numbers
-abbrev pub counts : (k m : ℕ) → Counts
-counts k m = record { minimum = k; extra = m }
+abbrev pub config_of_numbers : (k m : ℕ) → Counts
+config_of_numbers k m = record { minimum = k; extra = m }
 
 -- two numbers that are no config
 abbrev pub AreNoConfig : (k m : ℕ) → Type 0
@@ -49,7 +49,7 @@ status CommitmentMismatch = 13
 abbrev pub IsEncodeStatus : (k m n code : ℕ) → Type 0
 IsEncodeStatus k m n code =
     ((code ≡ 2) × AreNoConfig k m)
-    ⊎ ((e : ReedSolomonError) × IsEncodeRefusal (counts k m) n e × (code ≡ status e))
+    ⊎ ((e : ReedSolomonError) × IsEncodeRefusal (config_of_numbers k m) n e × (code ≡ status e))
 
 -- the size of a chunk
 abbrev pub size_of : Piece Digest32 → ℕ
@@ -62,7 +62,7 @@ IsPut values before after = after ≡ values ++ drop (length values) before
 -- what an encoding has: its root, its chunks end to end, and their sizes
 pub record IsEncoded (k m : ℕ) (text root bytes sizes : List ℕ) : Type 0 where
   pub pieces : List (Piece Digest32)
-  pub scheme : IsEncoding hash content (counts k m) text (digest root) pieces
+  pub scheme : IsEncoding hash content (config_of_numbers k m) text (digest_of_bytes root) pieces
   pub chunks : bytes ≡ flat_map (chunk_bytes content) pieces
   pub each : sizes ≡ map size_of pieces
 
@@ -87,16 +87,16 @@ abbrev pub IsNoChunk : (k : ℕ) (bytes : List ℕ) → Type 0
 IsNoChunk k bytes = (p : Piece Digest32) → IsChunk k bytes p → ⊥
 
 -- bytes that are a chunk at an index under a root
-pub record Stands (c : Counts) (root : List ℕ) (index : ℕ) (bytes : List ℕ) : Type 0 where
+pub record StandsUnder (c : Counts) (root : List ℕ) (index : ℕ) (bytes : List ℕ) : Type 0 where
   pub piece : Piece Digest32
   pub read : IsChunk c.minimum bytes piece
-  pub under : IsUnder hash content c (digest root) index piece
+  pub under : IsUnder hash content c (digest_of_bytes root) index piece
 
 -- why a chunk isn't taken at an index under a root: what the scheme refuses
-abbrev pub IsRefused : (c : Counts) (root : List ℕ) (index : ℕ) (p : Piece Digest32) (code : ℕ)
+abbrev pub IsNotTaken : (c : Counts) (root : List ℕ) (index : ℕ) (p : Piece Digest32) (code : ℕ)
     → Type 0
-IsRefused c root index p code =
-    (e : ReedSolomonError) × IsCheckRefusal hash content c (digest root) index p e
+IsNotTaken c root index p code =
+    (e : ReedSolomonError) × IsCheckRefusal hash content c (digest_of_bytes root) index p e
     × (code ≡ status e)
 
 -- why bytes aren't taken for the chunk at its index under a root: no memory, no chunk, or what the
@@ -106,16 +106,16 @@ abbrev pub IsCheckStatus : (c : Counts) (root : List ℕ) (at : Piece Digest32 �
     → Type 0
 IsCheckStatus c root at bytes code =
     (code ≡ 1) ⊎ ((code ≡ 6) × IsNoChunk c.minimum bytes)
-    ⊎ ((p : Piece Digest32) × IsChunk c.minimum bytes p × IsRefused c root (at p) p code)
+    ⊎ ((p : Piece Digest32) × IsChunk c.minimum bytes p × IsNotTaken c root (at p) p code)
 
 -- the chunk that bytes are, checked under a root at its own index
 pub record IsTaken (c : Counts) (root bytes : List ℕ) (x : Checked Digest32) : Type 0 where
   pub piece : Piece Digest32
   pub read : IsChunk c.minimum bytes piece
-  pub under : IsUnder hash content c (digest root) piece.index piece
+  pub under : IsUnder hash content c (digest_of_bytes root) piece.index piece
   pub is : x
       ≡ record {
-        root = digest root;
+        root = digest_of_bytes root;
         shard = piece.shard;
         index = piece.index;
         digest = hash piece.shard;
@@ -129,7 +129,8 @@ AreTaken c root (b ∷ bs) (x ∷ xs) = IsTaken c root b x × AreTaken c root bs
 AreTaken c root _ _ = ⊥
 
 -- the first bytes among these that aren't taken, and why
-pub record IsStopped (c : Counts) (root : List ℕ) (all : List (List ℕ)) (code : ℕ) : Type 0 where
+pub record IsFirstNotTaken (c : Counts) (root : List ℕ) (all : List (List ℕ)) (code : ℕ) : Type 0
+    where
   pub before : List (List ℕ)
   pub bytes : List ℕ
   pub after : List (List ℕ)
@@ -142,28 +143,28 @@ pub record IsStopped (c : Counts) (root : List ℕ) (all : List (List ℕ)) (cod
 -- all of them
 abbrev pub IsDecodeStatus : (c : Counts) (root : List ℕ) (all : List (List ℕ)) (code : ℕ) → Type 0
 IsDecodeStatus c root all code =
-    (code ≡ 1) ⊎ IsStopped c root all code
+    (code ≡ 1) ⊎ IsFirstNotTaken c root all code
     ⊎ ((taken : List (Checked Digest32)) × AreTaken c root all taken × (e : ReedSolomonError)
-    × IsDecodeRefusal hash content c (digest root) taken e × (code ≡ status e))
+    × IsDecodeRefusal hash content c (digest_of_bytes root) taken e × (code ≡ status e))
 
 -- a text whose encoding has this root
 abbrev pub HasRoot : (c : Counts) (root text : List ℕ) → Type 0
-HasRoot c root text = root_of_text hash content c text ≡ Some (digest root)
+HasRoot c root text = root_of_text hash content c text ≡ Some (digest_of_bytes root)
 
 -- the text that these bytes are decoded to
 pub record IsDecoded (c : Counts) (root : List ℕ) (all : List (List ℕ)) (text : List ℕ)
     : Type 0 where
   pub taken : List (Checked Digest32)
   pub each : AreTaken c root all taken
-  pub scheme : IsDecoding hash content c (digest root) taken text
+  pub scheme : IsDecoding hash content c (digest_of_bytes root) taken text
 
 -- at least k chunks of a text's encoding, of different indices, in any order
-pub record AreEnough (k m : ℕ) (root text : List ℕ) (all : List (List ℕ)) : Type 0 where
+pub record AreChunksOfText (k m : ℕ) (root text : List ℕ) (all : List (List ℕ)) : Type 0 where
   pub some : 1 ≤ k
   pub more : 1 ≤ m
   pub bytes : (i : ℕ) → slice_index text i < 256
   pub pieces : List (Piece Digest32)
-  pub scheme : IsEncoding hash content (counts k m) text (digest root) pieces
+  pub scheme : IsEncoding hash content (config_of_numbers k m) text (digest_of_bytes root) pieces
   pub chosen : List (Piece Digest32)
   pub among : All (λ p. (i : ℕ) × (slice_get pieces i ≡ Some p)) chosen
   pub different : AreSound (k + m) (map (λ p. p.index) chosen)

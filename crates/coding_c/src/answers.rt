@@ -5,10 +5,10 @@ ghost use Rattle.std.specs.Prelude.{drop, IfOk, IfErr, MatchOption, MatchResult}
 ghost use Rattle.std.specs.List.{flat_map};
 ghost use Rattle.cw_tree.specs.Formats.{chunk_bytes};
 ghost use Rattle.cw_coding.specs.Checking.{IsUnder};
-ghost use Rattle.coding_c.specs.Calls.{content, counts, digest, hash, size_of, AreNoConfig};
+ghost use Rattle.coding_c.specs.Calls.{content, config_of_numbers, digest_of_bytes, hash, size_of, AreNoConfig};
 ghost use Rattle.coding_c.specs.Calls.{IsEncodeStatus, IsPut, IsEncoded, IsChunk, IsNoChunk};
-ghost use Rattle.coding_c.specs.Calls.{IsRefused, IsCheckStatus, IsTaken, AreTaken, IsStopped};
-ghost use Rattle.coding_c.specs.Calls.{IsDecodeStatus, IsDecoded, AreEnough};
+ghost use Rattle.coding_c.specs.Calls.{IsNotTaken, IsCheckStatus, IsTaken, AreTaken, IsFirstNotTaken};
+ghost use Rattle.coding_c.specs.Calls.{IsDecodeStatus, IsDecoded, AreChunksOfText};
 
 use crate::status::{NO_CHUNK, NO_CONFIG, NO_MEMORY, status_of};
 use cw_base::{CodecError, Config, Digest32, NoMemory, Reader, Sequential, Sha256};
@@ -25,7 +25,7 @@ pub struct Span<'a> {
 // The config of two numbers.
 pub(crate) fn config_of(k: u16, m: u16) -> Option<Config>
     ensures { MatchOption result (AreNoConfig k m)
-        (λ config. (config ≡ counts k m) × (1 ≤ k) × (1 ≤ m)) }
+        (λ config. (config ≡ config_of_numbers k m) × (1 ≤ k) × (1 ≤ m)) }
 {
     match NonZeroU16::new(k) {
         Some(minimum_shards) => match NonZeroU16::new(m) {
@@ -123,13 +123,13 @@ pub(crate) fn checked(
 ) -> Result<CheckedChunk<Sha256>, u32>
     ensures value { MatchResult result
         (λ x. (x ≡ record {
-          root = digest root.now;
+          root = digest_of_bytes root.now;
           shard = chunk.now.shard;
           index = index;
           digest = hash chunk.now.shard;
         })
-        × IsUnder hash content config.now (digest root.now) index chunk.now)
-        (λ code. IsRefused config.now root.now index chunk.now code) }
+        × IsUnder hash content config.now (digest_of_bytes root.now) index chunk.now)
+        (λ code. IsNotTaken config.now root.now index chunk.now code) }
     ensures some { IfErr result (λ code. 1 ≤ code) }
 {
     match ReedSolomon::<Sha256>::check(alloc, config, &Digest32(*root), index, chunk, &Sequential) {
@@ -170,7 +170,7 @@ fn all_taken(
     ensures done { IfOk result
         (λ all. AreTaken config.now root.now (map (λ s. s.bytes.now) chunks.now) all.items) }
     ensures refused { IfErr result (λ code. (code ≡ 1)
-        ⊎ IsStopped config.now root.now (map (λ s. s.bytes.now) chunks.now) code) }
+        ⊎ IsFirstNotTaken config.now root.now (map (λ s. s.bytes.now) chunks.now) code) }
     ensures some { IfErr result (λ code. 1 ≤ code) }
 {
     let mut all = Vec::new(alloc);
@@ -198,7 +198,7 @@ pub(crate) fn decoded(
     ensures refused { IfErr result
         (λ code. IsDecodeStatus config.now root.now (map (λ s. s.bytes.now) chunks.now) code) }
     ensures any_enough { (text : List ℕ)
-        → AreEnough config.now.minimum config.now.extra root.now text
+        → AreChunksOfText config.now.minimum config.now.extra root.now text
         (map (λ s. s.bytes.now) chunks.now)
         → MatchResult result (λ found. found.items ≡ text) (λ code. code ≡ 1) }
     ensures some { IfErr result (λ code. 1 ≤ code) }

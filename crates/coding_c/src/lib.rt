@@ -12,9 +12,9 @@ ghost use Rattle.std.specs.Prelude.{map};
 ghost use Rattle.cw_tree.specs.Widths.{shard_len};
 ghost use Rattle.cw_tree.specs.Sizes.{IsHeight};
 ghost use Rattle.cw_coding.specs.Encoding.{IsEncodable};
-ghost use Rattle.coding_c.specs.Calls.{counts, AreNoConfig, IsEncodeStatus, IsPut, IsEncoded};
-ghost use Rattle.coding_c.specs.Calls.{HasNoRoom, HoldsChunks, Stands, IsCheckStatus, HasRoot};
-ghost use Rattle.coding_c.specs.Calls.{IsDecodeStatus, IsDecoded, AreEnough};
+ghost use Rattle.coding_c.specs.Calls.{config_of_numbers, AreNoConfig, IsEncodeStatus, IsPut, IsEncoded};
+ghost use Rattle.coding_c.specs.Calls.{HasNoRoom, HoldsChunks, StandsUnder, IsCheckStatus, HasRoot};
+ghost use Rattle.coding_c.specs.Calls.{IsDecodeStatus, IsDecoded, AreChunksOfText};
 
 use answers::{Span, checked, chunk_of, config_of, decoded, encode, put_front};
 use cw_base::Sha256;
@@ -26,9 +26,9 @@ use std::alloc::Global;
 /// a text isn't encoded.
 #[unsafe(no_mangle)]
 pub extern "C" fn buz_chunk_len(k: u16, m: u16, size: usize) -> usize
-    ensures some { (result ≢ 0) → IsEncodable (counts k m) size }
+    ensures some { (result ≢ 0) → IsEncodable (config_of_numbers k m) size }
     ensures holds { (result ≢ 0) → HoldsChunks k m size result }
-    ensures none { (result ≡ 0) → AreNoConfig k m ⊎ (IsEncodable (counts k m) size → ⊥) }
+    ensures none { (result ≡ 0) → AreNoConfig k m ⊎ (IsEncodable (config_of_numbers k m) size → ⊥) }
 {
     let Some(config) = config_of(k, m) else {
         return 0;
@@ -83,9 +83,9 @@ pub extern "C" fn buz_check(
     index: u16,
     chunk: &[u8],
 ) -> u32
-    ensures done { result ≡ 0 → Stands (counts k m) root.now index chunk.now }
+    ensures done { result ≡ 0 → StandsUnder (config_of_numbers k m) root.now index chunk.now }
     ensures refused { result ≢ 0 → ((result ≡ 2) × AreNoConfig k m)
-        ⊎ IsCheckStatus (counts k m) root.now (λ _. index) chunk.now result }
+        ⊎ IsCheckStatus (config_of_numbers k m) root.now (λ _. index) chunk.now result }
 {
     let Some(config) = config_of(k, m) else {
         return NO_CONFIG;
@@ -112,16 +112,17 @@ pub extern "C" fn buz_decode(
     size: &mut usize,
 ) -> u32
     ensures done { result ≡ 0 → (found : List ℕ)
-        × IsDecoded (counts k m) root.now (map (λ s. s.bytes.now) chunks.now) found
-        × HasRoot (counts k m) root.now found
+        × IsDecoded (config_of_numbers k m) root.now (map (λ s. s.bytes.now) chunks.now) found
+        × HasRoot (config_of_numbers k m) root.now found
         × IsPut found text.old text.new × (size.new ≡ length found) }
     ensures kept { result ≢ 0 → (text.new ≡ text.old) × (size.new ≡ size.old) }
     ensures refused { result ≢ 0 → ((result ≡ 2) × AreNoConfig k m)
-        ⊎ ((result ≡ 5) × (found : List ℕ) × HasRoot (counts k m) root.now found
+        ⊎ ((result ≡ 5) × (found : List ℕ) × HasRoot (config_of_numbers k m) root.now found
         × (length text.old < length found))
-        ⊎ IsDecodeStatus (counts k m) root.now (map (λ s. s.bytes.now) chunks.now) result }
+        ⊎ IsDecodeStatus (config_of_numbers k m) root.now (map (λ s. s.bytes.now) chunks.now) result
+        }
     ensures any_enough { (found : List ℕ)
-        → AreEnough k m root.now found (map (λ s. s.bytes.now) chunks.now)
+        → AreChunksOfText k m root.now found (map (λ s. s.bytes.now) chunks.now)
         → ((result ≡ 0) × IsPut found text.old text.new × (size.new ≡ length found))
         ⊎ (result ≡ 1) ⊎ ((result ≡ 5) × (length text.old < length found)) }
 {

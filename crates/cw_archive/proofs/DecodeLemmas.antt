@@ -20,7 +20,7 @@ use Rattle.cw_rules.specs.Coding.{AreByteChunks, IsCoder}
 use Rattle.cw_rules.specs.Rules.{Chunk}
 use Rattle.cw_rules_coded.specs.Coded.{digest_bytes}
 use Rattle.shards.specs.Enough.{AreOfText, checked_of, no_committees}
-use Rattle.shards.specs.Kept.{rules_of}
+use Rattle.shards.specs.Kept.{chunk_rules}
 use Rattle.shards.proofs.Decoded.{all_bytes, all_in_order, chunks_of_text, rows_of_text, sound_indices}
 use Rattle.cw_rules_coded.proofs.RealCoder.{byte_at}
 use Rattle.cw_archive.specs.Showing.{AreSufficient}
@@ -40,7 +40,7 @@ module _ (hash : List ℕ → Digest32) (c : Commitment) where
   -- ---- from what is decoded
 
   -- chunks that are decoded to a text are rows of its codeword
-  pub of_text : (chunks : List Chunk) (text : List ℕ) → IsCoder (rules_of hash no_committees)
+  pub of_text : (chunks : List Chunk) (text : List ℕ) → IsCoder (chunk_rules hash no_committees)
       → AreSufficient hash c chunks → AreByteChunks chunks
       → IsDecoding hash digest_bytes c.config c.root (map (checked_of hash c) chunks) text
       → AreOfText hash c chunks text
@@ -66,7 +66,7 @@ module _ (hash : List ℕ → Digest32) (c : Commitment) where
 
   -- chunks that are refused, and not for want of memory, are of no text
   pub of_no_text : (chunks : List Chunk) (e : ReedSolomonError)
-      → IsCoder (rules_of hash no_committees) → AnyEnoughDecode hash digest_bytes
+      → IsCoder (chunk_rules hash no_committees) → AnyEnoughDecode hash digest_bytes
       → AreSufficient hash c chunks
       → IsDecodeRefusal hash digest_bytes c.config c.root (map (checked_of hash c) chunks) e
       → e ≢ NoMemory → (text : List ℕ) → length text ≤ 1048745 → AreOfText hash c chunks text

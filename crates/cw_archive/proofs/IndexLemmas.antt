@@ -15,8 +15,8 @@ use Rattle.cw_coding.specs.Totals.{total_of}
 use Rattle.cw_rules.proofs.Codewords.{all_taken, apart_taken}
 use Rattle.shards.specs.Kept.{chunks_of}
 use Rattle.shards.specs.declared.pieces.KeptChunk.{KeptChunk}
-use Rattle.cw_archive.specs.Archived.{by_index, chunk_at, least_chunks}
-use Rattle.cw_archive.specs.Keys.{IsInOrder, at_key, commitment_of, kept_at, key_of, same_key}
+use Rattle.cw_archive.specs.Archived.{by_index, kept_chunk_at, chunks_of_least_index}
+use Rattle.cw_archive.specs.Keys.{IsInOrder, at_key, commitment_of, kept_at_keys, chunk_key, same_chunk_key}
 use Rattle.cw_archive.specs.declared.key.ChunkKey.{ChunkKey}
 use Rattle.cw_archive.proofs.KeyLemmas.{same_key_self}
 use Rattle.cw_archive.proofs.OrderLemmas.{Entries, Full, chunk_at_found, filled}
@@ -139,18 +139,18 @@ answers_apart f a (suc n) h = go (f a) refl (answers_apart f (a + 1) n h)
     )
 
 -- the chunks of least index are of different indices
-pub least_apart : (c : Commitment) (kept : List KeptChunk) → AreApart (least_chunks c kept)
+pub least_apart : (c : Commitment) (kept : List KeptChunk) → AreApart (chunks_of_least_index c kept)
 least_apart c kept =
     apart_taken c.config.minimum (by_index c kept)
-    (answers_apart (chunk_at c kept) 0 (total_of c.config)
+    (answers_apart (kept_chunk_at c kept) 0 (total_of c.config)
     (λ i x e. found_index i (chunks_of c kept) x e))
 
 -- what holds of the chunks of a commitment holds of those of least index
 pub least_all : (P : Chunk → Type 0) (c : Commitment) (kept : List KeptChunk)
-    → AllByRecursion P (chunks_of c kept) → AllByRecursion P (least_chunks c kept)
+    → AllByRecursion P (chunks_of c kept) → AllByRecursion P (chunks_of_least_index c kept)
 least_all P c kept a =
     all_taken P c.config.minimum (by_index c kept)
-    (answers_all P (chunk_at c kept) 0 (total_of c.config)
+    (answers_all P (kept_chunk_at c kept) 0 (total_of c.config)
     (λ i x l e. found_of P i (chunks_of c kept) x a e))
 
 -- what holds of each chunk with its commitment holds of the chunks of a commitment
@@ -288,22 +288,22 @@ all_found (x ∷ xs) n a b =
 -- the chunks of a commitment in a map are of different indices
 module _ (es : Entries) (c : Commitment) where
   others_apart : (q : ChunkKey) (order : List ChunkKey) → Full es order
-      → AllByRecursion (λ (p : ChunkKey). same_key q p ≡ false) order
+      → AllByRecursion (λ (p : ChunkKey). same_chunk_key q p ≡ false) order
       → same_commitment c (commitment_of q) ≡ true
-      → AllByRecursion (λ (d : Chunk). q.index ≢ d.index) (chunks_of c (kept_at es order))
+      → AllByRecursion (λ (d : Chunk). q.index ≢ d.index) (chunks_of c (kept_at_keys es order))
   others_apart q [] f a s = tt
   others_apart q (p ∷ ps) f a s =
       rw f.0.1.0 (go (same_commitment c (commitment_of p)) refl (others_apart q ps f.1 a.1 s))
     where
       go : (b : Bool) → same_commitment c (commitment_of p) ≡ b
-          → AllByRecursion (λ (d : Chunk). q.index ≢ d.index) (chunks_of c (kept_at es ps))
+          → AllByRecursion (λ (d : Chunk). q.index ≢ d.index) (chunks_of c (kept_at_keys es ps))
           → AllByRecursion (λ (d : Chunk). q.index ≢ d.index)
           (map (λ (e : KeptChunk). e.chunk)
           (cond b
           (record { commitment = commitment_of p; chunk = f.0.0 }
           ∷ filter (λ (e : KeptChunk). same_commitment c e.commitment)
-          (kept_at es ps))
-          (filter (λ (e : KeptChunk). same_commitment c e.commitment) (kept_at es ps))))
+          (kept_at_keys es ps))
+          (filter (λ (e : KeptChunk). same_commitment c e.commitment) (kept_at_keys es ps))))
       go false e more = more
       go true e more = (
         λ same. differ
@@ -325,40 +325,42 @@ module _ (es : Entries) (c : Commitment) where
                 index = h i;
               } in
               false≢true
-              (sym a.0 ∙ subst (λ (z : ChunkKey). same_key q z ≡ true) key (same_key_self q))
+              (sym a.0 ∙ subst (λ (z : ChunkKey). same_chunk_key q z ≡ true) key (same_key_self q))
 
-  kept_apart : (order : List ChunkKey) → Full es order → IsDistinct same_key order
-      → AreApart (chunks_of c (kept_at es order))
+  kept_apart : (order : List ChunkKey) → Full es order → IsDistinct same_chunk_key order
+      → AreApart (chunks_of c (kept_at_keys es order))
   kept_apart [] f d = tt
   kept_apart (q ∷ qs) f d =
       rw f.0.1.0
       (go (same_commitment c (commitment_of q)) refl
-      (kept_apart qs f.1 (IsDistinct-tail same_key q qs d)))
+      (kept_apart qs f.1 (IsDistinct-tail same_chunk_key q qs d)))
     where
       go : (b : Bool) → same_commitment c (commitment_of q) ≡ b
-          → AreApart (chunks_of c (kept_at es qs))
+          → AreApart (chunks_of c (kept_at_keys es qs))
           → AreApart
           (map (λ (e : KeptChunk). e.chunk)
           (cond b
           (record { commitment = commitment_of q; chunk = f.0.0 }
           ∷ filter (λ (e : KeptChunk). same_commitment c e.commitment)
-          (kept_at es qs))
-          (filter (λ (e : KeptChunk). same_commitment c e.commitment) (kept_at es qs))))
+          (kept_at_keys es qs))
+          (filter (λ (e : KeptChunk). same_commitment c e.commitment) (kept_at_keys es qs))))
       go false e more = more
       go true e more = (
         all_mapped (λ (y : Chunk). q.index ≢ y.index) (λ (y : Chunk). f.0.0.index ≢ y.index)
-            (chunks_of c (kept_at es qs)) (λ y ne same. ne (sym f.0.1.1 ∙ same))
-            (others_apart q qs f.1 (IsDistinct-head same_key q qs d) e),
+            (chunks_of c (kept_at_keys es qs)) (λ y ne same. ne (sym f.0.1.1 ∙ same))
+            (others_apart q qs f.1 (IsDistinct-head same_chunk_key q qs d) e),
         more,
       )
 
   -- a commitment has as many chunks as there are in the map at its indices
   pub counted : (order : List ChunkKey) (n : ℕ) → IsInOrder es order
-      → AllByRecursion (λ (x : Chunk). x.index < n) (chunks_of c (kept_at es order))
-      → length (answers (λ i. at_key es (key_of c i)) 0 n) ≡ length (chunks_of c (kept_at es order))
+      → AllByRecursion (λ (x : Chunk). x.index < n) (chunks_of c (kept_at_keys es order))
+      → length (answers (λ i. at_key es (chunk_key c i)) 0 n)
+      ≡ length (chunks_of c (kept_at_keys es order))
   counted order n is within =
       ap length
-      (answers_same (λ i. at_key es (key_of c i)) (chunk_at c (kept_at es order)) 0 n
+      (answers_same (λ i. at_key es (chunk_key c i)) (kept_chunk_at c (kept_at_keys es order)) 0 n
       (λ i. sym (chunk_at_found es c i order is)))
-      ∙ all_found (chunks_of c (kept_at es order)) n (kept_apart order (filled es order is) is.once)
+      ∙ all_found (chunks_of c (kept_at_keys es order)) n
+      (kept_apart order (filled es order is) is.once)
       within

@@ -14,12 +14,12 @@ use Rattle.cw_types.specs.Same.{same_commitment}
 use Rattle.cw_types.proofs.Same.{same_commitment-true, same_commitment_self}
 use Rattle.cw_rules.specs.Rules.{Chunk}
 use Rattle.cw_rules.proofs.Lists.{one_test}
-use Rattle.cw_archive.specs.Keys.{at_key, commitment_of, same_key}
+use Rattle.cw_archive.specs.Keys.{at_key, commitment_of, same_chunk_key}
 use Rattle.cw_archive.specs.declared.key.ChunkKey.{ChunkKey}
 
 -- ---- the same keys
 
-pub same_key-true : (a b : ChunkKey) → same_key a b ≡ true → a ≡ b
+pub same_key-true : (a b : ChunkKey) → same_chunk_key a b ≡ true → a ≡ b
 same_key-true a b h =
     let p =
     and_parts (same_commitment (commitment_of a) (commitment_of b)) (a.index == b.index) h in
@@ -34,23 +34,24 @@ same_key-true a b h =
       index = f i;
     }
 
-pub same_key_self : (a : ChunkKey) → same_key a a ≡ true
+pub same_key_self : (a : ChunkKey) → same_chunk_key a a ≡ true
 same_key_self a =
     and_from (same_commitment (commitment_of a) (commitment_of a)) (a.index == a.index)
     (same_commitment_self (commitment_of a)) (eq-eqb a.index a.index refl)
 
-pub same_key_symm : (a b : ChunkKey) → same_key a b ≡ same_key b a
-same_key_symm a b = one_test (same_key a b) (same_key b a) (λ h. turn a b h) (λ h. turn b a h)
+pub same_key_symm : (a b : ChunkKey) → same_chunk_key a b ≡ same_chunk_key b a
+same_key_symm a b = one_test (same_chunk_key a b) (same_chunk_key b a) (λ h. turn a b h)
+    (λ h. turn b a h)
   where
-    turn : (x y : ChunkKey) → same_key x y ≡ true → same_key y x ≡ true
+    turn : (x y : ChunkKey) → same_chunk_key x y ≡ true → same_chunk_key y x ≡ true
     turn x y h =
-        subst (λ (z : ChunkKey). same_key z x ≡ true) (same_key-true x y h) (same_key_self x)
+        subst (λ (z : ChunkKey). same_chunk_key z x ≡ true) (same_key-true x y h) (same_key_self x)
 
-pub same_key_equiv : IsEquivalence same_key
+pub same_key_equiv : IsEquivalence same_chunk_key
 same_key_equiv = record {
   refl = same_key_self;
   symm = same_key_symm;
-  congr = λ x y z h. ap (λ (w : ChunkKey). same_key w z) (same_key-true x y h);
+  congr = λ x y z h. ap (λ (w : ChunkKey). same_chunk_key w z) (same_key-true x y h);
 }
 
 -- ---- the order of keys
@@ -114,9 +115,10 @@ key_cmp_self a =
     refl
 
 -- keys are compared equal where they are the same
-pub key_tests : (a b : ChunkKey) → is_eq (key_cmp a b) ≡ same_key a b
-key_tests a b = one_test (is_eq (key_cmp a b)) (same_key a b)
-    (λ h. subst (λ (z : ChunkKey). same_key a z ≡ true) (key_cmp-true a b h) (same_key_self a))
+pub key_tests : (a b : ChunkKey) → is_eq (key_cmp a b) ≡ same_chunk_key a b
+key_tests a b = one_test (is_eq (key_cmp a b)) (same_chunk_key a b)
+    (λ h. subst (λ (z : ChunkKey). same_chunk_key a z ≡ true) (key_cmp-true a b h)
+    (same_key_self a))
     (λ h. subst (λ (z : ChunkKey). is_eq (key_cmp a z) ≡ true) (same_key-true a b h)
     (key_cmp_self a))
 
@@ -127,4 +129,4 @@ at_key_found [] q = refl
 at_key_found (e ∷ es) q =
     ap (λ b. cond b (Some e.1) (lookup (λ (k : ChunkKey). is_eq (key_cmp q k)) es))
     (key_tests q e.0)
-    ∙ ap (λ o. cond (same_key q e.0) (Some e.1) o) (at_key_found es q)
+    ∙ ap (λ o. cond (same_chunk_key q e.0) (Some e.1) o) (at_key_found es q)

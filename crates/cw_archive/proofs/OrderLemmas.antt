@@ -12,9 +12,9 @@ use Rattle.std.proofs.lemmas.Option.{same_Some}
 use Rattle.cw_types.specs.Same.{same_commitment}
 use Rattle.cw_types.specs.declared.commitment.Commitment.{Commitment}
 use Rattle.cw_rules.specs.Rules.{Chunk}
-use Rattle.cw_archive.specs.Archived.{chunk_at}
-use Rattle.shards.specs.Kept.{is_known, with_chunk}
-use Rattle.cw_archive.specs.Keys.{IsInOrder, at_key, commitment_of, kept_at, kept_by, key_of, same_key}
+use Rattle.cw_archive.specs.Archived.{kept_chunk_at}
+use Rattle.shards.specs.Kept.{is_kept_chunk, with_chunk}
+use Rattle.cw_archive.specs.Keys.{IsInOrder, at_key, commitment_of, kept_at_keys, kept_by, chunk_key, same_chunk_key}
 use Rattle.shards.specs.declared.pieces.KeptChunk.{KeptChunk}
 use Rattle.cw_archive.specs.declared.key.ChunkKey.{ChunkKey}
 use Rattle.cw_archive.proofs.KeyLemmas.{at_key_found, key_cmp, key_tests, same_key-true, same_key_equiv, same_key_self, same_key_symm}
@@ -24,7 +24,7 @@ Entries = List (ChunkKey × Chunk)
 
 -- the new entries have w at the key, and at each other what the old have
 abbrev pub Sets : Entries → Entries → ChunkKey → Option Chunk → Type 0
-Sets old new k w = (q : ChunkKey) → at_key new q ≡ cond (same_key k q) w (at_key old q)
+Sets old new k w = (q : ChunkKey) → at_key new q ≡ cond (same_chunk_key k q) w (at_key old q)
 
 or_parts : (a b : Bool) → (a || b) ≡ false → (a ≡ false) × (b ≡ false)
 or_parts true b h = cc
@@ -36,32 +36,33 @@ abbrev Stays : Entries → Entries → List ChunkKey → Type 0
 Stays old new order = AllByRecursion (λ (q : ChunkKey). at_key new q ≡ at_key old q) order
 
 kept_stays : (old new : Entries) (order : List ChunkKey) → Stays old new order
-    → kept_at new order ≡ kept_at old order
+    → kept_at_keys new order ≡ kept_at_keys old order
 kept_stays old new [] h = refl
 kept_stays old new (q ∷ qs) h =
     ap
     (λ o. cons_option
     (option_map (λ (x : Chunk). record { commitment = commitment_of q; chunk = x }) o)
-    (kept_at new qs))
+    (kept_at_keys new qs))
     h.0
     ∙ ap (λ ks. cons_option (kept_by old q) ks) (kept_stays old new qs h.1)
 
 others_stay : (old new : Entries) (k : ChunkKey) (w : Option Chunk) (order : List ChunkKey)
-    → Sets old new k w → AllByRecursion (λ (q : ChunkKey). same_key k q ≡ false) order
+    → Sets old new k w → AllByRecursion (λ (q : ChunkKey). same_chunk_key k q ≡ false) order
     → Stays old new order
 others_stay old new k w [] s h = tt
 others_stay old new k w (q ∷ qs) s h =
     (s q ∙ ap (λ b. cond b w (at_key old q)) h.0, others_stay old new k w qs s h.1)
 
-all_others : (k : ChunkKey) (order : List ChunkKey) → list_any (same_key k) order ≡ false
-    → AllByRecursion (λ (q : ChunkKey). same_key k q ≡ false) order
+all_others : (k : ChunkKey) (order : List ChunkKey) → list_any (same_chunk_key k) order ≡ false
+    → AllByRecursion (λ (q : ChunkKey). same_chunk_key k q ≡ false) order
 all_others k [] h = tt
 all_others k (q ∷ qs) h =
-    let p = or_parts (same_key k q) (list_any (same_key k) qs) h in (p.0, all_others k qs p.1)
+    let p = or_parts (same_chunk_key k q) (list_any (same_chunk_key k) qs) h in
+    (p.0, all_others k qs p.1)
 
 none_others : (k : ChunkKey) (order : List ChunkKey)
-    → AllByRecursion (λ (q : ChunkKey). same_key k q ≡ false) order
-    → list_any (same_key k) order ≡ false
+    → AllByRecursion (λ (q : ChunkKey). same_chunk_key k q ≡ false) order
+    → list_any (same_chunk_key k) order ≡ false
 none_others k [] h = refl
 none_others k (q ∷ qs) h = rw h.0 (none_others k qs h.1)
 
@@ -69,66 +70,69 @@ none_others k (q ∷ qs) h = rw h.0 (none_others k qs h.1)
 
 module _ (old new : Entries) (order : List ChunkKey) (c : Commitment) (x : Chunk) where
   key : ChunkKey
-  key = key_of c x.index
+  key = chunk_key c x.index
 
-  absent : IsInOrder old order → at_key old (key_of c x.index) ≡ None
-      → list_any (same_key (key_of c x.index)) order ≡ false
-  absent is none = sym (is.there (key_of c x.index)) ∙ ap is_some none
+  absent : IsInOrder old order → at_key old (chunk_key c x.index) ≡ None
+      → list_any (same_chunk_key (chunk_key c x.index)) order ≡ false
+  absent is none = sym (is.there (chunk_key c x.index)) ∙ ap is_some none
 
-  pub kept_pushed : IsInOrder old order → at_key old (key_of c x.index) ≡ None
-      → Sets old new (key_of c x.index) (Some x)
-      → kept_at new (order ++ key_of c x.index ∷ []) ≡ with_chunk (kept_at old order) c x
+  pub kept_pushed : IsInOrder old order → at_key old (chunk_key c x.index) ≡ None
+      → Sets old new (chunk_key c x.index) (Some x)
+      → kept_at_keys new (order ++ chunk_key c x.index ∷ [])
+      ≡ with_chunk (kept_at_keys old order) c x
   kept_pushed is none s =
-      let here : at_key new (key_of c x.index) ≡ Some x =
-      s (key_of c x.index)
-      ∙ ap (λ b. cond b (Some x) (at_key old (key_of c x.index)))
-      (same_key_self (key_of c x.index)) in
+      let here : at_key new (chunk_key c x.index) ≡ Some x =
+      s (chunk_key c x.index)
+      ∙ ap (λ b. cond b (Some x) (at_key old (chunk_key c x.index)))
+      (same_key_self (chunk_key c x.index)) in
       let stays =
       kept_stays old new order
-      (others_stay old new (key_of c x.index) (Some x) order s
-      (all_others (key_of c x.index) order (absent is none))) in
-      filter_map-append (kept_by new) order (key_of c x.index ∷ [])
-      ∙ (ap (λ ks. ks ++ kept_at new (key_of c x.index ∷ [])) stays
+      (others_stay old new (chunk_key c x.index) (Some x) order s
+      (all_others (chunk_key c x.index) order (absent is none))) in
+      filter_map-append (kept_by new) order (chunk_key c x.index ∷ [])
+      ∙ (ap (λ ks. ks ++ kept_at_keys new (chunk_key c x.index ∷ [])) stays
       ∙ ap
-      (λ (o : Option Chunk). kept_at old order
+      (λ (o : Option Chunk). kept_at_keys old order
       ++ cons_option (option_map (λ (y : Chunk). record {
         commitment = c;
         chunk = y;
       }) o) [])
       here)
 
-  pub order_pushed : IsInOrder old order → at_key old (key_of c x.index) ≡ None
-      → Sets old new (key_of c x.index) (Some x) → IsInOrder new (order ++ key_of c x.index ∷ [])
+  pub order_pushed : IsInOrder old order → at_key old (chunk_key c x.index) ≡ None
+      → Sets old new (chunk_key c x.index) (Some x)
+      → IsInOrder new (order ++ chunk_key c x.index ∷ [])
   order_pushed is none s = record {
-    once = IsDistinct-push same_key_equiv order (key_of c x.index) is.once (absent is none);
+    once = IsDistinct-push same_key_equiv order (chunk_key c x.index) is.once (absent is none);
     there =
-        λ q. rw (s q, list_any-append (same_key q) order (key_of c x.index ∷ []))
-        (there q (same_key (key_of c x.index) q) refl);
-    own = λ q y e. own q y (same_key (key_of c x.index) q) refl (sym (s q) ∙ e);
+        λ q. rw (s q, list_any-append (same_chunk_key q) order (chunk_key c x.index ∷ []))
+        (there q (same_chunk_key (chunk_key c x.index) q) refl);
+    own = λ q y e. own q y (same_chunk_key (chunk_key c x.index) q) refl (sym (s q) ∙ e);
   }
     where
-      there : (q : ChunkKey) (b : Bool) → same_key (key_of c x.index) q ≡ b
+      there : (q : ChunkKey) (b : Bool) → same_chunk_key (chunk_key c x.index) q ≡ b
           → is_some (cond b (Some x) (at_key old q))
-          ≡ (list_any (same_key q) order || (same_key q (key_of c x.index) || false))
+          ≡ (list_any (same_chunk_key q) order || (same_chunk_key q (chunk_key c x.index) || false))
       there q true e =
-          rw (same_key_symm q (key_of c x.index), e) (sym (or_true (list_any (same_key q) order)))
+          rw (same_key_symm q (chunk_key c x.index), e)
+          (sym (or_true (list_any (same_chunk_key q) order)))
         where
           or_true : (a : Bool) → (a || true) ≡ true
           or_true true = refl
           or_true false = refl
       there q false e =
-          rw (same_key_symm q (key_of c x.index), e)
-          (is.there q ∙ sym (or_false (list_any (same_key q) order)))
+          rw (same_key_symm q (chunk_key c x.index), e)
+          (is.there q ∙ sym (or_false (list_any (same_chunk_key q) order)))
         where
           or_false : (a : Bool) → (a || false) ≡ a
           or_false true = refl
           or_false false = refl
 
-      own : (q : ChunkKey) (y : Chunk) (b : Bool) → same_key (key_of c x.index) q ≡ b
+      own : (q : ChunkKey) (y : Chunk) (b : Bool) → same_chunk_key (chunk_key c x.index) q ≡ b
           → cond b (Some x) (at_key old q) ≡ Some y → y.index ≡ q.index
       own q y true e h =
           ap (λ (z : Chunk). z.index) (sym (same_Some x y h))
-          ∙ ap (λ (z : ChunkKey). z.index) (same_key-true (key_of c x.index) q e)
+          ∙ ap (λ (z : ChunkKey). z.index) (same_key-true (chunk_key c x.index) q e)
       own q y false e h = is.own q y h
 
 -- ---- the oldest leaves
@@ -141,36 +145,36 @@ module _ (old new : Entries) (order : List ChunkKey) (k : ChunkKey) where
   here : IsInOrder old (k ∷ order) → (x : Chunk) × (at_key old k ≡ Some x)
   here is =
       some_at (at_key old k)
-      (is.there k ∙ ap (λ b. b || list_any (same_key k) order) (same_key_self k))
+      (is.there k ∙ ap (λ b. b || list_any (same_chunk_key k) order) (same_key_self k))
 
   pub oldest : IsInOrder old (k ∷ order)
       → at_key old k
-      ≡ option_map (λ (e : KeptChunk). e.chunk) (slice_get (kept_at old (k ∷ order)) 0)
+      ≡ option_map (λ (e : KeptChunk). e.chunk) (slice_get (kept_at_keys old (k ∷ order)) 0)
   oldest is = let h = here is in rw h.1 refl
 
   pub kept_popped : IsInOrder old (k ∷ order) → Sets old new k None
-      → kept_at new order ≡ drop 1 (kept_at old (k ∷ order))
+      → kept_at_keys new order ≡ drop 1 (kept_at_keys old (k ∷ order))
   kept_popped is s =
       let h = here is in
       kept_stays old new order
-      (others_stay old new k None order s (IsDistinct-head same_key k order is.once))
+      (others_stay old new k None order s (IsDistinct-head same_chunk_key k order is.once))
       ∙ sym (rw h.1 refl)
 
   pub order_popped : IsInOrder old (k ∷ order) → Sets old new k None → IsInOrder new order
   order_popped is s = record {
-    once = IsDistinct-tail same_key k order is.once;
-    there = λ q. rw (s q) (there q (same_key k q) refl);
-    own = λ q y e. own q y (same_key k q) (sym (s q) ∙ e);
+    once = IsDistinct-tail same_chunk_key k order is.once;
+    there = λ q. rw (s q) (there q (same_chunk_key k q) refl);
+    own = λ q y e. own q y (same_chunk_key k q) (sym (s q) ∙ e);
   }
     where
-      there : (q : ChunkKey) (b : Bool) → same_key k q ≡ b
-          → is_some (cond b None (at_key old q)) ≡ list_any (same_key q) order
+      there : (q : ChunkKey) (b : Bool) → same_chunk_key k q ≡ b
+          → is_some (cond b None (at_key old q)) ≡ list_any (same_chunk_key q) order
       there q true e =
           sym
-          (subst (λ (z : ChunkKey). list_any (same_key z) order ≡ false) (same_key-true k q e)
-          (none_others k order (IsDistinct-head same_key k order is.once)))
+          (subst (λ (z : ChunkKey). list_any (same_chunk_key z) order ≡ false) (same_key-true k q e)
+          (none_others k order (IsDistinct-head same_chunk_key k order is.once)))
       there q false e =
-          is.there q ∙ ap (λ b. b || list_any (same_key q) order) (same_key_symm q k ∙ e)
+          is.there q ∙ ap (λ b. b || list_any (same_chunk_key q) order) (same_key_symm q k ∙ e)
 
       own : (q : ChunkKey) (y : Chunk) (b : Bool) → cond b None (at_key old q) ≡ Some y
           → y.index ≡ q.index
@@ -187,22 +191,24 @@ module _ (es : Entries) where
       (λ (q : ChunkKey). (x : Chunk) × ((at_key es q ≡ Some x) × (x.index ≡ q.index))) order
 
   full : (whole order : List ChunkKey) → IsInOrder es whole
-      → AllByRecursion (λ (q : ChunkKey). list_any (same_key q) whole ≡ true) order → Full order
+      → AllByRecursion (λ (q : ChunkKey). list_any (same_chunk_key q) whole ≡ true) order
+      → Full order
   full whole [] is h = tt
   full whole (q ∷ qs) is h =
       let at = some_at (at_key es q) (is.there q ∙ h.0) in
       ((at.0, (at.1, is.own q at.0 at.1)), full whole qs is h.1)
 
   among : (front order : List ChunkKey)
-      → AllByRecursion (λ (q : ChunkKey). list_any (same_key q) (front ++ order) ≡ true) order
+      → AllByRecursion (λ (q : ChunkKey). list_any (same_chunk_key q) (front ++ order) ≡ true) order
   among front [] = tt
   among front (q ∷ qs) = (
-    list_any-append (same_key q) front (q ∷ qs)
-        ∙ in_second (list_any (same_key q) front) (same_key q q) (list_any (same_key q) qs)
+    list_any-append (same_chunk_key q) front (q ∷ qs)
+        ∙ in_second (list_any (same_chunk_key q) front) (same_chunk_key q q)
+        (list_any (same_chunk_key q) qs)
         (same_key_self q),
     subst
         (λ (w : List ChunkKey). AllByRecursion
-        (λ (p : ChunkKey). list_any (same_key p) w ≡ true) qs)
+        (λ (p : ChunkKey). list_any (same_chunk_key p) w ≡ true) qs)
         (shift front) (among (front ++ q ∷ []) qs),
   )
     where
@@ -220,31 +226,33 @@ module _ (es : Entries) where
 
 module _ (es : Entries) (c : Commitment) (i : ℕ) where
   found_in : (order : List ChunkKey) → Full es order
-      → chunk_at c (kept_at es order) i
-      ≡ (if list_any (same_key (key_of c i)) order then at_key es (key_of c i) else None)
+      → kept_chunk_at c (kept_at_keys es order) i
+      ≡ (if list_any (same_chunk_key (chunk_key c i)) order then at_key es (chunk_key c i) else
+      None)
   found_in [] h = refl
   found_in (q ∷ qs) h =
       rw h.0.1.0
       (go (same_commitment c (commitment_of q)) (h.0.0.index == i) refl refl (found_in qs h.1))
     where
       go : (s t : Bool) → same_commitment c (commitment_of q) ≡ s → (h.0.0.index == i) ≡ t
-          → chunk_at c (kept_at es qs) i
-          ≡ (if list_any (same_key (key_of c i)) qs then at_key es (key_of c i) else None)
+          → kept_chunk_at c (kept_at_keys es qs) i
+          ≡ (if list_any (same_chunk_key (chunk_key c i)) qs then at_key es (chunk_key c i) else
+          None)
           → find (λ (y : Chunk). y.index == i)
           (map (λ (k : KeptChunk). k.chunk)
           (cond s
           (record { commitment = commitment_of q; chunk = h.0.0 }
           ∷ filter (λ (k : KeptChunk). same_commitment c k.commitment)
-          (kept_at es qs))
-          (filter (λ (k : KeptChunk). same_commitment c k.commitment) (kept_at es qs))))
-          ≡ (if (s && (i == q.index)) || list_any (same_key (key_of c i)) qs
-          then at_key es (key_of c i) else None)
+          (kept_at_keys es qs))
+          (filter (λ (k : KeptChunk). same_commitment c k.commitment) (kept_at_keys es qs))))
+          ≡ (if (s && (i == q.index)) || list_any (same_chunk_key (chunk_key c i)) qs
+          then at_key es (chunk_key c i) else None)
       go false t e f again = again
       go true true e f again =
           let at : h.0.0.index ≡ i = eqb-true h.0.0.index i f in
           let is : (i == q.index) ≡ true = eq-eqb i q.index (sym at ∙ h.0.1.1) in
-          let key : key_of c i ≡ q =
-          same_key-true (key_of c i) q (ap (λ b. b && (i == q.index)) e ∙ is) in
+          let key : chunk_key c i ≡ q =
+          same_key-true (chunk_key c i) q (ap (λ b. b && (i == q.index)) e ∙ is) in
           rw (f, is) (sym h.0.1.0 ∙ ap (at_key es) (sym key))
       go true false e f again =
           let is : (i == q.index) ≡ false =
@@ -252,10 +260,10 @@ module _ (es : Entries) (c : Commitment) (i : ℕ) where
           rw (f, is) again
 
   pub chunk_at_found : (order : List ChunkKey) → IsInOrder es order
-      → chunk_at c (kept_at es order) i ≡ at_key es (key_of c i)
+      → kept_chunk_at c (kept_at_keys es order) i ≡ at_key es (chunk_key c i)
   chunk_at_found order is =
       found_in order (filled es order is)
-      ∙ rw (← is.there (key_of c i)) (same (at_key es (key_of c i)))
+      ∙ rw (← is.there (chunk_key c i)) (same (at_key es (chunk_key c i)))
     where
       same : (o : Option Chunk) → (if is_some o then o else None) ≡ o
       same None = refl
@@ -263,14 +271,14 @@ module _ (es : Entries) (c : Commitment) (i : ℕ) where
 
 -- a chunk is known where there is one at its index
 pub known_found : (kept : List KeptChunk) (c : Commitment) (x : Chunk)
-    → is_known kept c x ≡ is_some (chunk_at c kept x.index)
+    → is_kept_chunk kept c x ≡ is_some (kept_chunk_at c kept x.index)
 known_found [] c x = refl
 known_found (k ∷ ks) c x =
     go (same_commitment c k.commitment) (k.chunk.index == x.index) refl (known_found ks c x)
   where
     go : (s t : Bool) → (k.chunk.index == x.index) ≡ t
-        → is_known ks c x ≡ is_some (chunk_at c ks x.index)
-        → ((s && (x.index == k.chunk.index)) || is_known ks c x)
+        → is_kept_chunk ks c x ≡ is_some (kept_chunk_at c ks x.index)
+        → ((s && (x.index == k.chunk.index)) || is_kept_chunk ks c x)
         ≡ is_some
         (find (λ (y : Chunk). y.index == x.index)
         (map (λ (e : KeptChunk). e.chunk)
@@ -292,16 +300,16 @@ sets_of old new k w h = λ q.
     sym (at_key_found new q)
     ∙ (h q
     ∙ (ap (λ b. cond b w (lookup (λ (j : ChunkKey). is_eq (key_cmp q j)) old)) (key_tests k q)
-    ∙ ap (λ o. cond (same_key k q) w o) (at_key_found old q)))
+    ∙ ap (λ o. cond (same_chunk_key k q) w o) (at_key_found old q)))
 
 -- a chunk that isn't known isn't in the map
 pub absent_from : (es : Entries) (order : List ChunkKey) (c : Commitment) (x : Chunk)
-    → IsInOrder es order → is_known (kept_at es order) c x ≡ false
-    → at_key es (key_of c x.index) ≡ None
+    → IsInOrder es order → is_kept_chunk (kept_at_keys es order) c x ≡ false
+    → at_key es (chunk_key c x.index) ≡ None
 absent_from es order c x is new =
-    none (at_key es (key_of c x.index))
+    none (at_key es (chunk_key c x.index))
     (ap is_some (sym (chunk_at_found es c x.index order is))
-    ∙ (sym (known_found (kept_at es order) c x) ∙ new))
+    ∙ (sym (known_found (kept_at_keys es order) c x) ∙ new))
   where
     none : (o : Option Chunk) → is_some o ≡ false → o ≡ None
     none None h = refl

@@ -5,7 +5,7 @@ use Rattle.std.proofs.lemmas.Bool.{cases_Bool, lt-ltb}
 use Rattle.cw_base.specs.declared.hash.Digest32.{Digest32}
 use Rattle.cw_types.specs.declared.commitment.Commitment.{Commitment}
 use Rattle.cw_rules.specs.Rules.{Chunk}
-use Rattle.shards.specs.Kept.{is_known, with_chunk}
+use Rattle.shards.specs.Kept.{is_kept_chunk, with_chunk}
 use Rattle.cw_archive.specs.Archived.{Archived, after_put, checks, put_answer, within_limit}
 use Rattle.cw_archive.specs.declared.put.Put.TheVariants.{Foreign, Kept, Known, TooLarge}
 
@@ -30,18 +30,20 @@ some_there true y o r e h t = refl
 some_there false y o r e h t = cc (ap is_some e, ap not t)
 
 module _ (hash : List ℕ → Digest32) (a : Archived) (c : Commitment) (x : Chunk) where
-  pub answer_known : is_known a.kept c x ≡ true → put_answer hash a c x ≡ Known
+  pub answer_known : is_kept_chunk a.kept c x ≡ true → put_answer hash a c x ≡ Known
   answer_known h = rw h refl
 
-  pub answer_foreign : is_known a.kept c x ≡ false → checks hash c x ≡ false
+  pub answer_foreign : is_kept_chunk a.kept c x ≡ false → checks hash c x ≡ false
       → put_answer hash a c x ≡ Foreign
   answer_foreign h k = rw (h, k) refl
 
-  pub answer_large : is_known a.kept c x ≡ false → checks hash c x ≡ true → a.limit < length x.shard
+  pub answer_large : is_kept_chunk a.kept c x ≡ false → checks hash c x ≡ true
+      → a.limit < length x.shard
       → put_answer hash a c x ≡ TooLarge
   answer_large h k l = rw (h, k, lt-ltb a.limit (length x.shard) l) refl
 
-  pub answer_kept : is_known a.kept c x ≡ false → checks hash c x ≡ true → length x.shard ≤ a.limit
+  pub answer_kept : is_kept_chunk a.kept c x ≡ false → checks hash c x ≡ true
+      → length x.shard ≤ a.limit
       → put_answer hash a c x ≡ Kept
   answer_kept h k l = rw (h, k, fits (cases_Bool (nat_lt a.limit (length x.shard)))) refl
     where

@@ -17,33 +17,33 @@ use Rattle.cw_rules.specs.Rules.{Chunk}
 use Rattle.cw_coding.specs.Totals.{total_of}
 use Rattle.cw_rules_coded.specs.Coded.{code_rows, decoded, root_over}
 use Rattle.shards.specs.Enough.{AreOfText, IsRooted, no_committees}
-use Rattle.shards.specs.Kept.{rules_of}
+use Rattle.shards.specs.Kept.{chunk_rules}
 use Rattle.shards.proofs.Shown.{root_there}
-use Rattle.cw_archive.specs.Archived.{if_named, name_of, shown_by}
+use Rattle.cw_archive.specs.Archived.{if_named, name_of, shown_by_chunks}
 use Rattle.cw_archive.specs.Showing.{IsOfNoBlock, Shows}
 use Rattle.cw_rules_coded.proofs.RealCoder.{byte_at}
 
 module _ (hash : List ℕ → Digest32) (c : Commitment) where
   -- chunks of a text show what the text is read as
   pub shows_text : (chunks : List Chunk) (text : List ℕ) → AreOfText hash c chunks text
-      → shown_by hash c chunks ≡ option_and_then (if_named hash c) (block_in text)
+      → shown_by_chunks hash c chunks ≡ option_and_then (if_named hash c) (block_in text)
   shows_text chunks text of =
       ap (λ o. option_and_then (if_named hash c) (option_and_then block_in o)) of.decodes
 
   -- a block that the commitment names has its root
-  named_root : (b : Block) → IsCoder (rules_of hash no_committees) → 0 < c.config.minimum
+  named_root : (b : Block) → IsCoder (chunk_rules hash no_committees) → 0 < c.config.minimum
       → name_of hash c.config b ≡ c → IsRooted hash c (block_bytes b)
   named_root b coder pos e =
       root_there hash no_committees c.config (block_bytes b) coder pos
       ∙ ap Some (ap (λ (d : Commitment). d.root) e)
 
   -- chunks of no block's text give nothing back
-  pub shows_none : (chunks : List Chunk) → IsCoder (rules_of hash no_committees)
+  pub shows_none : (chunks : List Chunk) → IsCoder (chunk_rules hash no_committees)
       → 0 < c.config.minimum
       → ((text : List ℕ) (b : Block) → IsBytes text → block_in text ≡ Some b
       → (block_bytes b ≡ text) × IsBlock b)
       → ((b : Block) → IsBlock b → length (block_bytes b) ≤ 1048745)
-      → IsOfNoBlock hash c chunks → shown_by hash c chunks ≡ None
+      → IsOfNoBlock hash c chunks → shown_by_chunks hash c chunks ≡ None
   shows_none chunks coder pos found bound none = go (decoded c.config chunks) refl
     where
       go : (o : Option (List ℕ)) → decoded c.config chunks ≡ o
@@ -74,18 +74,18 @@ module _ (hash : List ℕ → Digest32) (c : Commitment) where
 
   -- fewer chunks than a text is given back by
   pub shows_few : (chunks : List Chunk) → length chunks < c.config.minimum
-      → shown_by hash c chunks ≡ None
+      → shown_by_chunks hash c chunks ≡ None
   shows_few chunks few = go (cases_Bool (length chunks == c.config.minimum))
     where
       go : ((length chunks == c.config.minimum) ≡ true)
           ⊎ ((length chunks == c.config.minimum) ≡ false)
-          → shown_by hash c chunks ≡ None
+          → shown_by_chunks hash c chunks ≡ None
       go (inl t) = absurd (let e = eqb-true (length chunks) c.config.minimum t in omega arith)
       go (inr f) = rw f refl
 
   -- the commitment names a block of its root where both digests are its own
   pub named_by : (b : Block) (text : List ℕ) (d e : Digest32)
-      → IsCoder (rules_of hash no_committees) → 0 < c.config.minimum → block_bytes b ≡ text
+      → IsCoder (chunk_rules hash no_committees) → 0 < c.config.minimum → block_bytes b ≡ text
       → IsRooted hash c text
       → d ≡ hash text → e ≡ hash (context_bytes b.context)
       → (same_digest d c.block && same_digest e c.context)
@@ -116,8 +116,8 @@ module _ (hash : List ℕ → Digest32) (c : Commitment) where
   -- ---- exactly what the chunks show
 
   -- what chunks give back is what they show
-  pub given_shows : (chunks : List Chunk) (b : Block) → IsCoder (rules_of hash no_committees)
-      → shown_by hash c chunks ≡ Some b → Shows hash c chunks b
+  pub given_shows : (chunks : List Chunk) (b : Block) → IsCoder (chunk_rules hash no_committees)
+      → shown_by_chunks hash c chunks ≡ Some b → Shows hash c chunks b
   given_shows chunks b coder = go (decoded c.config chunks) refl
     where
       go : (o : Option (List ℕ)) → decoded c.config chunks ≡ o
@@ -145,16 +145,16 @@ module _ (hash : List ℕ → Digest32) (c : Commitment) where
                     back = ap block_in is ∙ f;
                     rows =
                         subst
-                        (λ (t : List ℕ). AreRowsOf (rules_of hash no_committees) c.config chunks
+                        (λ (t : List ℕ). AreRowsOf (chunk_rules hash no_committees) c.config chunks
                         t)
                         (sym is) sound.2;
                     named = same_commitment-true (name_of hash c.config d) c g;
                   })
 
   -- what they show is what they give back
-  pub shows_given : (chunks : List Chunk) (b : Block) → IsCoder (rules_of hash no_committees)
+  pub shows_given : (chunks : List Chunk) (b : Block) → IsCoder (chunk_rules hash no_committees)
       → 1 ≤ c.config.minimum → total_of c.config ≤ 65535 → AreApart chunks → AreByteChunks chunks
-      → Shows hash c chunks b → shown_by hash c chunks ≡ Some b
+      → Shows hash c chunks b → shown_by_chunks hash c chunks ≡ Some b
   shows_given chunks b coder some few apart bytes s =
       let decodes : decoded c.config chunks ≡ Some (block_bytes b) =
       coder.complete c.config chunks (block_bytes b) (omega arith) few apart bytes s.enough

@@ -12,7 +12,7 @@ use Rattle.cw_rules.specs.Rules.{Chunk, block_of, rows_under}
 use Rattle.cw_coding.specs.Totals.{total_of}
 use Rattle.cw_rules_coded.specs.Coded.{root_over}
 use Rattle.shards.specs.Enough.{is_under_root, no_committees}
-use Rattle.shards.specs.Kept.{chunks_of, is_known, rules_of, with_chunk}
+use Rattle.shards.specs.Kept.{chunks_of, is_kept_chunk, chunk_rules, with_chunk}
 use Rattle.shards.specs.declared.pieces.KeptChunk.{KeptChunk}
 use Rattle.cw_archive.specs.declared.put.Put.{Put}
 use Rattle.cw_archive.specs.declared.put.Put.TheVariants.{Foreign, Kept, Known, TooLarge}
@@ -36,7 +36,7 @@ checks hash c x = nat_le (total_of c.config) 65535 && is_under_root hash c x
 -- what is answered to a put: the first that holds
 abbrev pub put_answer : (List ℕ → Digest32) → Archived → Commitment → Chunk → Put
 put_answer hash a c x =
-    if is_known a.kept c x then Known
+    if is_kept_chunk a.kept c x then Known
     else if checks hash c x then (if nat_lt a.limit (length x.shard) then TooLarge else Kept)
     else Foreign
 
@@ -60,16 +60,16 @@ after_put hash a c x = after_answer (put_answer hash a c x) a c x
 -- ---- what is given back
 
 -- the chunk that is kept of a commitment at an index
-abbrev pub chunk_at : Commitment → List KeptChunk → ℕ → Option Chunk
-chunk_at c kept i = find (λ x. x.index == i) (chunks_of c kept)
+abbrev pub kept_chunk_at : Commitment → List KeptChunk → ℕ → Option Chunk
+kept_chunk_at c kept i = find (λ x. x.index == i) (chunks_of c kept)
 
 -- the chunks that are kept of a commitment, by index
 abbrev pub by_index : Commitment → List KeptChunk → List Chunk
-by_index c kept = filter_map (chunk_at c kept) (range_with_len 0 (total_of c.config))
+by_index c kept = filter_map (kept_chunk_at c kept) (range_with_len 0 (total_of c.config))
 
 -- the k of least index
-abbrev pub least_chunks : Commitment → List KeptChunk → List Chunk
-least_chunks c kept = take c.config.minimum (by_index c kept)
+abbrev pub chunks_of_least_index : Commitment → List KeptChunk → List Chunk
+chunks_of_least_index c kept = take c.config.minimum (by_index c kept)
 
 -- what names a block that is cut by this config, whatever its epoch: the hash of its bytes, the
 -- root of their codeword, the hash of its context's bytes, and the config
@@ -77,7 +77,8 @@ abbrev pub name_of : (List ℕ → Digest32) → Counts → Block → Commitment
 name_of hash config b = record {
   block = hash (block_bytes b);
   root =
-      root_over hash (map hash (rows_under (rules_of hash no_committees) config (block_bytes b)));
+      root_over hash
+      (map hash (rows_under (chunk_rules hash no_committees) config (block_bytes b)));
   context = hash (context_bytes b.context);
   config = config;
 }
@@ -87,10 +88,10 @@ abbrev pub if_named : (List ℕ → Digest32) → Commitment → Block → Optio
 if_named hash c b = if same_commitment (name_of hash c.config b) c then Some b else None
 
 -- the block of whose bytes' codeword these chunks are k rows, where the commitment names it
-abbrev pub shown_by : (List ℕ → Digest32) → Commitment → List Chunk → Option Block
-shown_by hash c chunks =
-    option_and_then (if_named hash c) (block_of (rules_of hash no_committees) c.config chunks)
+abbrev pub shown_by_chunks : (List ℕ → Digest32) → Commitment → List Chunk → Option Block
+shown_by_chunks hash c chunks =
+    option_and_then (if_named hash c) (block_of (chunk_rules hash no_committees) c.config chunks)
 
 -- the block that the kept chunks of a commitment give back: that of the k of least index
 abbrev pub given_back : (List ℕ → Digest32) → Commitment → List KeptChunk → Option Block
-given_back hash c kept = shown_by hash c (least_chunks c kept)
+given_back hash c kept = shown_by_chunks hash c (chunks_of_least_index c kept)

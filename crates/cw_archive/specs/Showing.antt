@@ -9,7 +9,7 @@ use Rattle.cw_types.specs.declared.commitment.Commitment.{Commitment}
 use Rattle.cw_rules.specs.Coding.{AreApart, AreBytes, AreRowsOf, IsText}
 use Rattle.cw_rules.specs.Rules.{Chunk}
 use Rattle.shards.specs.Enough.{AreOfText, no_committees}
-use Rattle.shards.specs.Kept.{rules_of}
+use Rattle.shards.specs.Kept.{chunk_rules}
 use Rattle.shards.specs.declared.pieces.KeptChunk.{KeptChunk}
 use Rattle.cw_archive.specs.Archived.{checks, name_of, used_of}
 
@@ -41,7 +41,7 @@ pub record Shows (hash : List ℕ → Digest32) (c : Commitment) (chunks : List 
   pub enough : length chunks ≡ c.config.minimum
   pub text : IsText (block_bytes b)
   pub back : block_in (block_bytes b) ≡ Some b
-  pub rows : AreRowsOf (rules_of hash no_committees) c.config chunks (block_bytes b)
+  pub rows : AreRowsOf (chunk_rules hash no_committees) c.config chunks (block_bytes b)
   pub named : name_of hash c.config b ≡ c
 
 -- the newest chunk's shard has so many bytes, and those of the others so many

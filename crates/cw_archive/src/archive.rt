@@ -2,7 +2,7 @@
 
 ghost use Rattle.std.specs.Prelude.{◌≡◌, ◌≤◌, ◌+◌, ◌↔◌, [], IfOk, OnErr, OnOk, Some, length};
 ghost use Rattle.cw_types.specs.Block.{Block};
-ghost use Rattle.cw_archive.specs.Archived.{after_put, given_back, least_chunks, put_answer};
+ghost use Rattle.cw_archive.specs.Archived.{after_put, given_back, chunks_of_least_index, put_answer};
 ghost use Rattle.cw_archive.specs.Archived.{used_of, within_limit};
 ghost use Rattle.cw_archive.specs.Showing.{HasNewest, Shows};
 ghost use Rattle.shards.specs.Kept.{chunks_of};
@@ -137,7 +137,8 @@ impl<H: Hasher<Digest = Digest32>> Archive<H> {
     pub fn gives_what_it_shows(&self, commitment: &Commitment)
         ensures { (b : Block)
             → (given_back H.digest_of commitment.now self.now.kept ≡ Some b)
-            ↔ Shows H.digest_of commitment.now (least_chunks commitment.now self.now.kept) b }
+            ↔ Shows H.digest_of commitment.now (chunks_of_least_index commitment.now self.now.kept)
+            b }
     {
         archives_show();
         let _kept = &self.kept;

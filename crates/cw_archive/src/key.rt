@@ -1,7 +1,7 @@
 //! What names a chunk in the archive.
 
 ghost use Rattle.std.specs.Prelude.{◌≡◌};
-ghost use Rattle.cw_archive.specs.Keys.{key_of};
+ghost use Rattle.cw_archive.specs.Keys.{chunk_key};
 
 use cw_base::Digest32;
 use cw_types::Commitment;
@@ -21,7 +21,7 @@ pub(crate) struct ChunkKey {
 impl ChunkKey {
     /// The key of the chunk of that commitment and index.
     pub(crate) fn new(commitment: &Commitment, index: u32) -> ChunkKey
-        ensures { result ≡ key_of commitment.now index }
+        ensures { result ≡ chunk_key commitment.now index }
     {
         ChunkKey {
             block: commitment.block,

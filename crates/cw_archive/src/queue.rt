@@ -4,9 +4,9 @@ ghost use Rattle.std.specs.Prelude.{◌<◌, ◌≡◌, [], IsFalse, None, OnErr
 ghost use Rattle.std.specs.Prelude.{slice_get};
 ghost use Rattle.std.specs.List.{AllByRecursion};
 ghost use Rattle.std.specs.Option.{option_copied, option_map};
-ghost use Rattle.cw_archive.specs.Archived.{chunk_at};
+ghost use Rattle.cw_archive.specs.Archived.{kept_chunk_at};
 ghost use Rattle.cw_coding.specs.Totals.{total_of};
-ghost use Rattle.shards.specs.Kept.{chunks_of, is_known, with_chunk};
+ghost use Rattle.shards.specs.Kept.{chunks_of, is_kept_chunk, with_chunk};
 
 use crate::key::ChunkKey;
 use cw_base::{Digest32, NoMemory};
@@ -27,11 +27,11 @@ pub(crate) struct ChunkQueue {
 impl Model for ChunkQueue {
     ghost use Rattle.std.specs.Prelude.{List};
     ghost use Rattle.shards.specs.declared.pieces.KeptChunk.{KeptChunk};
-    ghost use Rattle.cw_archive.specs.Keys.{IsInOrder, kept_at};
+    ghost use Rattle.cw_archive.specs.Keys.{IsInOrder, kept_at_keys};
 
     ghost Value = { List KeptChunk };
 
-    ghost view = { λ q. kept_at q.chunks.entries q.order.items };
+    ghost view = { λ q. kept_at_keys q.chunks.entries q.order.items };
 
     ghost invariant = { λ q. IsInOrder q.chunks.entries q.order.items };
 }
@@ -49,7 +49,7 @@ impl ChunkQueue {
 
     /// The chunk of that commitment and index.
     pub(crate) fn find(&self, commitment: &Commitment, index: u32) -> Option<&Chunk<Digest32>>
-        ensures { option_copied result ≡ chunk_at commitment.now self.now index }
+        ensures { option_copied result ≡ kept_chunk_at commitment.now self.now index }
     {
         self.chunks.get(&ChunkKey::new(commitment, index))
     }
@@ -76,7 +76,7 @@ impl ChunkQueue {
         commitment: &Commitment,
         chunk: Chunk<Digest32>,
     ) -> Result<(), NoMemory>
-        requires { IsFalse (is_known self.old commitment.now chunk) }
+        requires { IsFalse (is_kept_chunk self.old commitment.now chunk) }
         ensures ok { OnOk result (self.new ≡ with_chunk self.old commitment.now chunk) }
         ensures err { OnErr result (self.new ≡ self.old) }
     {

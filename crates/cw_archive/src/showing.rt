@@ -2,7 +2,7 @@
 
 ghost use Rattle.std.specs.Prelude.{◌≡◌, ◌≢◌, ◌&&◌, IfNone, IfOk, IfSome, IsNone, map};
 ghost use Rattle.std.specs.Prelude.{option_and_then};
-ghost use Rattle.cw_archive.specs.Archived.{if_named, least_chunks, name_of, shown_by};
+ghost use Rattle.cw_archive.specs.Archived.{if_named, chunks_of_least_index, name_of, shown_by_chunks};
 ghost use Rattle.cw_archive.specs.Showing.{AreSufficient, IsOfNoBlock};
 ghost use Rattle.cw_types.specs.Encoding.{block_bytes};
 ghost use Rattle.cw_types.specs.Reading.{block_in};
@@ -27,7 +27,8 @@ pub(crate) fn least_chunks<'a>(
     commitment: &Commitment,
 ) -> Result<Vec<&'a Chunk<Digest32>>, NoMemory>
     ensures { IfOk result
-        (λ chunks. map (λ chunk. chunk.now) chunks.items ≡ least_chunks commitment.now kept.now) }
+        (λ chunks. map (λ chunk. chunk.now) chunks.items
+        ≡ chunks_of_least_index commitment.now kept.now) }
 {
     let minimum = usize::from(commitment.config.minimum());
     let mut chunks = Vec::new(alloc);
@@ -144,7 +145,7 @@ pub(crate) fn shown<H: Hasher<Digest = Digest32>, R: Threads + Sync, S: Strategy
 ) -> Result<Option<ChainBlock>, NoMemory>
     requires { AreSufficient H.digest_of commitment.now (map (λ chunk. chunk.now) chunks.now) }
     ensures { IfOk result (λ block. block
-        ≡ shown_by H.digest_of commitment.now (map (λ chunk. chunk.now) chunks.now)) }
+        ≡ shown_by_chunks H.digest_of commitment.now (map (λ chunk. chunk.now) chunks.now)) }
 {
     coded_laws();
     blocks_are_bounded();

@@ -9,7 +9,7 @@ use Rattle.cw_tree.specs.Chunks.{Piece}
 use Rattle.cw_coding.specs.declared.error.ReedSolomonError.{ReedSolomonError}
 use Rattle.cw_coding.specs.declared.error.ReedSolomonError.TheVariants.{NoMemory}
 use Rattle.cw_coding.specs.Checked.{Checked}
-use Rattle.cw_coding.specs.Checking.{Stands, AllStand, Checks, AllCheck}
+use Rattle.cw_coding.specs.Checking.{IsVerdictOn, AllStand, Checks, AllCheck}
 
 module _ {D : Type 0} (hash : List ℕ → D) (content : D → List ℕ) (c : Counts) (root : D) where
   -- what a map answers to chunks at their indices
@@ -17,7 +17,7 @@ module _ {D : Type 0} (hash : List ℕ → D) (content : D → List ℕ) (c : Co
       (g : Shared F (Bor (ℕ × Bor (Piece D)) × Unit {0}) (Result D ReedSolomonError)) (f : F)
       →
       ((x : ℕ × Bor (Piece D)) (r : Result D ReedSolomonError) → FnReturnsAt g f x r
-      → Stands hash content c root x.0 x.1.now r)
+      → IsVerdictOn hash content c root x.0 x.1.now r)
       →
       (xs : List (ℕ × Bor (Piece D))) (rs : List (Result D ReedSolomonError)) → GivesItems g f xs rs
       →
@@ -28,16 +28,17 @@ module _ {D : Type 0} (hash : List ℕ → D) (content : D → List ℕ) (c : Co
   stood g f each (x ∷ xs) (r ∷ rs) given = (each x r given.0, stood g f each xs rs given.1)
 
   pub shown_stands : (x y : ℕ × Bor (Piece D)) (r : Result D ReedSolomonError) → y ≡ x
-      → Stands hash content c root y.0 y.1.now r → Stands hash content c root x.0 x.1.now r
+      → IsVerdictOn hash content c root y.0 y.1.now r
+      → IsVerdictOn hash content c root x.0 x.1.now r
   shown_stands x y r e h =
-      subst (λ (z : ℕ × Bor (Piece D)). Stands hash content c root z.0 z.1.now r) e h
+      subst (λ (z : ℕ × Bor (Piece D)). IsVerdictOn hash content c root z.0 z.1.now r) e h
 
   -- the answer at a place
   pub stands_at : (is : List ℕ) (ps : List (Piece D)) (rs : List (Result D ReedSolomonError))
       (k : ℕ) (p : Piece D) (r : Result D ReedSolomonError)
       →
       AllStand hash content c root is ps rs → k < length ps → p ≡ get_or ps k p → r ≡ get_or rs k r
-      → Stands hash content c root (get_or is k 0) p r
+      → IsVerdictOn hash content c root (get_or is k 0) p r
   stands_at [] [] rs k p r all l isp isr = absurd (omega arith)
   stands_at [] (q ∷ ps) rs k p r all l isp isr = absurd (none rs all)
     where
@@ -48,8 +49,8 @@ module _ {D : Type 0} (hash : List ℕ → D) (content : D → List ℕ) (c : Co
   stands_at (i ∷ is) [] rs k p r all l isp isr = absurd (omega arith)
   stands_at (i ∷ is) (q ∷ ps) [] k p r all l isp isr = absurd all
   stands_at (i ∷ is) (q ∷ ps) (x ∷ rs) zero p r all l isp isr =
-      subst (λ (y : Piece D). Stands hash content c root i y r) (sym isp)
-      (subst (λ (y : Result D ReedSolomonError). Stands hash content c root i q y) (sym isr)
+      subst (λ (y : Piece D). IsVerdictOn hash content c root i y r) (sym isp)
+      (subst (λ (y : Result D ReedSolomonError). IsVerdictOn hash content c root i q y) (sym isr)
       all.0)
   stands_at (i ∷ is) (q ∷ ps) (x ∷ rs) (suc k) p r all l isp isr =
       stands_at is ps rs k p r all.1 (omega arith) isp isr

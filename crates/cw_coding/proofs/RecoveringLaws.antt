@@ -11,20 +11,20 @@ use Rattle.rs_code.specs.Rows.{joined}
 use Rattle.rs_code.proofs.IndexLaws.{AreSound-in_range}
 use Rattle.cw_tree.specs.Tree.{root_of}
 use Rattle.cw_tree.specs.Widths.{shard_len}
-use Rattle.cw_coding.specs.Layout.{layout, text_in, row_at, row_digests}
+use Rattle.cw_coding.specs.Layout.{layout, counted_text, row_at, row_digests}
 use Rattle.cw_coding.specs.Totals.{total_of}
 use Rattle.cw_coding.specs.Digests.{AreDigests, AreDigestsAt}
 use Rattle.cw_coding.specs.Decoding.{AreRecoverable, Fits}
 use Rattle.cw_coding.proofs.LayoutLaws.{row_of-text, text_hashes, whole_rows}
 
 pub length-text_in : (laid : List ℕ) (count : ℕ) → count + 4 ≤ length laid
-    → length (text_in laid count) ≡ count
+    → length (counted_text laid count) ≡ count
 length-text_in laid count h =
     length-take-le count (drop 4 laid) (omega (arith, h, length-drop 4 laid))
 
 -- the text in rows that begin with its layout
 pub text_in_front : (laid rows : List ℕ) (count : ℕ) → take (length laid) rows ≡ laid
-    → count + 4 ≤ length laid → text_in rows count ≡ text_in laid count
+    → count + 4 ≤ length laid → counted_text rows count ≡ counted_text laid count
 text_in_front laid rows count front room =
     let more : ℕ = length laid - 4 in
     let split : length laid ≡ 4 + more = omega (arith, room) in
@@ -79,11 +79,11 @@ pub laid_out : (k width count : ℕ) (os : List ℕ) → length os ≡ k * width
     ≡ from_be_bytes w32 (get_or os 0 0 ∷ get_or os 1 0 ∷ get_or os 2 0 ∷ get_or os 3 0 ∷ [])
     → shard_len count k ≡ width
     → drop count (drop 4 os) ≡ replicate (length (drop count (drop 4 os))) 0
-    → layout k (text_in os count) ≡ os
+    → layout k (counted_text os count) ≡ os
 unfolding layout be32
 laid_out k width count os long room bytes number w zeros =
     let rest : List ℕ = drop 4 os in
-    let n : length (text_in os count) ≡ count = length-text_in os count room in
+    let n : length (counted_text os count) ≡ count = length-text_in os count room in
     let head : to_be_bytes w32 count ≡ take 4 os =
     be_bytes_4 (get_or os 0 0 ∷ get_or os 1 0 ∷ get_or os 2 0 ∷ get_or os 3 0 ∷ []) count refl
     (four_bytes _ _ _ _ (bytes 0) (bytes 1) (bytes 2) (bytes 3)) number
@@ -93,14 +93,14 @@ laid_out k width count os long room bytes number w zeros =
     let tail : replicate (k * shard_len count k - (count + 4)) 0 ≡ drop count rest =
     ap (λ (z : ℕ). replicate z 0) size ∙ sym zeros in
     ap
-    (λ (i : ℕ). to_be_bytes w32 i ++ text_in os count
+    (λ (i : ℕ). to_be_bytes w32 i ++ counted_text os count
     ++ replicate (k * shard_len i k - (i + 4)) 0)
     n
     ∙ ap
-    (λ (xs : List ℕ). xs ++ text_in os count
+    (λ (xs : List ℕ). xs ++ counted_text os count
     ++ replicate (k * shard_len count k - (count + 4)) 0)
     head
-    ∙ ap (λ (xs : List ℕ). take 4 os ++ text_in os count ++ xs) tail
+    ∙ ap (λ (xs : List ℕ). take 4 os ++ counted_text os count ++ xs) tail
     ∙ append_assoc (take 4 os) (take count rest) (drop count rest)
     ∙ ap (λ (xs : List ℕ). take 4 os ++ xs) (take-append-drop count rest)
     ∙ take-append-drop 4 os

@@ -54,12 +54,12 @@ Checks hash content c root index p (Ok x) =
 Checks hash content c root index p (Err e) = IsCheckRefusal hash content c root index p e
 
 -- the digest of a chunk's shard, or the first cause of its refusal, which isn't want of memory
-abbrev pub Stands : {D : Type 0}
+abbrev pub IsVerdictOn : {D : Type 0}
     → (hash : List ℕ → D) (content : D → List ℕ) (c : Counts) (root : D) (index : ℕ) (p : Piece D)
     → Result D ReedSolomonError → Type 0
-Stands hash content c root index p (Ok digest) =
+IsVerdictOn hash content c root index p (Ok digest) =
     (digest ≡ hash p.shard) × IsUnder hash content c root index p
-Stands hash content c root index p (Err e) =
+IsVerdictOn hash content c root index p (Err e) =
     IsCheckRefusal hash content c root index p e × (e ≢ NoMemory)
 
 -- the answers to chunks at these indices, in order; none is for want of memory
@@ -77,5 +77,5 @@ abbrev pub AllStand : {D : Type 0}
     → List (Result D ReedSolomonError) → Type 0
 AllStand hash content c root [] [] [] = Unit {0}
 AllStand hash content c root (i ∷ is) (p ∷ ps) (r ∷ rs) =
-    Stands hash content c root i p r × AllStand hash content c root is ps rs
+    IsVerdictOn hash content c root i p r × AllStand hash content c root is ps rs
 AllStand hash content c root _ _ _ = ⊥

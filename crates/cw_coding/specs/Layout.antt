@@ -11,8 +11,8 @@ layout k text =
     be32 (length text) ++ text ++ replicate (k * shard_len (length text) k - (length text + 4)) 0
 
 -- so many bytes behind the length that a layout begins with
-abbrev pub text_in : (laid : List ℕ) (count : ℕ) → List ℕ
-text_in laid count = take count (drop 4 laid)
+abbrev pub counted_text : (laid : List ℕ) (count : ℕ) → List ℕ
+counted_text laid count = take count (drop 4 laid)
 
 -- row i of the text's codeword, whose first k rows joined are its layout
 unfoldable pub row_at : (k : ℕ) (text : List ℕ) (i : ℕ) → List ℕ

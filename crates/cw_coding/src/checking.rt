@@ -1,7 +1,7 @@
 //! Chunks that are checked under a commitment.
 
 ghost use Rattle.std.specs.Prelude.{◌≡◌, ◌≢◌, ℕ, ◌%◌, ◌⊎◌, ◌↔◌, length, IsTrue, IfOk, IfErr, Err};
-ghost use Rattle.cw_coding.specs.Checking.{IsUnder, IsCheckRefusal, IsBadWidth, Checks, Stands};
+ghost use Rattle.cw_coding.specs.Checking.{IsUnder, IsCheckRefusal, IsBadWidth, Checks, IsVerdictOn};
 ghost use Rattle.cw_coding.specs.Checking.{AllStand, AllCheck};
 
 use crate::error::{ReedSolomonError, RsError};
@@ -157,7 +157,7 @@ fn stand_all<H: Hasher, R: Threads + Sync, S: Strategy>(
         items.push((indices[i], &shards[i]))?;
     }
     let stand = |item: &(u16, &Chunk<H::Digest>)| -> Result<H::Digest, ReedSolomonError>
-        ensures { Stands H.digest_of H.Digest.content config.entry.now commitment.entry.now
+        ensures { IsVerdictOn H.digest_of H.Digest.content config.entry.now commitment.entry.now
             item.now.0 item.now.1.now result }
     { stands::<H>(config, commitment, item.0, item.1) };
     let stood = strategy.map(rt, alloc, &items, &stand)?;
@@ -172,7 +172,8 @@ fn stands<H: Hasher>(
     index: u16,
     shard: &Chunk<H::Digest>,
 ) -> Result<H::Digest, ReedSolomonError>
-    ensures { Stands H.digest_of H.Digest.content config.now commitment.now index shard.now result }
+    ensures { IsVerdictOn H.digest_of H.Digest.content config.now commitment.now index shard.now
+        result }
 {
     let total = config.total_shards();
     if total > 65535 {
@@ -214,7 +215,8 @@ fn answer<H: Hasher>(
     shard: &Chunk<H::Digest>,
     stood: Result<H::Digest, ReedSolomonError>,
 ) -> Result<Result<CheckedChunk<H>, ReedSolomonError>, NoMemory>
-    requires { Stands H.digest_of H.Digest.content config.now commitment.now index shard.now stood }
+    requires { IsVerdictOn H.digest_of H.Digest.content config.now commitment.now index shard.now
+        stood }
     ensures checks { IfOk result
         (λ r. Checks H.digest_of H.Digest.content config.now commitment.now index shard.now r) }
     ensures memory { IfOk result (λ r. r ≢ Err ReedSolomonError.NoMemory) }

@@ -8,7 +8,7 @@ ghost use Rattle.cw_base.specs.Rows.{row_of};
 ghost use Rattle.rs_code.specs.Indices.{AreSound};
 ghost use Rattle.cw_tree.specs.Widths.{shard_len};
 ghost use Rattle.cw_tree.specs.Tree.{root_of};
-ghost use Rattle.cw_coding.specs.Layout.{layout, text_in};
+ghost use Rattle.cw_coding.specs.Layout.{layout, counted_text};
 ghost use Rattle.cw_coding.specs.Decoding.{AreRecoverable, Fits};
 ghost use Rattle.cw_coding.specs.Digests.{AreDigests};
 ghost use Rattle.cw_coding.specs.Totals.{total_of};
@@ -31,7 +31,7 @@ fn text_length(k: u16, width: usize, originals: &[u8]) -> Option<usize>
     ensures { MatchOption result
         ((text : List ℕ) → length text ≤ 2 ^ 32 - 1 → layout k text ≡ originals.now → ⊥)
         (λ count. (count ≤ 2 ^ 32 - 1) × (count + 4 ≤ length originals.now)
-        × (layout k (text_in originals.now count) ≡ originals.now)
+        × (layout k (counted_text originals.now count) ≡ originals.now)
         × (shard_len count k ≡ width)) }
 {
     let [a, b, c, d, rest @ ..] = originals else {
@@ -253,12 +253,12 @@ fn candidate<H: Hasher>(config: &Config, given: &Given<H>, originals: &[u8]) -> 
         → Fits H.digest_of H.Digest.content config.now.minimum config.now.extra root
         given.now.width given.now.indices.items given.now.rows.items given.now.compared text → ⊥)
         (λ count. (count ≤ 2 ^ 32 - 1) × (count + 4 ≤ length originals.now)
-        × (layout config.now.minimum (text_in originals.now count) ≡ originals.now)
+        × (layout config.now.minimum (counted_text originals.now count) ≡ originals.now)
         × (shard_len count config.now.minimum ≡ given.now.width)
         × ((root : H.Digest) (other : List ℕ)
         → Fits H.digest_of H.Digest.content config.now.minimum config.now.extra root
         given.now.width given.now.indices.items given.now.rows.items given.now.compared other
-        → other ≡ text_in originals.now count)) }
+        → other ≡ counted_text originals.now count)) }
 {
     prove_rows();
     let found = text_length(config.minimum(), given.width, originals);
@@ -301,7 +301,7 @@ fn text_under<H: Hasher>(
     ensures { IfOk result (λ found. MatchOption found
         (root_of H.digest_of H.Digest.content digests.items ≢ Some root.now)
         (λ text. (root_of H.digest_of H.Digest.content digests.items ≡ Some root.now)
-        × (text.items ≡ text_in rows.items count)
+        × (text.items ≡ counted_text rows.items count)
         × ((i : ℕ) → slice_index text.items i < 256))) }
 {
     let tree = tree_of::<H>(alloc, digests)?;
@@ -314,7 +314,7 @@ fn text_under<H: Hasher>(
 // The text in rows, in their room.
 fn text_behind(rows: Vec<u8>, count: usize) -> Vec<u8>
     requires { count + 4 ≤ length rows.items }
-    ensures value { result.items ≡ text_in rows.items count }
+    ensures value { result.items ≡ counted_text rows.items count }
     ensures bytes { (i : ℕ) → slice_index result.items i < 256 }
 {
     let mut text = rows;

@@ -10,7 +10,7 @@ use Rattle.cw_base.specs.Bytes.{be64}
 use Rattle.cw_base.proofs.Lengths.{length-be64}
 use Rattle.cw_ledger.specs.Frames.{FindsEither, FindsPayloads, IsBeforeOrPayloads, payload_in, payloads_from, payloads_of}
 use Rattle.cw_ledger.specs.Kept.{KeepBalances, amount_in, kept_payloads, payloads_or_none}
-use Rattle.cw_ledger.specs.Ledger.{frame_of, frames_of}
+use Rattle.cw_ledger.specs.Ledger.{frame_of, payload_frames}
 use Rattle.cw_ledger.specs.Transfers.{balances, moved_all, transfers}
 use Rattle.cw_ledger.proofs.Loading.{as_many, frames_more, one_more}
 use Rattle.cw_ledger.proofs.Moving.{balances_more, moved_all_same}
@@ -102,12 +102,12 @@ module _ (frames : List (List ℕ)) (entries : List (ℕ × ℕ)) (are : KeepBal
     pub found_kept : payloads_from 0 0 more ≡ Ok (kept_payloads more)
     found_kept = found_there ∙ ap Ok (sym payloads_are)
 
-    pub written_more : more ≡ frames_of (kept_payloads more)
+    pub written_more : more ≡ payload_frames (kept_payloads more)
     written_more =
         more_are ∙ ap (λ fs. fs ++ frame ∷ []) are.written
-        ∙ ap (λ n. frames_of (kept_payloads frames) ++ frame_of (n, payload) ∷ [])
+        ∙ ap (λ n. payload_frames (kept_payloads frames) ++ frame_of (n, payload) ∷ [])
         (sym (as_many frames entries are))
-        ∙ sym (frames_more (kept_payloads frames) payload) ∙ ap frames_of (sym payloads_are)
+        ∙ sym (frames_more (kept_payloads frames) payload) ∙ ap payload_frames (sym payloads_are)
 
     pub are_kept : (room passed : List (ℕ × ℕ)) → ((a : ℕ) → amount_in room a ≡ amount_in entries a)
         → ((a : ℕ) → amount_in passed a ≡ moved_all (amount_in room) (transfers payload) a)

@@ -8,7 +8,7 @@ use Rattle.node_disk.specs.Frames.{read_log}
 use Rattle.node_disk.specs.Records.{first_refused, refused_place}
 use Rattle.cw_ledger.specs.Frames.{first_payload, payload_in, payloads_from, payloads_of, read_payloads, with_payload}
 use Rattle.cw_ledger.specs.Kept.{KeepBalances, amount_in, kept_payloads, payloads_or_none}
-use Rattle.cw_ledger.specs.Ledger.{frame_of, frames_of}
+use Rattle.cw_ledger.specs.Ledger.{frame_of, payload_frames}
 use Rattle.cw_ledger.specs.Loading.{is_payload}
 use Rattle.cw_ledger.specs.Transfers.{balances, first_balance, moved_all, transfers}
 use Rattle.cw_ledger.proofs.Moving.{balances_more, moved_all_same, nothing_moved}
@@ -28,11 +28,11 @@ numbered_more n (y ∷ ys) x =
 
 -- one payload more is one frame more
 pub frames_more : (payloads : List (List ℕ)) (payload : List ℕ)
-    → frames_of (payloads ++ payload ∷ [])
-    ≡ frames_of payloads ++ frame_of (length payloads, payload) ∷ []
+    → payload_frames (payloads ++ payload ∷ [])
+    ≡ payload_frames payloads ++ frame_of (length payloads, payload) ∷ []
 frames_more payloads payload =
     numbered_more 0 payloads payload
-    ∙ ap (λ k. frames_of payloads ++ frame_of (k, payload) ∷ [])
+    ∙ ap (λ k. payload_frames payloads ++ frame_of (k, payload) ∷ [])
     (let e : 0 + length payloads ≡ length payloads = omega arith in e)
 
 length_numbered : (n : ℕ) (xs : List (List ℕ))
@@ -104,10 +104,10 @@ goes_on frames entries more frame payload are bytes is passed = record {
   found = found ∙ ap Ok (sym payloads_are);
   written =
       ap (λ fs. fs ++ frame ∷ []) are.written
-      ∙ ap (λ f. frames_of payloads ++ f ∷ [])
+      ∙ ap (λ f. payload_frames payloads ++ f ∷ [])
       (frame_is (length frames) frame payload bytes is
       ∙ ap (λ n. frame_of (n, payload)) (sym (as_many frames entries are)))
-      ∙ sym (frames_more payloads payload) ∙ ap frames_of (sym payloads_are);
+      ∙ sym (frames_more payloads payload) ∙ ap payload_frames (sym payloads_are);
   balanced =
       λ account. passed account
       ∙ moved_all_same (amount_in entries) (balances payloads) (transfers payload) are.balanced

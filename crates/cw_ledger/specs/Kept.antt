@@ -7,7 +7,7 @@ use Rattle.std.specs.Map.{keys_of, lookup, values_of}
 use Rattle.std.specs.Ordering.{nat_cmp}
 use Rattle.cw_ledger.specs.declared.transfer.Transfer.{Transfer}
 use Rattle.cw_ledger.specs.Frames.{payloads_from}
-use Rattle.cw_ledger.specs.Ledger.{frames_of}
+use Rattle.cw_ledger.specs.Ledger.{payload_frames}
 use Rattle.cw_ledger.specs.Transfers.{account_count, balances}
 
 -- what an account has by these entries
@@ -51,5 +51,5 @@ kept_payloads frames = payloads_or_none (payloads_from 0 0 frames)
 -- that these leave.
 pub record KeepBalances (frames : List (List ℕ)) (entries : List (ℕ × ℕ)) : Type 0 where
   pub found : payloads_from 0 0 frames ≡ Ok (kept_payloads frames)
-  pub written : frames ≡ frames_of (kept_payloads frames)
+  pub written : frames ≡ payload_frames (kept_payloads frames)
   pub balanced : (account : ℕ) → amount_in entries account ≡ balances (kept_payloads frames) account

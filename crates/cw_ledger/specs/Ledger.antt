@@ -21,26 +21,27 @@ abbrev pub frame_of : ℕ × List ℕ → List ℕ
 frame_of at = be64 at.0 ++ at.1
 
 -- the frames of payloads, the first of height 0
-abbrev pub frames_of : List (List ℕ) → List (List ℕ)
-frames_of payloads = map frame_of (enumerate_from 0 payloads)
+abbrev pub payload_frames : List (List ℕ) → List (List ℕ)
+payload_frames payloads = map frame_of (enumerate_from 0 payloads)
 
 -- the log of a replica: the frames of its payloads, the place of the last gate, whether it failed,
 -- and the disk
-abbrev pub log_of : {D : Type 0} → Ledger D → LogState D
-log_of s = record { frames = frames_of s.payloads; gate = s.gate; failed = s.failed; disk = s.disk }
+abbrev pub replica_log : {D : Type 0} → Ledger D → LogState D
+replica_log s = record
+    { frames = payload_frames s.payloads; gate = s.gate; failed = s.failed; disk = s.disk }
 
 -- a replica that found these payloads, with a log that ends at this gate of this disk
-abbrev pub started : {D : Type 0} → List (List ℕ) → ℕ → D → Ledger D
-started payloads gate disk =
+abbrev pub replica_started : {D : Type 0} → List (List ℕ) → ℕ → D → Ledger D
+replica_started payloads gate disk =
     record { payloads = payloads; gate = gate; failed = false; disk = disk }
 
 -- the same replica over another log
-abbrev pub over : {D : Type 0} → Ledger D → Ledger D → Ledger D
-over s log = record s { gate = log.gate; failed = log.failed; disk = log.disk }
+abbrev pub replica_over : {D : Type 0} → Ledger D → Ledger D → Ledger D
+replica_over s log = record s { gate = log.gate; failed = log.failed; disk = log.disk }
 
 -- the height that was applied last, where so many blocks were
-abbrev pub last_height : ℕ → Option ℕ
-last_height count = if count == 0 then None else Some (count - 1)
+abbrev pub last_applied : ℕ → Option ℕ
+last_applied count = if count == 0 then None else Some (count - 1)
 
 -- the answer to a block of this height, where the next one is of that: known below it, a gap above
 -- it, else done

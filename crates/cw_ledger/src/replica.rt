@@ -9,8 +9,8 @@ ghost use Rattle.node_disk.specs.Log.{HasAppended, HasSettled, WasCutShort, call
 ghost use Rattle.node_disk.specs.Log.{start_calls};
 ghost use Rattle.cw_ledger.specs.Frames.{FindsEither, FindsPayloads, IsBeforeOrPayloads};
 ghost use Rattle.cw_ledger.specs.Frames.{read_payloads};
-ghost use Rattle.cw_ledger.specs.Ledger.{answer_to, applied, frame_of, last_height, log_of, over};
-ghost use Rattle.cw_ledger.specs.Ledger.{started, written_for};
+ghost use Rattle.cw_ledger.specs.Ledger.{answer_to, applied, frame_of, last_applied, replica_log, replica_over};
+ghost use Rattle.cw_ledger.specs.Ledger.{replica_started, written_for};
 ghost use Rattle.cw_ledger.specs.Transfers.{balances, holdings};
 
 use crate::balances::{Balances, Holding};
@@ -80,10 +80,10 @@ impl<D: Disk> Replica<D> {
     pub fn start(alloc: Global, disk: D) -> Result<Replica<D>, (D, StoreError)>
         // The payloads are those of the bytes that it found, or a frame there is cut, too short or
         // of another height.
-        ensures ok { IfOk result (λ r. r ≡ started r.payloads r.gate r.disk) }
+        ensures ok { IfOk result (λ r. r ≡ replica_started r.payloads r.gate r.disk) }
         ensures found { IfOk result (λ r. FindsPayloads r.payloads (D.state disk).now.seen) }
         ensures settled { IfOk result
-            (λ r. HasSettled (log_of r).frames r.gate (D.state r.disk).now) }
+            (λ r. HasSettled (replica_log r).frames r.gate (D.state r.disk).now) }
         ensures on_disk { IfOk result (λ r. (image : List ℕ)
             → IsImage (D.state r.disk).now image → FindsPayloads r.payloads image) }
         ensures foreign { (place : ℕ) → IfErr result (λ e. e.1 ≡ StoreError.Foreign place
@@ -142,10 +142,11 @@ impl<D: Disk> Replica<D> {
             (λ answer. answer ≡ answer_to (length self.old.payloads) block.now.height) }
         ensures ok { OnOk result
             (self.new
-            ≡ record (over self.old self.new) { payloads = applied self.old.payloads block.now }) }
-        ensures err { OnErr result (self.new ≡ over self.old self.new) }
+            ≡ record (replica_over self.old self.new)
+            { payloads = applied self.old.payloads block.now }) }
+        ensures err { OnErr result (self.new ≡ replica_over self.old self.new) }
         ensures settled { self.new.failed ≡ false
-            → HasSettled (log_of self.new).frames self.new.gate (D.state self.new.disk).now }
+            → HasSettled (replica_log self.new).frames self.new.gate (D.state self.new.disk).now }
 
         // After it each image has all payloads, the new one too.
         ensures on_disk { OnOk result ((image : List ℕ)
@@ -159,10 +160,10 @@ impl<D: Disk> Replica<D> {
         // The device calls: those of one append, or up to the first that fails.
         ensures appended { OnOk result
             (HasAppended D.state D.continues (written_for self.old.payloads block.now)
-            (log_of self.old) (log_of self.new)) }
+            (replica_log self.old) (replica_log self.new)) }
         ensures cut_short { IsErrOf result StoreError.Disk
             → WasCutShort D.state D.continues (written_for self.old.payloads block.now)
-            (log_of self.old) (log_of self.new) }
+            (replica_log self.old) (replica_log self.new) }
         ensures calls_no_memory { IsErrOf result StoreError.NoMemory
             → IsFront (calls_of_append self.old.gate (written_for self.old.payloads block.now))
             (D.state self.old.disk) (D.state self.new.disk) }
@@ -206,23 +207,23 @@ impl<D: Disk> Replica<D> {
         requires { self.old.failed ≡ false }
         ensures ok { OnOk result
             (self.new
-            ≡ record (over self.old self.new) {
+            ≡ record (replica_over self.old self.new) {
               payloads = self.old.payloads ++ payload.now
                   ∷ [];
             }) }
-        ensures err { OnErr result (self.new ≡ over self.old self.new) }
+        ensures err { OnErr result (self.new ≡ replica_over self.old self.new) }
         ensures settled { self.new.failed ≡ false
-            → HasSettled (log_of self.new).frames self.new.gate (D.state self.new.disk).now }
+            → HasSettled (replica_log self.new).frames self.new.gate (D.state self.new.disk).now }
         ensures on_disk { OnOk result ((image : List ℕ)
             → IsImage (D.state self.new.disk).now image → FindsPayloads self.new.payloads image) }
         ensures any_moment { LeavesOnly (D.state self.old.disk) (D.state self.new.disk)
             (FindsEither self.old.payloads (self.old.payloads ++ payload.now ∷ [])) }
         ensures appended { OnOk result
             (HasAppended D.state D.continues (frame_of (length self.old.payloads, payload.now))
-            (log_of self.old) (log_of self.new)) }
+            (replica_log self.old) (replica_log self.new)) }
         ensures cut_short { IsErrOf result StoreError.Disk
             → WasCutShort D.state D.continues (frame_of (length self.old.payloads, payload.now))
-            (log_of self.old) (log_of self.new) }
+            (replica_log self.old) (replica_log self.new) }
         ensures calls_no_memory { IsErrOf result StoreError.NoMemory
             → IsFront
             (calls_of_append self.old.gate (frame_of (length self.old.payloads, payload.now)))
@@ -265,21 +266,21 @@ impl<D: Disk> Replica<D> {
     /// each image, and where no device is called that stays so.
     pub fn rests(&self)
         ensures settled { self.now.failed ≡ false
-            → HasSettled (log_of self.now).frames self.now.gate (D.state self.now.disk).now }
+            → HasSettled (replica_log self.now).frames self.now.gate (D.state self.now.disk).now }
         ensures found { self.now.failed ≡ false → (image : List ℕ)
             → IsImage (D.state self.now.disk).now image → FindsPayloads self.now.payloads image }
         ensures stays { self.now.failed ≡ false → (others : List (List ℕ))
             → LeavesOnly (D.state self.now.disk) (D.state self.now.disk)
             (FindsEither self.now.payloads others) }
         ensures nothing { self.now.failed ≡ false
-            → HasAppended D.state D.continues [] (log_of self.now) (log_of self.now) }
+            → HasAppended D.state D.continues [] (replica_log self.now) (replica_log self.now) }
     {
         let _log = &self.log;
     }
 
     /// The height that was applied last, none where none was. It takes no memory.
     pub fn height(&self) -> Option<u64>
-        ensures { result ≡ last_height (length self.now.payloads) }
+        ensures { result ≡ last_applied (length self.now.payloads) }
     {
         match self.log.frames() {
             0 => None,

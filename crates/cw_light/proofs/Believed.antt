@@ -37,7 +37,7 @@ use Rattle.cw_rules.proofs.Runs.{Gave, IsClearRun, clear_reached, handed_parts, 
 use Rattle.cw_types.proofs.Same.{same_block-true, same_block_self, same_commitment-true}
 use Rattle.cw_rules.proofs.Worlds.{IsWorldKept, get-map, kept_keep, kept_lawful, signed_backs}
 use Rattle.cw_light.specs.Believing.{IsLinkAt}
-use Rattle.cw_light.specs.Checking.{answer, broken_at, broken_below, is_named_by, is_parent_of, path_answer}
+use Rattle.cw_light.specs.Checking.{light_answer, broken_at, broken_below, is_named_by, is_parent_of, path_answer}
 use Rattle.cw_light.specs.declared.check.Answer.{Answer}
 use Rattle.cw_light.specs.declared.check.Answer.TheVariants.{BadSigners, Broken, EmptyPath, NotFinal, Yes}
 use Rattle.cw_rules.proofs.Reports.{links_end}
@@ -96,7 +96,7 @@ final_is (Nullify epoch view) p e = cc
 
 pub told : (r : Rules) (sign : ℕ → Vote → Bool) (s : Cert) (path : List Block) (height : ℕ)
     (d : Digest32)
-    → answer r sign s path ≡ Yes height d → Told r sign s path height d
+    → light_answer r sign s path ≡ Yes height d → Told r sign s path height d
 told r sign s path height d h = by_form (cases_Bool (well_formed s.vote))
   where
     by_valid : Proposal → Answer
@@ -691,7 +691,7 @@ module _ (r : Rules) (script : List Line) (w : World) (c : IsCluster r script)
 pub believed : (r : Rules) (script : List Line) (w : World) → IsCluster r script
     → outcome r (opening r script) script ≡ Ends w
     → (s : Cert) (path : List Block) (height : ℕ) (d : Digest32)
-    → answer r (signed w) s path ≡ Yes height d
+    → light_answer r (signed w) s path ≡ Yes height d
     → IsLinkAt r (report_of r script w).chain path height d ⊎ AreTwo r w path
 believed r script w c ends s path height d h =
     let t = told r (signed w) s path height d h in

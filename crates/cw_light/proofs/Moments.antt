@@ -26,7 +26,7 @@ use Rattle.cw_rules.proofs.Changes.{flags_kept}
 use Rattle.cw_rules.proofs.Written.{known_written}
 use Rattle.cw_rules_coded.proofs.Told.{told_apart}
 use Rattle.cw_light.specs.Believing.{AreWritten, IsBelieved, IsLinkAt}
-use Rattle.cw_light.specs.Checking.{answer, broken_at, path_answer}
+use Rattle.cw_light.specs.Checking.{light_answer, broken_at, path_answer}
 use Rattle.cw_light.specs.declared.check.Answer.{Answer}
 use Rattle.cw_light.specs.declared.check.Answer.TheVariants.{BadSigners, Broken, EmptyPath, NotFinal, Yes}
 use Rattle.cw_light.proofs.Believed.{AreTwo, Told, believed, told}
@@ -179,13 +179,13 @@ valid_more r before after more s h =
 yes_more : (r : Rules) (before after : ℕ → Vote → Bool)
     → ((i : ℕ) (v : Vote) → before i v ≡ true → after i v ≡ true)
     → (s : Cert) (path : List Block) (height : ℕ) (d : Digest32)
-    → answer r before s path ≡ Yes height d → answer r after s path ≡ Yes height d
+    → light_answer r before s path ≡ Yes height d → light_answer r after s path ≡ Yes height d
 yes_more r before after more s path height d h = go (told r before s path height d h)
   where
     by_valid : Proposal → Answer
     by_valid p = cond (is_valid r after s) (path_answer r p.payload path) BadSigners
 
-    go : Told r before s path height d → answer r after s path ≡ Yes height d
+    go : Told r before s path height d → light_answer r after s path ≡ Yes height d
     go t =
         let by_last : Block → Answer =
         λ last. option_map_or Broken (broken_at r t.proposal.payload path)
@@ -218,7 +218,7 @@ believed_by : (r : Rules) (script : List Line) (now end : World) → IsCluster r
     → (s : Cert) (path : List Block) (height : ℕ) (d : Digest32)
     → ((a b : Block) (c : Commitment) → In a path → In (Note.Block c b) (all_notes end)
     → r.block_bytes a ≡ r.block_bytes b → a ≡ b)
-    → answer r (signed now) s path ≡ Yes height d
+    → light_answer r (signed now) s path ≡ Yes height d
     → IsBelieved r end (report_of r script end).chain path height d
 believed_by r script now end c reaches ends s path height d apart h =
     go
@@ -245,7 +245,7 @@ believed_by r script now end c reaches ends s path height d apart h =
 pub believed_then : (r : Rules) (script : List Line) (now end : World) → IsCluster r script
     → Reaches r script now → outcome r (opening r script) script ≡ Ends end
     → (s : Cert) (path : List Block) (height : ℕ) (d : Digest32) → AreWritten r end path
-    → answer r (signed now) s path ≡ Yes height d
+    → light_answer r (signed now) s path ≡ Yes height d
     → IsBelieved r end (report_of r script end).chain path height d
 believed_then r script now end c reaches ends s path height d fit h =
     believed_by r script now end c reaches ends s path height d
@@ -258,7 +258,7 @@ pub believed_told : (r : Rules) (script : List Line) (now end : World) → Tells
     → IsCluster r script → AllByRecursion FitsLine script
     → Reaches r script now → outcome r (opening r script) script ≡ Ends end
     → (s : Cert) (path : List Block) (height : ℕ) (d : Digest32)
-    → ((b : Block) → In b path → IsBlock b) → answer r (signed now) s path ≡ Yes height d
+    → ((b : Block) → In b path → IsBlock b) → light_answer r (signed now) s path ≡ Yes height d
     → IsBelieved r end (report_of r script end).chain path height d
 believed_told r script now end tells c fits reaches ends s path height d written h =
     believed_by r script now end c reaches ends s path height d

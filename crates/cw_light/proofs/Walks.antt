@@ -12,7 +12,7 @@ use Rattle.cw_types.specs.declared.vote.Proposal.{Proposal}
 use Rattle.cw_types.specs.declared.vote.Vote.{Vote}
 use Rattle.cw_rules.specs.Accepted.{is_valid}
 use Rattle.cw_rules.specs.Rules.{Rules, digest}
-use Rattle.cw_light.specs.Checking.{answer, broken_at, broken_below, is_named_by, is_parent_of, path_answer}
+use Rattle.cw_light.specs.Checking.{light_answer, broken_at, broken_below, is_named_by, is_parent_of, path_answer}
 use Rattle.cw_light.specs.declared.check.Answer.TheVariants.{BadSigners, Broken, EmptyPath, NotFinal, Yes}
 
 drop_get : (xs : List Block) (i : ℕ) (x : Block) → slice_get xs i ≡ Some x
@@ -126,7 +126,7 @@ told_yes r c path last height d h b high is =
 pub answered : (r : Rules) (signed : ℕ → Vote → Bool) (s : Cert) (path : List Block) (p : Proposal)
     (valid : Bool) → (if well_formed s.vote then finalized s.vote else None) ≡ Some p
     → is_valid r signed s ≡ valid
-    → answer r signed s path ≡ (if valid then path_answer r p.payload path else BadSigners)
+    → light_answer r signed s path ≡ (if valid then path_answer r p.payload path else BadSigners)
 answered r signed s path p valid final is =
     ap
     (λ o. option_map_or

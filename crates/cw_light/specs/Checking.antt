@@ -44,7 +44,7 @@ path_answer r c path =
     (last_or None path) EmptyPath
 
 -- what is told about a certificate and a path: the first that holds
-abbrev pub answer : Rules → (ℕ → Vote → Bool) → Cert → List Block → Answer
-answer r signed s path =
+abbrev pub light_answer : Rules → (ℕ → Vote → Bool) → Cert → List Block → Answer
+light_answer r signed s path =
     option_map_or (λ p. if is_valid r signed s then path_answer r p.payload path else BadSigners)
     (if well_formed s.vote then finalized s.vote else None) NotFinal

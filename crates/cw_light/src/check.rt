@@ -4,7 +4,7 @@ ghost use Rattle.std.specs.Prelude.{◌≡◌, ℕ, Bool, IfOk, if◌then◌else
 ghost use Rattle.cw_rules_coded.specs.Coded.{coded};
 ghost use Rattle.cw_types.specs.Block.{Block};
 ghost use Rattle.cw_types.specs.Votes as votes;
-ghost use Rattle.cw_light.specs.Checking.{answer, path_answer};
+ghost use Rattle.cw_light.specs.Checking.{light_answer, path_answer};
 
 use crate::path::broken_at;
 use crate::signers::is_valid;
@@ -54,7 +54,8 @@ pub fn light_check<H: Hasher<Digest = Digest32>, R: Threads + Sync, V: Verifier,
     strategy: &S,
 ) -> Result<Answer, NoMemory>
     ensures { (backlog : ℕ) (accepts : Block → Block → Bool)
-        → IfOk result (λ told. told ≡ answer (coded H.digest_of committees.now backlog accepts)
+        → IfOk result
+        (λ told. told ≡ light_answer (coded H.digest_of committees.now backlog accepts)
         (V.signs verifier.now) cert.now path.now) }
 {
     let Some(proposal) = finalized(&cert.vote) else {

@@ -13,7 +13,7 @@ ghost use Rattle.cw_rules.specs.Rules.{Rules};
 ghost use Rattle.cw_rules.specs.Telling.{FitsLine, TellsBlocks};
 ghost use Rattle.cw_rules.specs.World.{Line, World, opening, signed};
 ghost use Rattle.cw_light.specs.Believing.{AreWritten, IsBelieved};
-ghost use Rattle.cw_light.specs.Checking.{answer};
+ghost use Rattle.cw_light.specs.Checking.{light_answer};
 
 use crate::check::Answer;
 
@@ -32,12 +32,13 @@ pub fn light_laws()
         → IsCluster r script → AllByRecursion FitsLine script
         → Reaches r script now → outcome r (opening r script) script ≡ Ends end
         → (s : Cert) (path : List Block) (height : ℕ) (d : Digest32)
-        → ((b : Block) → In b path → IsBlock b) → answer r (signed now) s path ≡ Answer.Yes height d
+        → ((b : Block) → In b path → IsBlock b) → light_answer r (signed now) s path
+        ≡ Answer.Yes height d
         → IsBelieved r end (report_of r script end).chain path height d }
     // or whatever it brings in, where each block that an honest member noted can be written
     ensures written { (r : Rules) (script : List Line) (now end : World)
         → IsCluster r script → Reaches r script now → outcome r (opening r script) script ≡ Ends end
         → (s : Cert) (path : List Block) (height : ℕ) (d : Digest32) → AreWritten r end path
-        → answer r (signed now) s path ≡ Answer.Yes height d
+        → light_answer r (signed now) s path ≡ Answer.Yes height d
         → IsBelieved r end (report_of r script end).chain path height d }
 {}

@@ -104,5 +104,5 @@ abbrev pub coded : (List ℕ → Digest32) → Epochs → ℕ → (Block → Blo
 coded hash epochs backlog accepts = ruled Chunked hash epochs backlog accepts
 
 -- for blocks that travel whole
-abbrev pub uncut : (List ℕ → Digest32) → Epochs → ℕ → (Block → Block → Bool) → Rules
-uncut hash epochs backlog accepts = ruled Uncut hash epochs backlog accepts
+abbrev pub uncut_rules : (List ℕ → Digest32) → Epochs → ℕ → (Block → Block → Bool) → Rules
+uncut_rules hash epochs backlog accepts = ruled Uncut hash epochs backlog accepts

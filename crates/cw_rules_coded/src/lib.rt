@@ -12,7 +12,7 @@ ghost use Rattle.cw_rules.specs.Coding.{IsCoder};
 ghost use Rattle.cw_rules.specs.Rules.{chunks, commit, config, digest, genesis};
 ghost use Rattle.cw_rules.specs.Telling.{TellsBlocks};
 ghost use Rattle.cw_rules.specs.declared.travel.Travel.{Travel};
-ghost use Rattle.cw_rules_coded.specs.Coded.{coded, ruled, uncut};
+ghost use Rattle.cw_rules_coded.specs.Coded.{coded, ruled, uncut_rules};
 ghost use Rattle.cw_rules_coded.specs.Sums.{hi_block, summed};
 ghost use Rattle.cw_tree.specs.Widths.{shard_len};
 
@@ -65,7 +65,7 @@ pub fn commits_by_rules()
         (coded hash epochs backlog accepts) b }
     ensures whole { (hash : List ℕ → Digest32) (epochs : Epochs) (backlog : ℕ) (accepts : Block
         → Block → Bool) (b : Block)
-        → commit (uncut hash epochs backlog accepts) b ≡ record {
+        → commit (uncut_rules hash epochs backlog accepts) b ≡ record {
           block = hash (block_bytes b);
           root = hash (block_bytes b);
           context = hash (context_bytes b.context);

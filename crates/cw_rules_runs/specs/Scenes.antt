@@ -61,18 +61,18 @@ two_offers =
 abbrev pub sum_hash : List ℕ → Digest32
 sum_hash xs = record { 0 = sum xs ∷ [] }
 
-abbrev pub summed : List Block → Rules
-summed blocks = hashed_by sum_hash (single 4) 3 blocks
+abbrev pub sum_rules : List Block → Rules
+sum_rules blocks = hashed_by sum_hash (single 4) 3 blocks
 
 -- two blocks of one digest
 abbrev pub ascending : Block
-ascending = block_over_genesis (summed []) (1 ∷ 2 ∷ [])
+ascending = block_over_genesis (sum_rules []) (1 ∷ 2 ∷ [])
 
 abbrev pub descending : Block
-descending = block_over_genesis (summed []) (2 ∷ 1 ∷ [])
+descending = block_over_genesis (sum_rules []) (2 ∷ 1 ∷ [])
 
 abbrev pub adding : Rules
-adding = summed (ascending ∷ descending ∷ [])
+adding = sum_rules (ascending ∷ descending ∷ [])
 
 -- member 1 offers both, and two members come to note one each
 abbrev pub colliding : List Line
@@ -91,8 +91,8 @@ abbrev pub proposed_next : List Line
 proposed_next = certified ++ Do 2 (Propose (62 ∷ [])) ∷ []
 
 -- it is proposed again, and finalized so
-abbrev pub again : List Line
-again =
+abbrev pub proposed_again : List Line
+proposed_again =
     proposed_next
     ++ Do 0 (Deliver 16) ∷ Do 1 (Deliver 16) ∷ Do 2 (Deliver 17) ∷ Do 2 (Deliver 18) ∷ []
 

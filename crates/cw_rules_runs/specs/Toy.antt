@@ -94,13 +94,13 @@ abbrev pub kinds : List Sent → List (ℕ × ℕ)
 kinds = map (λ s. (s.from, kind s.message))
 
 -- the signers of a certificate
-abbrev pub signers_of : Message → Option (List ℕ)
-signers_of (Message.Cert s) = Some s.signers
-signers_of _ = None
+abbrev pub message_signers : Message → Option (List ℕ)
+message_signers (Message.Cert s) = Some s.signers
+message_signers _ = None
 
 -- who signed each certificate that was sent
 abbrev pub signers : List Sent → List (List ℕ)
-signers = filter_map (λ s. signers_of s.message)
+signers = filter_map (λ s. message_signers s.message)
 
 -- the proposal that a vote or a certificate names
 abbrev pub proposal_in : Message → Option Proposal
@@ -114,8 +114,8 @@ payloads =
     filter_map (λ s. option_and_then (λ p. last_or None p.payload.block.0) (proposal_in s.message))
 
 -- how many notes each member has, and how many blocks it handed out since its start
-abbrev pub counts : World → List (ℕ × ℕ)
-counts w =
+abbrev pub note_counts : World → List (ℕ × ℕ)
+note_counts w =
     map (λ o. option_map_or (λ m. (length (member_notes m), length m.given)) o (0, 0)) w.members
 
 -- to whom a message goes: 100 stands for all
@@ -131,18 +131,18 @@ of_vote (Finalize p) = 2 ∷ p.epoch ∷ p.view ∷ p.parent ∷ []
 
 -- what a message says: its tag, and a chunk's place, a vote with its signer or the number of its
 -- signers, who asks for what, or a height
-abbrev pub says : Message → List ℕ
-says (Message.Shard c x) = 0 ∷ x.index ∷ []
-says (Message.Vote i v) = 1 ∷ i ∷ of_vote v
-says (Message.Cert s) = 2 ∷ length s.signers ∷ of_vote s.vote
-says (Message.Ask i c) = 3 ∷ i ∷ []
-says (Message.AskHeight i h) = 4 ∷ i ∷ h ∷ []
-says (Message.Block b) = 5 ∷ b.height ∷ []
-says (Message.Junk bytes) = 6 ∷ bytes
+abbrev pub message_says : Message → List ℕ
+message_says (Message.Shard c x) = 0 ∷ x.index ∷ []
+message_says (Message.Vote i v) = 1 ∷ i ∷ of_vote v
+message_says (Message.Cert s) = 2 ∷ length s.signers ∷ of_vote s.vote
+message_says (Message.Ask i c) = 3 ∷ i ∷ []
+message_says (Message.AskHeight i h) = 4 ∷ i ∷ h ∷ []
+message_says (Message.Block b) = 5 ∷ b.height ∷ []
+message_says (Message.Junk bytes) = 6 ∷ bytes
 
 -- from that number on: who sent what to whom
 abbrev pub told_from : ℕ → List Sent → List (List ℕ)
-told_from low pool = map (λ s. s.from ∷ goes s.to ∷ says s.message) (drop low pool)
+told_from low pool = map (λ s. s.from ∷ goes s.to ∷ message_says s.message) (drop low pool)
 
 -- the same without the parents of votes and without who asks
 abbrev pub in_short : Vote → List ℕ

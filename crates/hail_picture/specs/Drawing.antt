@@ -5,7 +5,7 @@ use Rattle.cw_types.specs.Encoding.{block_bytes}
 use Rattle.cw_rules.specs.Report.{Entry, Report as Reported}
 use Rattle.cw_rules.specs.World.{Line}
 use Rattle.cw_rules.specs.declared.travel.Travel.TheVariants as travel
-use Rattle.hail_script.specs.Grammar.{marks, script_of}
+use Rattle.hail_script.specs.Grammar.{faulty_marks, script_of}
 use Rattle.hail_script.specs.Scenario.{Scenario}
 use Rattle.run_picture.specs.Picture.{picture}
 use Rattle.run_picture.specs.Steps.{Step}
@@ -32,9 +32,9 @@ steps_of [] (e ∷ entries) = []
 steps_of (l ∷ lines) (e ∷ entries) = step_of l e ∷ steps_of lines entries
 
 -- the picture of a script's report
-abbrev pub picture_of : (List ℕ → Digest32) → Scenario → Reported → List ℕ
-picture_of hash s r =
-    picture (marks s.lines s.committees.total) (steps_of s.lines r.steps)
+abbrev pub picture_of_report : (List ℕ → Digest32) → Scenario → Reported → List ℕ
+picture_of_report hash s r =
+    picture (faulty_marks s.lines s.committees.total) (steps_of s.lines r.steps)
     (map (λ b. hash (block_bytes b)) r.chain)
 
 -- the text spells a script, this is the report of its run, and its picture is due
@@ -43,7 +43,7 @@ pub record IsDrawn {H : Type 0} (hash : List ℕ → Digest32) (text : List ℕ)
   pub reported : IsReport travel.Chunked hash text report
   pub script : Scenario
   pub in_grammar : script_of text ≡ Ok script
-  pub drawn : due ≡ picture_of hash script (shown_report report)
+  pub drawn : due ≡ picture_of_report hash script (shown_report report)
 
 -- the answer to words
 abbrev pub usage_line : List ℕ

@@ -22,7 +22,7 @@ pub(crate) fn picture_of<H: Hasher<Digest = Digest32>>(
 ) -> Result<Vec<u8>, NoMemory>
     ensures { IfOk result
         (λ text. text.items
-        ≡ spec.picture_of H.digest_of ran.now.script (shown_report ran.now.report)) }
+        ≡ spec.picture_of_report H.digest_of ran.now.script (shown_report ran.now.report)) }
 {
     let faulty = ran.script.faulty(alloc)?;
     let steps = steps_of(alloc, ran.script.lines(), ran.report.steps.as_slice())?;

@@ -18,17 +18,19 @@ use Rattle.hail_script.proofs.Sized.{sound_known, sound_sized, sound_there}
 -- at most f members of each list are marked, and so faulty
 marked_all : (lines : List Line) (total : ℕ) (lists : List (List ℕ))
     → list_all (list_all (λ i. nat_lt i total)) lists ≡ true
-    → list_all (admission.bears (grammar.marks lines total)) lists
+    → list_all (admission.marks_bear (grammar.faulty_marks lines total)) lists
     ≡ list_all (grammar.bears lines) lists
 marked_all lines total [] h = refl
 marked_all lines total (x ∷ xs) h =
     let one = bears_same lines total x (and_parts (list_all (λ i. nat_lt i total) x) _ h).0 in
     let more = marked_all lines total xs (and_parts (list_all (λ i. nat_lt i total) x) _ h).1 in
-    ap (λ (b : Bool). b && list_all (admission.bears (grammar.marks lines total)) xs) one
+    ap (λ (b : Bool). b && list_all (admission.marks_bear (grammar.faulty_marks lines total)) xs)
+    one
     ∙ ap (λ (b : Bool). grammar.bears lines x && b) more
 
 pub sound_marked : (s : Scenario) → is_sound s.committees ≡ true
-    → list_all (admission.bears (grammar.marks s.lines s.committees.total)) s.committees.lists
+    → list_all (admission.marks_bear (grammar.faulty_marks s.lines s.committees.total))
+    s.committees.lists
     ≡ list_all (grammar.bears s.lines) s.committees.lists
 sound_marked s h =
     marked_all s.lines s.committees.total s.committees.lists (sound_there s.committees h)

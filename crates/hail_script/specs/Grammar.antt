@@ -97,8 +97,8 @@ abbrev pub is_faulty_in : List Line → ℕ → Bool
 is_faulty_in lines i = list_any (faults i) lines
 
 -- for each member, whether some line makes it faulty
-abbrev pub marks : List Line → ℕ → List Bool
-marks lines total = map (is_faulty_in lines) (range_with_len 0 total)
+abbrev pub faulty_marks : List Line → ℕ → List Bool
+faulty_marks lines total = map (is_faulty_in lines) (range_with_len 0 total)
 
 -- the lines make at most f members of the list faulty
 abbrev pub bears : List Line → List ℕ → Bool

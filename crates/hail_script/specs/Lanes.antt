@@ -37,15 +37,15 @@ others_from head left at (line ∷ more) =
     else (at, line) ∷ others_from head left (at + 1) more
 
 -- one event more, if the line stands behind the head
-abbrev pub counted : ℕ → ℕ → ℕ → ℕ
-counted head at count = if nat_lt head at then count + 1 else count
+abbrev pub counted_event : ℕ → ℕ → ℕ → ℕ
+counted_event head at count = if nat_lt head at then count + 1 else count
 
 -- how many events stand before each lane, behind the beginning of the one before it
 abbrev pub sizes_from : ℕ → ℕ → ℕ → ℕ → List (List ℕ) → List ℕ
 sizes_from head left at count [] = []
 sizes_from head left at count (line ∷ more) =
     if begins head left at line then count ∷ sizes_from head (left - 1) (at + 1) 0 more
-    else sizes_from head left (at + 1) (counted head at count) more
+    else sizes_from head left (at + 1) (counted_event head at count) more
 
 abbrev pub sizes_in : List (List ℕ) → List ℕ
 sizes_in text = sizes_from (head_in text) 64 1 0 text
@@ -61,14 +61,14 @@ abbrev pub others_in : List (List ℕ) → List (ℕ × List ℕ)
 others_in text = others_from (head_in text) 64 1 text ++ missed (sizes_in text) (length text)
 
 -- the number of a line by its place among these
-abbrev pub number_at : List ℕ → ℕ → ℕ
-number_at numbers at = option_map_or (λ number. number) (slice_get numbers (at - 1)) at
+abbrev pub line_number_at : List ℕ → ℕ → ℕ
+line_number_at numbers at = option_map_or (λ number. number) (slice_get numbers (at - 1)) at
 
 -- a cause, with the number of its line in the text
 abbrev pub told : List ℕ → RunError → RunError
-told numbers (Syntax at) = Syntax (number_at numbers at)
-told numbers (UnknownMember at) = UnknownMember (number_at numbers at)
-told numbers (OversizeBlock at) = OversizeBlock (number_at numbers at)
+told numbers (Syntax at) = Syntax (line_number_at numbers at)
+told numbers (UnknownMember at) = UnknownMember (line_number_at numbers at)
+told numbers (OversizeBlock at) = OversizeBlock (line_number_at numbers at)
 told numbers e = e
 
 -- a script with lanes: the script of all its event lines, the number of each, and how many events

@@ -133,7 +133,7 @@ fn is_lane(head: u64, begun: usize, number: u64, line: &[u8]) -> bool
 
 fn counted(head: u64, number: u64, count: u64) -> u64
     requires { count < number }
-    ensures { result ≡ lanes.counted head number count }
+    ensures { result ≡ lanes.counted_event head number count }
 {
     if number > head { count + 1 } else { count }
 }
@@ -202,7 +202,7 @@ fn copied(alloc: Global, numbers: &[u64]) -> Result<Items<u64>, NoMemory>
 
 // The number of a line by its place among these.
 fn number_at(numbers: &[u64], at: u64) -> u64
-    ensures { result ≡ lanes.number_at numbers.now at }
+    ensures { result ≡ lanes.line_number_at numbers.now at }
 {
     match numbers.get(at.saturating_sub(1) as usize) {
         Some(number) => *number,

@@ -69,7 +69,7 @@ pub(crate) fn first_oversize(first: u64, events: &[RawLine]) -> Option<u64>
 /// For each member, whether some line makes it faulty.
 pub(crate) fn marks_of(alloc: Global, total: u16, events: &[RawLine]) -> Result<Vec<bool>, NoMemory>
     ensures { IfOk result
-        (λ marks. marks.items ≡ grammar.marks (map raw_line_of events.now) total) }
+        (λ marks. marks.items ≡ grammar.faulty_marks (map raw_line_of events.now) total) }
 {
     let mut marks = unmarked(alloc, total)?;
     for event in events {
@@ -79,7 +79,7 @@ pub(crate) fn marks_of(alloc: Global, total: u16, events: &[RawLine]) -> Result<
 }
 
 fn unmarked(alloc: Global, total: u16) -> Result<Vec<bool>, NoMemory>
-    ensures { IfOk result (λ marks. marks.items ≡ grammar.marks [] total) }
+    ensures { IfOk result (λ marks. marks.items ≡ grammar.faulty_marks [] total) }
 {
     let mut marks = Vec::new(alloc);
     for _member in 0..total {
@@ -90,7 +90,7 @@ fn unmarked(alloc: Global, total: u16) -> Result<Vec<bool>, NoMemory>
 
 // Marks the member that a line makes faulty.
 fn mark(marks: &mut Vec<bool>, line: &RawLine)
-    ensures { marks.new.items ≡ admission.marked marks.old.items (raw_line_of line.now) }
+    ensures { marks.new.items ≡ admission.with_faulty marks.old.items (raw_line_of line.now) }
 {
     if let RawLine::Faulty(member, _) = line {
         let member = *member as usize;
@@ -120,14 +120,14 @@ fn count_marked(marks: &[bool], list: &[u16]) -> usize
 }
 
 fn bears(marks: &[bool], list: &[u16]) -> bool
-    ensures { result ≡ admission.bears marks.now list.now }
+    ensures { result ≡ admission.marks_bear marks.now list.now }
 {
     count_marked(marks, list) <= list.len().saturating_sub(1) / 3
 }
 
 /// Whether at most f members of each list are marked.
 pub(crate) fn bears_all(marks: &[bool], committees: &Committees) -> bool
-    ensures { result ≡ list_all (admission.bears marks.now) committees.now.lists }
+    ensures { result ≡ list_all (admission.marks_bear marks.now) committees.now.lists }
 {
     for list in committees.lists() {
         if !bears(marks, list.as_slice()) {

@@ -44,7 +44,7 @@ pub struct Script {
 impl Model for Script {
     ghost use Rattle.std.specs.Prelude.{◌≡◌, ◌≤◌};
     ghost use Rattle.hail_script.specs.Scenario.{Scenario};
-    ghost use Rattle.hail_script.specs.Grammar.{IsRunnable, first_event, marks};
+    ghost use Rattle.hail_script.specs.Grammar.{IsRunnable, first_event, faulty_marks};
 
     ghost Value = { Scenario };
 
@@ -63,7 +63,7 @@ impl Model for Script {
           backlog = s.backlog;
           lines = s.events;
         })
-        × (s.faulty.items ≡ marks s.events s.committees.total) };
+        × (s.faulty.items ≡ faulty_marks s.events s.committees.total) };
 }
 
 // The committees with these members.
@@ -382,7 +382,7 @@ impl Script {
     /// For each member, whether some line makes it faulty.
     pub fn faulty(&self, alloc: Global) -> Result<Vec<bool>, NoMemory>
         ensures { IfOk result
-            (λ marks. marks.items ≡ grammar.marks self.now.lines self.now.committees.total) }
+            (λ marks. marks.items ≡ grammar.faulty_marks self.now.lines self.now.committees.total) }
     {
         Ok(Vec::from_slice(alloc, &self.faulty)?)
     }

@@ -16,12 +16,12 @@ use Rattle.hail_world.specs.declared.blocks.KnownBlocks.{KnownBlocks}
 use Rattle.hail_world.specs.declared.place.Place.{Place}
 use Rattle.hail_world.specs.Known.{AreKnown, Knows, blocks_in}
 use Rattle.hail_world.specs.Places.{SitAs, notes_at}
-use Rattle.hail_world.specs.Runs.{HasGrown, notes_of}
+use Rattle.hail_world.specs.Runs.{HasGrown, notes_of_place}
 use Rattle.hail_world.specs.Seats.{Seat}
 use Rattle.hail_world.proofs.Playing.{seated_notes}
 
 abbrev notes_in : List (Option Member) → List Note
-notes_in os = flat_map notes_of os
+notes_in os = flat_map notes_of_place os
 
 blocks_is : (os : List (Option Member)) → blocks_of os ≡ blocks_in (notes_in os)
 blocks_is [] = refl
@@ -31,19 +31,19 @@ blocks_is (Some m ∷ os) =
     ∙ sym (filter_map-append noted_block (member_notes m) (notes_in os))
 
 pub same_notes : (ps : List (Place Seat)) (os : List (Option Member)) → SitAs ps os
-    → map notes_at ps ≡ map notes_of os
+    → map notes_at ps ≡ map notes_of_place os
 same_notes [] [] h = refl
 same_notes [] (o ∷ os) h = absurd h
 same_notes (p ∷ ps) [] h = absurd h
 same_notes (p ∷ ps) (o ∷ os) h =
     ap (λ (l : List Note). l ∷ map notes_at ps) (seated_notes p o h.0)
-    ∙ ap (λ (l : List (List Note)). notes_of o ∷ l) (same_notes ps os h.1)
+    ∙ ap (λ (l : List (List Note)). notes_of_place o ∷ l) (same_notes ps os h.1)
 
 own_at : (ps : List (Place Seat)) (os : List (Option Member)) (i : ℕ) (d : Place Seat) → SitAs ps os
     → i < length ps → notes_in (take 1 (drop i os)) ≡ notes_at (get_or ps i d)
 own_at [] os i d h lt = absurd (omega arith)
 own_at (p ∷ ps) [] i d h lt = absurd h
-own_at (p ∷ ps) (o ∷ os) zero d h lt = append-nil (notes_of o) ∙ sym (seated_notes p o h.0)
+own_at (p ∷ ps) (o ∷ os) zero d h lt = append-nil (notes_of_place o) ∙ sym (seated_notes p o h.0)
 own_at (p ∷ ps) (o ∷ os) (suc i) d h lt = own_at ps os i d h.1 (omega arith)
 
 parts : (os : List (Option Member)) (i : ℕ)
@@ -51,13 +51,13 @@ parts : (os : List (Option Member)) (i : ℕ)
     ≡ notes_in (take i os) ++ (notes_in (take 1 (drop i os)) ++ notes_in (drop (i + 1) os))
 parts [] zero = refl
 parts [] (suc i) = let n : suc i + 1 ≡ suc (i + 1) = omega arith in rw n refl
-parts (o ∷ os) zero = ap (λ (l : List Note). l ++ notes_in os) (sym (append-nil (notes_of o)))
+parts (o ∷ os) zero = ap (λ (l : List Note). l ++ notes_in os) (sym (append-nil (notes_of_place o)))
 parts (o ∷ os) (suc i) =
     let n : suc i + 1 ≡ suc (i + 1) = omega arith in
     rw n
-    (ap (λ (l : List Note). notes_of o ++ l) (parts os i)
+    (ap (λ (l : List Note). notes_of_place o ++ l) (parts os i)
     ∙ sym
-    (append_assoc (notes_of o) (notes_in (take i os))
+    (append_assoc (notes_of_place o) (notes_in (take i os))
     (notes_in (take 1 (drop i os)) ++ notes_in (drop (i + 1) os))))
 
 three : (low own high : List Note)

@@ -12,7 +12,7 @@ use Rattle.hail_world.specs.declared.place.Place.TheVariants as place
 use Rattle.marshal.specs.Frames.{FindsNotes}
 use Rattle.hail_world.specs.Offers.{some_of}
 use Rattle.hail_world.specs.Places.{SitAs, WorkBy, SitsAs, WorksBy}
-use Rattle.hail_world.specs.Reports.{AreNodesOf, HoldNotes, IsLiveAs, IsNodeOf, numbered}
+use Rattle.hail_world.specs.Reports.{AreNodesOf, HoldNotes, IsLiveAs, IsNodeOfMember, numbered}
 use Rattle.hail_world.specs.Runs.{HandsBack}
 use Rattle.hail_world.specs.Seats.{Seat}
 use Rattle.hail_world.proofs.Cutting.{at_work}
@@ -104,7 +104,7 @@ one r i (place.Live q) (Some x) closed ms at ds ns s m c h n =
     let held : FindsNotes x.frames (memory_state q.log.disk).now.seen =
     subst (λ (y : Member). FindsNotes y.frames (memory_state q.log.disk).now.seen) m
     (at_work q works) in
-    let node : IsNodeOf r i x (memory_state q.log.disk).now.seen q =
+    let node : IsNodeOfMember r i x (memory_state q.log.disk).now.seen q =
     record {
       live = ap (λ (y : Member). y.live) (sym m) ∙ works.live;
       id = s.1;

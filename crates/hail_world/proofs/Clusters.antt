@@ -15,15 +15,15 @@ use Rattle.cw_rules.specs.Rules.{Rules, genesis}
 use Rattle.cw_rules.specs.Step.{start}
 use Rattle.cw_rules.specs.World.{Line, World, faults, opening}
 use Rattle.cw_rules.specs.declared.travel.Travel.{Travel}
-use Rattle.hail_script.specs.Grammar.{marks}
+use Rattle.hail_script.specs.Grammar.{faulty_marks}
 use Rattle.hail_script.specs.Scenario.{Scenario}
 use Rattle.hail_script.specs.declared.error.RunError.{RunError}
 use Rattle.hail_world.specs.declared.blocks.KnownBlocks.{KnownBlocks}
 use Rattle.hail_world.specs.declared.place.Place.{Place}
 use Rattle.hail_world.specs.declared.report.Report.{Report}
-use Rattle.hail_world.specs.Clusters.{Cluster, IsUnderWay, Stands, row_at, rows_at, steps_in, world_in}
+use Rattle.hail_world.specs.Clusters.{Cluster, IsUnderWay, ClusterStands, row_at, rows_at, steps_in, world_in}
 use Rattle.hail_world.specs.Known.{AreKnown}
-use Rattle.hail_world.specs.Places.{SitAs, WorkBy, rules_of}
+use Rattle.hail_world.specs.Places.{SitAs, WorkBy, script_rules}
 use Rattle.hail_world.specs.Played.{Begin, HavePlayed, IsReportOf, lines_of}
 use Rattle.hail_world.specs.Runs.{GoesBy, IsStopped, opened}
 use Rattle.hail_world.specs.Seats.{Seat}
@@ -149,15 +149,15 @@ begins r lines turns at line there cluster =
 pub opens : (hash : List ℕ → Digest32) (travel : Travel) (s : Scenario) (opening : List Entry)
     (turns : List (ℕ × ℕ)) (steps : List Entry) (places : List (Place Seat)) (known : KnownBlocks)
     (faulty : List Bool)
-    → s.travel ≡ travel → opening ≡ opening_entries (rules_of hash s) s.lines → turns ≡ []
-    → steps ≡ [] → SitAs places (opened hash s).members → WorkBy (rules_of hash s) 0 places
+    → s.travel ≡ travel → opening ≡ opening_entries (script_rules hash s) s.lines → turns ≡ []
+    → steps ≡ [] → SitAs places (opened hash s).members → WorkBy (script_rules hash s) 0 places
     → length places ≡ s.committees.total
-    → AreKnown (rules_of hash s) known (genesis (rules_of hash s) ∷ [])
-    → faulty ≡ marks s.lines s.committees.total
-    → Stands hash travel s opening (rows_at s.lines turns) false steps places known faulty
+    → AreKnown (script_rules hash s) known (genesis (script_rules hash s) ∷ [])
+    → faulty ≡ faulty_marks s.lines s.committees.total
+    → ClusterStands hash travel s opening (rows_at s.lines turns) false steps places known faulty
 opens hash travel s opening turns steps places known faulty way told no_turns no_steps members
     sound count knows flags =
-    let r = rules_of hash s in
+    let r = script_rules hash s in
     let going : IsUnderWay hash s [] [] places known faulty =
     record {
       played =
@@ -173,16 +173,17 @@ opens hash travel s opening turns steps places known faulty way told no_turns no
 pub turned : (hash : List ℕ → Digest32) (travel : Travel) (s : Scenario) (opening : List Entry)
     (turns more : List (ℕ × ℕ)) (steps told : List Entry) (places : List (Place Seat))
     (known : KnownBlocks) (faulty : List Bool) (number at : ℕ) (line : Line) (entry : Entry)
-    → s.travel ≡ travel → opening ≡ opening_entries (rules_of hash s) s.lines
+    → s.travel ≡ travel → opening ≡ opening_entries (script_rules hash s) s.lines
     → slice_get s.lines at ≡ Some line
-    → HavePlayed (rules_of hash s) (opened hash s) (rows_at s.lines turns ++ (number, line) ∷ [])
+    → HavePlayed (script_rules hash s) (opened hash s)
+    (rows_at s.lines turns ++ (number, line) ∷ [])
     (steps ++ entry ∷ []) places known faulty
-    → WorkBy (rules_of hash s) 0 places → length places ≡ s.committees.total
+    → WorkBy (script_rules hash s) 0 places → length places ≡ s.committees.total
     → more ≡ turns ++ (number, at) ∷ [] → told ≡ steps ++ entry ∷ []
-    → Stands hash travel s opening (rows_at s.lines more) false told places known faulty
+    → ClusterStands hash travel s opening (rows_at s.lines more) false told places known faulty
 turned hash travel s opening turns more steps told places known faulty number at line entry way
     opens there plays sound count turn adds =
-    let r = rules_of hash s in
+    let r = script_rules hash s in
     let w = opened hash s in
     let rows : rows_at s.lines more ≡ rows_at s.lines turns ++ (number, line) ∷ [] =
     ap (λ (l : List (ℕ × ℕ)). rows_at s.lines l) turn
@@ -252,42 +253,43 @@ module _ (hash : List ℕ → Digest32) (s : Scenario) (turns : List (ℕ × ℕ
 
   -- a line that stops them
   pub seen_stopped : (at : ℕ) (mine line : Line) (e : RunError) → slice_get s.lines at ≡ Some mine
-      → IsStopped (rules_of hash s) (opened hash s)
+      → IsStopped (script_rules hash s) (opened hash s)
       (lines_of (rows_at s.lines turns) ++ mine ∷ []) e
       → slice_get c.script.lines at ≡ Some line
-      → IsStopped (rules_of hash c.script) (opened hash c.script) (lines_of c.rows ++ line ∷ []) e
+      → IsStopped (script_rules hash c.script) (opened hash c.script) (lines_of c.rows ++ line ∷ [])
+      e
   seen_stopped at mine line e here h there =
       let same : mine ≡ line =
       (let o : Some mine ≡ Some line = sym here ∙ there_inside at line there in cc) in
       subst
-      (λ (k : Cluster). IsStopped (rules_of hash k.script) (opened hash k.script)
+      (λ (k : Cluster). IsStopped (script_rules hash k.script) (opened hash k.script)
       (lines_of k.rows ++ line ∷ []) e)
       is
       (subst
-      (λ (l : Line). IsStopped (rules_of hash s) (opened hash s)
+      (λ (l : Line). IsStopped (script_rules hash s) (opened hash s)
       (lines_of (rows_at s.lines turns) ++ l ∷ []) e)
       same h)
 
   -- the report of its lines
   pub seen_end : {H W : Type 0} (travel : Travel) (opening steps : List Entry)
       (places : List (Place Seat)) (known : KnownBlocks) (faulty : List Bool) (report : Report H W)
-      → Stands hash travel s opening (rows_at s.lines turns) over steps places known faulty
+      → ClusterStands hash travel s opening (rows_at s.lines turns) over steps places known faulty
       → c.over ≡ false
       → ((r : Rules) (w : World) → GoesBy hash r → WorkBy r 0 places → SitAs places w.members
       → IsReportOf r w opening steps report)
-      → IsReportOf (rules_of hash c.script) (world_in hash c)
-      (opening_entries (rules_of hash c.script) c.script.lines) (steps_in hash c) report
+      → IsReportOf (script_rules hash c.script) (world_in hash c)
+      (opening_entries (script_rules hash c.script) c.script.lines) (steps_in hash c) report
   seen_end travel opening steps places known faulty report h whole told =
       let k : Cluster = record { script = s; rows = rows_at s.lines turns; over = over } in
       let u = h.2 (whole_inside whole) in
-      let r = rules_of hash s in
+      let r = script_rules hash s in
       let w : World = world_in hash k in
       let tells : IsReportOf r w opening steps report =
       told r w (record { hashes = refl; blocks = refl; contexts = refl }) u.sound
       u.played.members in
       subst
-      (λ (x : Cluster). IsReportOf (rules_of hash x.script) (world_in hash x)
-      (opening_entries (rules_of hash x.script) x.script.lines) (steps_in hash x) report)
+      (λ (x : Cluster). IsReportOf (script_rules hash x.script) (world_in hash x)
+      (opening_entries (script_rules hash x.script) x.script.lines) (steps_in hash x) report)
       is
       (subst (λ (l : List Entry). IsReportOf r w l (steps_in hash k) report) h.1
       (subst (λ (l : List Entry). IsReportOf r w opening l report) u.played.entries tells))

@@ -17,7 +17,7 @@ use Rattle.cw_rules.proofs.Worlds.{frames_join}
 use Rattle.hail_world.specs.declared.place.Place.{Place}
 use Rattle.hail_world.specs.declared.place.Place.TheVariants as place
 use Rattle.hail_world.specs.Places.{SitAs, SitsAs, notes_at}
-use Rattle.hail_world.specs.Runs.{HasGrown, notes_of}
+use Rattle.hail_world.specs.Runs.{HasGrown, notes_of_place}
 use Rattle.hail_world.specs.Seats.{Seat}
 use Rattle.hail_world.proofs.Playing.{seated_notes}
 
@@ -137,11 +137,11 @@ set_got (x ∷ os) zero p o e = refl
 set_got (x ∷ os) (suc i) p o e = set_got os i p o e
 
 own_at : (os : List (Option Member)) (i : ℕ) (o : Option Member) → slice_get os i ≡ Some o
-    → flat_map notes_of (take 1 (drop i os)) ≡ notes_of o
+    → flat_map notes_of_place (take 1 (drop i os)) ≡ notes_of_place o
 own_at [] i o e = absurd (let no : None ≡ Some o = e in cc)
 own_at (x ∷ os) zero o e =
     let same : x ≡ o = (let s : Some x ≡ Some o = e in cc) in
-    append-nil (notes_of x) ∙ ap notes_of same
+    append-nil (notes_of_place x) ∙ ap notes_of_place same
 own_at (x ∷ os) (suc i) o e = own_at os i o e
 
 front : (xs more : List Note) (n : ℕ) → n ≡ length xs → take n (xs ++ more) ≡ xs
@@ -149,17 +149,17 @@ front [] more n e = rw e refl
 front (x ∷ xs) more n e = rw e (ap (λ (l : List Note). x ∷ l) (front xs more (length xs) refl))
 
 same_grown : (w v : World) (i old : ℕ) (o : Option Member) → v.members ≡ w.members
-    → slice_get w.members i ≡ Some o → old ≡ length (notes_of o) → HasGrown w v i old
+    → slice_get w.members i ≡ Some o → old ≡ length (notes_of_place o) → HasGrown w v i old
 same_grown w v i old o same at count =
     let own = own_at w.members i o at in
-    let after : flat_map notes_of (take 1 (drop i v.members)) ≡ notes_of o =
-    ap (λ (l : List (Option Member)). flat_map notes_of (take 1 (drop i l))) same ∙ own in
+    let after : flat_map notes_of_place (take 1 (drop i v.members)) ≡ notes_of_place o =
+    ap (λ (l : List (Option Member)). flat_map notes_of_place (take 1 (drop i l))) same ∙ own in
     record {
       low = ap (λ (l : List (Option Member)). take i l) same;
       high = ap (λ (l : List (Option Member)). drop (i + 1) l) same;
       own =
-          own ∙ sym (front (notes_of o) [] old count)
-          ∙ ap (λ (l : List Note). take old l) (append-nil (notes_of o) ∙ sym after);
+          own ∙ sym (front (notes_of_place o) [] old count)
+          ∙ ap (λ (l : List Note). take old l) (append-nil (notes_of_place o) ∙ sym after);
     }
 
 done_grown : (w v : World) (i old : ℕ) (m x : Member) → v.members ≡ slice_set w.members i (Some x)
@@ -168,8 +168,8 @@ done_grown : (w v : World) (i old : ℕ) (m x : Member) → v.members ≡ slice_
 done_grown w v i old m x set at adds count =
     let own = own_at w.members i (Some m) at in
     let got = set_got w.members i (Some m) (Some x) at in
-    let after : flat_map notes_of (take 1 (drop i v.members)) ≡ member_notes m ++ adds.0 =
-    ap (λ (l : List (Option Member)). flat_map notes_of (take 1 (drop i l))) set
+    let after : flat_map notes_of_place (take 1 (drop i v.members)) ≡ member_notes m ++ adds.0 =
+    ap (λ (l : List (Option Member)). flat_map notes_of_place (take 1 (drop i l))) set
     ∙ own_at (slice_set w.members i (Some x)) i (Some x) got ∙ adds.1 in
     record {
       low = ap (λ (l : List (Option Member)). take i l) set ∙ take_set w.members i (Some x);
@@ -181,7 +181,7 @@ done_grown w v i old m x set at adds count =
 
 -- what a member's line makes of the world
 turn_grown : (r : Rules) (w : World) (line : Line) (old : ℕ) (o : Option Member)
-    → slice_get w.members (line_member line) ≡ Some o → old ≡ length (notes_of o)
+    → slice_get w.members (line_member line) ≡ Some o → old ≡ length (notes_of_place o)
     → HasGrown w (option_map_or (with_done w (line_member line)) (done_by r w line) w)
     (line_member line) old
 turn_grown r w line old None at count =
@@ -196,7 +196,7 @@ turn_grown r w line old (Some m) at count = rw at (of (turned r w (line_member l
         at (turn_adds r w (line_member line) line m done e) count
 
 line_grown : (r : Rules) (w : World) (line : Line) (old : ℕ) (o : Option Member)
-    → slice_get w.members (line_member line) ≡ Some o → old ≡ length (notes_of o)
+    → slice_get w.members (line_member line) ≡ Some o → old ≡ length (notes_of_place o)
     → HasGrown w (happens r w line) (line_member line) old
 line_grown r w (rule.Do i ask) old o at count = turn_grown r w (rule.Do i ask) old o at count
 line_grown r w (rule.Cut a c x i ask) old o at count =

@@ -25,7 +25,7 @@ use Rattle.cw_rules.specs.Step.{Member, member_notes}
 use Rattle.cw_rules.specs.World.{World}
 use Rattle.hail_world.specs.declared.place.Place.{Place}
 use Rattle.hail_world.specs.Places.{SitAs, notes_at}
-use Rattle.hail_world.specs.Runs.{GoesBy, first_named, notes_of, under}
+use Rattle.hail_world.specs.Runs.{GoesBy, first_named, notes_of_place, under}
 use Rattle.hail_world.specs.Seats.{Seat}
 use Rattle.hail_world.proofs.Clashes.{same_notes}
 
@@ -52,7 +52,7 @@ same_name hash r by =
 
 all_of : (os : List (Option Member))
     → flat_map (λ o. option_map_or member_notes o []) os
-    ≡ flat_map (λ notes. notes) (map notes_of os)
+    ≡ flat_map (λ notes. notes) (map notes_of_place os)
 all_of [] = refl
 all_of (None ∷ os) = all_of os
 all_of (Some m ∷ os) = ap (λ (l : List Note). member_notes m ++ l) (all_of os)

@@ -20,7 +20,7 @@ use Rattle.hail_report.specs.declared.exit.Exit.TheVariants.{Clash, Done, NoMemo
 use Rattle.hail_world.specs.declared.report.Ran.{Ran}
 use Rattle.hail_world.specs.declared.report.Report.{Report}
 use Rattle.hail_world.specs.Headline.{Answers, EndsWith, IsRunOf, Means, due_for, due_input, due_of, due_text}
-use Rattle.hail_world.specs.Places.{rules_of}
+use Rattle.hail_world.specs.Places.{script_rules}
 use Rattle.hail_report.specs.Exits.{EndsEarly, HasFault, early_of}
 use Rattle.hail_world.specs.Programs.{AnswersBy, HasNoReport, IsDue, WasRun}
 use Rattle.hail_world.specs.Programs.IsDue.{OfClash, OfExcess, OfRefusal, OfRun}

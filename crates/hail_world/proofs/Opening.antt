@@ -8,11 +8,11 @@ use Rattle.cw_rules.specs.Report.{Entry, opening_entry}
 use Rattle.cw_rules.specs.Rules.{Rules}
 use Rattle.cw_rules.specs.Step.{Member, start}
 use Rattle.cw_rules.specs.World.{Line, faults}
-use Rattle.hail_script.specs.Grammar.{is_faulty_in, marks}
+use Rattle.hail_script.specs.Grammar.{is_faulty_in, faulty_marks}
 use Rattle.hail_report.proofs.Numbered.{map_joined, range_more}
 use Rattle.hail_world.specs.declared.place.Place.{Place}
 use Rattle.hail_world.specs.Offers.{some_of}
-use Rattle.hail_world.specs.Places.{SitAs, WorkBy, SitsAs, WorksBy, marked}
+use Rattle.hail_world.specs.Places.{SitAs, WorkBy, SitsAs, WorksBy, is_faulty_member}
 use Rattle.hail_world.specs.Runs.{seat_of}
 use Rattle.hail_world.specs.Seats.{Seat}
 
@@ -99,11 +99,12 @@ opened_more r lines n old new before after p e h member sound tells places entri
     }
 
 -- a mark says whether some line makes the member faulty
-pub marked_is : (lines : List Line) (total n : ℕ) (faulty : List Bool) → faulty ≡ marks lines total
-    → n < total → marked faulty n ≡ list_any (faults n) lines
+pub marked_is : (lines : List Line) (total n : ℕ) (faulty : List Bool) → faulty
+    ≡ faulty_marks lines total
+    → n < total → is_faulty_member faulty n ≡ list_any (faults n) lines
 marked_is lines total n faulty all lt =
     let none : 0 + n ≡ n = omega arith in
-    ap (λ (l : List Bool). marked l n) all
+    ap (λ (l : List Bool). is_faulty_member l n) all
     ∙ ap (λ (o : Option Bool). option_map_or (λ b. b) o false) (at 0 total n lt)
     ∙ ap (λ (k : ℕ). is_faulty_in lines k) none
   where
@@ -137,7 +138,7 @@ honest_entry r lines n e = (rw e refl, rw e refl)
 
 -- the marks are those of the seats
 pub flags_open : (r : Rules) (lines : List Line) (total : ℕ)
-    → marks lines total ≡ map is_none (map (seat_of r lines) (range_with_len 0 total))
+    → faulty_marks lines total ≡ map is_none (map (seat_of r lines) (range_with_len 0 total))
 flags_open r lines total = all (range_with_len 0 total)
   where
     one : (i : ℕ) → is_faulty_in lines i ≡ is_none (seat_of r lines i)

@@ -21,9 +21,9 @@ use Rattle.hail_script.specs.declared.event.LineKind.TheVariants as kind
 use Rattle.hail_world.specs.declared.place.Place.{Place}
 use Rattle.hail_world.specs.declared.place.Place.TheVariants as place
 use Rattle.hail_world.specs.Honest.{IsHonest, IsPlaced}
-use Rattle.hail_world.specs.Places.{SitAs, WorkBy, SitsAs, WorksBy, IsTurn, Makes, found_at, marked, notes_at, over, table, turned_by}
+use Rattle.hail_world.specs.Places.{SitAs, WorkBy, SitsAs, WorksBy, IsTurn, Makes, found_at, is_faulty_member, notes_at, world_of_pool, table, turned_by}
 use Rattle.hail_world.specs.Seats.{Seat, out_of}
-use Rattle.hail_world.specs.Runs.{notes_of}
+use Rattle.hail_world.specs.Runs.{notes_of_place}
 
 -- ---- places
 
@@ -71,7 +71,7 @@ members_set (y ∷ ps) (x ∷ os) zero p o h m = (m, h.1)
 members_set (y ∷ ps) (x ∷ os) (suc i) p o h m = (h.0, members_set ps os i p o h.1 m)
 
 -- a place has noted what its member has
-pub seated_notes : (p : Place Seat) (o : Option Member) → SitsAs p o → notes_at p ≡ notes_of o
+pub seated_notes : (p : Place Seat) (o : Option Member) → SitsAs p o → notes_at p ≡ notes_of_place o
 seated_notes place.Faulty None h = refl
 seated_notes place.Faulty (Some x) h = absurd h
 seated_notes (place.Live m) None h = absurd h
@@ -98,16 +98,16 @@ flags_signed faulty w e = λ k i v. at i k || list_any (rule.is_sent_vote i v) w
     of None = refl
     of (Some x) = refl
 
-    at : (i : ℕ) → marked faulty i ≡ rule.is_faulty w i
+    at : (i : ℕ) → is_faulty_member faulty i ≡ rule.is_faulty w i
     at i =
-        ap (λ (l : List Bool). marked l i) e
+        ap (λ (l : List Bool). is_faulty_member l i) e
         ∙ ap (λ (o : Option Bool). option_map_or (λ b. b) o false)
         (slice_get-map is_none w.members i)
         ∙ of (slice_get w.members i)
 
 -- an event is asked for over the messages alone
 event_over : (w : World) (i : ℕ) (ask : rule.Ask)
-    → rule.event_of (over w.pool) i ask ≡ rule.event_of w i ask
+    → rule.event_of (world_of_pool w.pool) i ask ≡ rule.event_of w i ask
 event_over w i (rule.Propose payload) = refl
 event_over w i (rule.Timeout view) = refl
 event_over w i (rule.Deliver number) = refl
@@ -119,7 +119,7 @@ event_over w i (rule.Hint height) = refl
 -- ---- a line's turn
 
 turned_is : (r : Rules) (w : World) (i : ℕ) (e : rule.Line) (x : Member)
-    → turned r w i e x ≡ turned_by r (signed w) (over w.pool) i e x
+    → turned r w i e x ≡ turned_by r (signed w) (world_of_pool w.pool) i e x
 turned_is r w i (rule.Do m ask) x = rw (event_over w i ask) refl
 turned_is r w i (rule.Cut a c s m ask) x = rw (event_over w i ask) refl
 turned_is r w i (rule.Restart m) x = refl
@@ -128,12 +128,12 @@ turned_is r w i (rule.Faulty m fault) x = refl
 done_is : (r : Rules) (w : World) (e : rule.Line) (o : Option Member)
     → slice_get w.members (rule.line_member e) ≡ Some o
     → done_by r w e
-    ≡ option_and_then (turned_by r (signed w) (over w.pool) (rule.line_member e) e) o
+    ≡ option_and_then (turned_by r (signed w) (world_of_pool w.pool) (rule.line_member e) e) o
 done_is r w e o there = rw there (of o)
   where
     of : (o : Option Member)
         → option_and_then (turned r w (rule.line_member e) e) o
-        ≡ option_and_then (turned_by r (signed w) (over w.pool) (rule.line_member e) e) o
+        ≡ option_and_then (turned_by r (signed w) (world_of_pool w.pool) (rule.line_member e) e) o
     of None = refl
     of (Some x) = turned_is r w (rule.line_member e) e x
 
@@ -195,7 +195,8 @@ pub turn_is : (r : Rules) (w : World) (number : ℕ) (e : rule.Line) (ps : List 
     (p : Place Seat) (out : Option StepOut) (o : Option Member) (pool : List Sent) (entry : Entry)
     → IsHonest e
     → slice_get w.members (rule.line_member e) ≡ Some o → SitAs ps w.members
-    → Makes o (option_and_then (turned_by r (signed w) (over w.pool) (rule.line_member e) e) o)
+    → Makes o
+    (option_and_then (turned_by r (signed w) (world_of_pool w.pool) (rule.line_member e) e) o)
     p out
     → entry
     ≡ entry_with number (rule.line_member e) (found_at e p out)
@@ -206,7 +207,7 @@ pub turn_is : (r : Rules) (w : World) (number : ℕ) (e : rule.Line) (ps : List 
     ++ sent_from (length w.pool) (rule.line_member e) (option_map_or (λ out. out.sent) out [])
     → IsTurn r w number e (slice_set ps (rule.line_member e) p) pool entry
 turn_is r w number e ps p out o pool entry honest there members makes gives sends =
-    go (option_and_then (turned_by r (signed w) (over w.pool) (rule.line_member e) e) o)
+    go (option_and_then (turned_by r (signed w) (world_of_pool w.pool) (rule.line_member e) e) o)
     (done_is r w e o there) makes
   where
     go : (d : Option Stepped) → done_by r w e ≡ d → Makes o d p out
@@ -317,7 +318,8 @@ pub placed : (r : Rules) (faulty : List Bool) (pool : List Sent) (ps : List (Pla
     → p ≡ get_or ps j d → found ≡ found_at e new out
     → ((o : Option Member) → SitsAs p o
     → Makes o
-    (option_and_then (turned_by r (table faulty pool) (over pool) (rule.line_member e) e) o)
+    (option_and_then (turned_by r (table faulty pool) (world_of_pool pool) (rule.line_member e) e)
+    o)
     new out)
     → IsPlaced r faulty pool e ps (slice_set (slice_set ps j x) k new) found out
 placed r faulty pool ps j k d p x new e found out lt a b is finds makes = record {
@@ -364,14 +366,14 @@ member_turn r w number i e faulty old new found out before pool entry honest nam
     ap (λ (l : List Sent). table faulty l) pools ∙ flags_signed faulty w flags in
     let raw = h.makes at.member at.is in
     let makes : Makes at.member
-    (option_and_then (turned_by r (signed w) (over w.pool) id e) at.member) h.after out =
+    (option_and_then (turned_by r (signed w) (world_of_pool w.pool) id e) at.member) h.after out =
     subst
     (λ (l : List Sent). Makes at.member
-    (option_and_then (turned_by r (signed w) (over l) id e) at.member) h.after out)
+    (option_and_then (turned_by r (signed w) (world_of_pool l) id e) at.member) h.after out)
     pools
     (subst
     (λ (v : ℕ → Vote → Bool). Makes at.member
-    (option_and_then (turned_by r v (over before) id e) at.member) h.after out)
+    (option_and_then (turned_by r v (world_of_pool before) id e) at.member) h.after out)
     votes raw) in
     let mine =
     gives
@@ -407,7 +409,7 @@ member_turn r w number i e faulty old new found out before pool entry honest nam
 
 -- what a faulty member sends is asked for over the messages alone
 sends_over : (r : Rules) (w : World) (a : ℕ) (f : rule.Fault)
-    → rule.fault_sends r (over w.pool) a f ≡ rule.fault_sends r w a f
+    → rule.fault_sends r (world_of_pool w.pool) a f ≡ rule.fault_sends r w a f
 sends_over r w a rule.Silent = refl
 sends_over r w a (rule.Offer view payload) = refl
 sends_over r w a (rule.Notarize_of number) = refl
@@ -442,17 +444,17 @@ pub fault_turn : (r : Rules) (w : World) (number i : ℕ) (m : ℕ) (f : rule.Fa
       line = number;
       member = None;
       found = None;
-      sent = sent_from (length before) i (rule.fault_sends r (over before) i f);
+      sent = sent_from (length before) i (rule.fault_sends r (world_of_pool before) i f);
       handed = [];
     }
-    → pool ≡ before ++ sent_from (length before) i (rule.fault_sends r (over before) i f)
+    → pool ≡ before ++ sent_from (length before) i (rule.fault_sends r (world_of_pool before) i f)
     → IsTurn r w number (rule.Faulty m f) places pool entry
 fault_turn r w number i m f places before pool entry named members pools gives sends =
     let sent : List Sent → List Sent =
-    λ (l : List Sent). sent_from (length l) i (rule.fault_sends r (over l) i f) in
+    λ (l : List Sent). sent_from (length l) i (rule.fault_sends r (world_of_pool l) i f) in
     let whole : sent before ≡ sent_from (length w.pool) m (rule.fault_sends r w m f) =
     ap sent pools
-    ∙ ap (λ (k : ℕ). sent_from (length w.pool) k (rule.fault_sends r (over w.pool) k f))
+    ∙ ap (λ (k : ℕ). sent_from (length w.pool) k (rule.fault_sends r (world_of_pool w.pool) k f))
     named
     ∙ ap (λ (l : List Out). sent_from (length w.pool) m l) (sends_over r w m f) in
     record {

@@ -15,7 +15,7 @@ use Rattle.cw_rules.specs.declared.travel.Travel.{Travel}
 use Rattle.hail_script.specs.declared.error.RunError.{RunError}
 use Rattle.hail_script.specs.declared.error.RunError.TheVariants as error
 use Rattle.hail_world.specs.declared.report.Report.{Report}
-use Rattle.hail_world.specs.Places.{rules_of}
+use Rattle.hail_world.specs.Places.{script_rules}
 use Rattle.hail_world.specs.Reports.{IsCause, IsReport, IsRun, honest_numbers, shown_report}
 use Rattle.hail_world.specs.Runs.{IsStopped, opened}
 
@@ -44,8 +44,8 @@ pub reported : {H W : Type 0} (travel : Travel) (hash : List ℕ → Digest32) (
     (s : Scenario)
     (report : Report H W)
     → script_by travel text ≡ Ok s → (h : IsRun hash s report)
-    → IsReported (rules_of hash s) h.world (handed_in (rules_of hash s) s.lines)
-    (report_of (rules_of hash s) s.lines h.world).chain
+    → IsReported (script_rules hash s) h.world (handed_in (script_rules hash s) s.lines)
+    (report_of (script_rules hash s) s.lines h.world).chain
     → IsReport travel hash text report
 reported travel hash text s report spells h law = record {
   script = s;
@@ -53,14 +53,14 @@ reported travel hash text s report spells h law = record {
   run = h;
   opened =
       ap (λ (r : Reported). map (λ (e : Entry). e.member) r.opening) h.told
-      ∙ openers (rules_of hash s) s.lines (range_with_len 0 s.committees.total);
+      ∙ openers (script_rules hash s) s.lines (range_with_len 0 s.committees.total);
   stepped =
       ap (λ (r : Reported). length r.steps) h.told
-      ∙ many (rules_of hash s) (opened hash s) _ s.lines;
+      ∙ many (script_rules hash s) (opened hash s) _ s.lines;
   chain =
       subst
-      (λ (l : List Block). IsReported (rules_of hash s) h.world
-      (handed_in (rules_of hash s) s.lines) l)
+      (λ (l : List Block). IsReported (script_rules hash s) h.world
+      (handed_in (script_rules hash s) s.lines) l)
       (sym (ap (λ (r : Reported). r.chain) h.told)) law;
 }
 
@@ -69,12 +69,13 @@ pub caused : (travel : Travel) (hash : List ℕ → Digest32) (text : List ℕ) 
     (e : RunError)
     → script_by travel text ≡ Ok s
     → ((earlier later : List ℕ)
-    → outcome (rules_of hash s) (opened hash s) s.lines ≡ Clashes earlier later
-    → (w : World) × Reaches (rules_of hash s) s.lines w
-    × IsClash (rules_of hash s) w earlier later)
+    → outcome (script_rules hash s) (opened hash s) s.lines ≡ Clashes earlier later
+    → (w : World) × Reaches (script_rules hash s) s.lines w
+    × IsClash (script_rules hash s) w earlier later)
     → ((earlier later : List ℕ)
-    → outcome (rules_of hash s) (opened hash s) s.lines ≡ Clashes earlier later → earlier ≢ later)
-    → IsStopped (rules_of hash s) (opened hash s) s.lines e → IsCause travel hash text e
+    → outcome (script_rules hash s) (opened hash s) s.lines ≡ Clashes earlier later → earlier
+    ≢ later)
+    → IsStopped (script_rules hash s) (opened hash s) s.lines e → IsCause travel hash text e
 caused travel hash text s error.NoMemory spells law differ h = tt
 caused travel hash text s (error.HashClash earlier later) spells law differ h =
     let shows = law earlier later h in (

@@ -12,7 +12,7 @@ use Rattle.hail_script.specs.Grammar.{first_event}
 use Rattle.hail_script.specs.Scenario.{Scenario}
 use Rattle.hail_world.specs.declared.report.Report.{Report}
 use Rattle.hail_world.specs.Clusters.{Cluster, steps_in, world_in}
-use Rattle.hail_world.specs.Places.{rules_of}
+use Rattle.hail_world.specs.Places.{script_rules}
 use Rattle.hail_world.specs.Played.{IsReportOf, entries_of, lines_of}
 use Rattle.hail_world.specs.Reports.{IsRun}
 use Rattle.hail_world.specs.Runs.{chain_from, opened}
@@ -72,27 +72,27 @@ pub ran : {H W : Type 0} (hash : List ℕ → Digest32) (s : Scenario) (c : Clus
       rows = enumerate_from (first_event s.committees) s.lines;
       over = false;
     }
-    → outcome (rules_of hash c.script) (opened hash c.script) (lines_of c.rows)
+    → outcome (script_rules hash c.script) (opened hash c.script) (lines_of c.rows)
     ≡ Ends (world_in hash c)
-    → IsReportOf (rules_of hash c.script) (world_in hash c)
-    (opening_entries (rules_of hash c.script) c.script.lines) (steps_in hash c) report
+    → IsReportOf (script_rules hash c.script) (world_in hash c)
+    (opening_entries (script_rules hash c.script) c.script.lines) (steps_in hash c) report
     → IsRun hash s report
 ran hash s c report is ends told =
-    let r = rules_of hash s in
+    let r = script_rules hash s in
     let w = opened hash s in
     let n : ℕ = first_event s.committees in
     let all : Cluster = record { script = s; rows = enumerate_from n s.lines; over = false } in
     let last : World = world_in hash all in
     let ended : outcome r w (lines_of (enumerate_from n s.lines)) ≡ Ends last =
     subst
-    (λ (x : Cluster). outcome (rules_of hash x.script) (opened hash x.script) (lines_of x.rows)
+    (λ (x : Cluster). outcome (script_rules hash x.script) (opened hash x.script) (lines_of x.rows)
     ≡ Ends (world_in hash x))
     is ends in
     let tells : IsReportOf r last (opening_entries r s.lines)
     (entries_of r w (enumerate_from n s.lines)) report =
     subst
-    (λ (x : Cluster). IsReportOf (rules_of hash x.script) (world_in hash x)
-    (opening_entries (rules_of hash x.script) x.script.lines) (steps_in hash x) report)
+    (λ (x : Cluster). IsReportOf (script_rules hash x.script) (world_in hash x)
+    (opening_entries (script_rules hash x.script) x.script.lines) (steps_in hash x) report)
     is told in
     let steps : entries_of r w (enumerate_from n s.lines) ≡ entries_from r w n s.lines =
     numbered_entries r w n s.lines in

@@ -18,7 +18,7 @@ use Rattle.node.specs.State.{IsNodeOf, IsSameNode, stepped}
 use Rattle.node_disk.specs.Memory.{Continues, MemoryState, memory_state}
 use Rattle.node_disk.specs.declared.log.StoreError.{StoreError}
 use Rattle.node_disk.specs.declared.log.StoreError.TheVariants as store
-use Rattle.hail_world.specs.Seats.{HasStarted, HasStepped, Seat, WasStopped, Works, notes_of_step, out_of, rules_by}
+use Rattle.hail_world.specs.Seats.{HasStarted, HasStepped, Seat, WasStopped, Works, seat_step_notes, out_of, rules_by}
 
 pub started : (travel : Travel) (hash : List ℕ → Digest32) (id : ℕ) (epochs : Epochs) (backlog : ℕ)
     (app : AcceptAll)
@@ -58,7 +58,7 @@ pub steps : (hash : List ℕ → Digest32) (signed : ℕ → Vote → Bool) (e :
     (λ out. stepped new.member out ≡ step (rules_by hash old) old.id signed old.member e)
     → IsSameNode old new → OnOk result (Works new)
     → HasTried memory_state Continues old.member.frames
-    (notes_of_step (rules_by hash old) signed e old) result old.log new.log
+    (seat_step_notes (rules_by hash old) signed e old) result old.log new.log
     → IfOk result (λ out. HasStepped (rules_by hash old) signed e old new out)
 steps hash signed e old new (Ok out) did same works tried =
     record {
@@ -74,7 +74,7 @@ steps hash signed e old new (Err x) did same works tried = tt
 pub stops : (hash : List ℕ → Digest32) (signed : ℕ → Vote → Bool) (e : Event) (old new : Seat)
     (result : Result StepOut StoreError)
     → HasTried memory_state Continues old.member.frames
-    (notes_of_step (rules_by hash old) signed e old) result old.log new.log
+    (seat_step_notes (rules_by hash old) signed e old) result old.log new.log
     → IsErrOf result store.Disk → WasStopped (rules_by hash old) signed e old new
 stops hash signed e old new result tried is =
     record { cut = tried.cut_short is; readable = tried.cut_readable is }

@@ -7,7 +7,7 @@ use Rattle.cw_rules.specs.declared.travel.Travel.{Travel}
 use Rattle.hail_script.specs.Scenario.{Scenario}
 use Rattle.hail_world.specs.declared.blocks.KnownBlocks.{KnownBlocks}
 use Rattle.hail_world.specs.declared.place.Place.{Place}
-use Rattle.hail_world.specs.Places.{WorkBy, rules_of}
+use Rattle.hail_world.specs.Places.{WorkBy, script_rules}
 use Rattle.hail_world.specs.Played.{HavePlayed, entries_of, lines_of}
 use Rattle.hail_world.specs.Runs.{opened}
 use Rattle.hail_world.specs.Seats.{Seat}
@@ -21,11 +21,11 @@ pub record Cluster : Type 0 where
 
 -- the world that these lines end in
 abbrev pub world_in : (List ℕ → Digest32) → Cluster → World
-world_in hash c = run (rules_of hash c.script) (opened hash c.script) (lines_of c.rows)
+world_in hash c = run (script_rules hash c.script) (opened hash c.script) (lines_of c.rows)
 
 -- what they gave
 abbrev pub steps_in : (List ℕ → Digest32) → Cluster → List Entry
-steps_in hash c = entries_of (rules_of hash c.script) (opened hash c.script) c.rows
+steps_in hash c = entries_of (script_rules hash c.script) (opened hash c.script) c.rows
 
 -- the line at a place of a script, under a number
 abbrev pub row_at : List Line → ℕ × ℕ → Option (ℕ × Line)
@@ -39,14 +39,15 @@ rows_at lines turns = filter_map (row_at lines) turns
 pub record IsUnderWay (hash : List ℕ → Digest32) (s : Scenario) (rows : List (ℕ × Line))
     (steps : List Entry) (places : List (Place Seat)) (known : KnownBlocks)
     (faulty : List Bool) : Type 0 where
-  pub played : HavePlayed (rules_of hash s) (opened hash s) rows steps places known faulty
-  pub sound : WorkBy (rules_of hash s) 0 places
+  pub played : HavePlayed (script_rules hash s) (opened hash s) rows steps places known faulty
+  pub sound : WorkBy (script_rules hash s) 0 places
   pub count : length places ≡ s.committees.total
 
 -- what is known of a cluster: how it opened, and where it stands while no turn was left in the
 -- midst
-abbrev pub Stands : (List ℕ → Digest32) → Travel → Scenario → List Entry → List (ℕ × Line) → Bool
+abbrev pub ClusterStands : (List ℕ → Digest32) → Travel → Scenario → List Entry → List (ℕ × Line)
+    → Bool
     → List Entry → List (Place Seat) → KnownBlocks → List Bool → Type 0
-Stands hash travel s opening rows over steps places known faulty =
-    (s.travel ≡ travel) × (opening ≡ opening_entries (rules_of hash s) s.lines)
+ClusterStands hash travel s opening rows over steps places known faulty =
+    (s.travel ≡ travel) × (opening ≡ opening_entries (script_rules hash s) s.lines)
     × (over ≡ false → IsUnderWay hash s rows steps places known faulty)

@@ -13,7 +13,7 @@ use Rattle.hail_script.specs.Scenario.{Scenario}
 use Rattle.hail_report.specs.declared.exit.Exit.{Exit}
 use Rattle.hail_report.specs.declared.exit.Exit.TheVariants.{Clash, Done, NoMemory, ReadFault, Refused, TooLong, Usage, WriteFault}
 use Rattle.hail_world.specs.declared.report.Report.{Report}
-use Rattle.hail_world.specs.Places.{rules_of}
+use Rattle.hail_world.specs.Places.{script_rules}
 use Rattle.hail_report.specs.Exits.{Finishes, IsShort}
 use Rattle.hail_report.specs.Reading.{HasRead, script_limit}
 use Rattle.hail_world.specs.Reports.{Clashing, IsReport, shown_report}
@@ -22,14 +22,15 @@ use Rattle.hail_report.specs.Writing.{WritesFront}
 
 -- the text that is due for an outcome of a script, of a program that tells a report so
 abbrev pub due_for : (Reported → List ℕ) → (List ℕ → Digest32) → Scenario → Outcome → List ℕ
-due_for tell hash s (Ends w) = tell (report_of (rules_of hash s) s.lines w)
+due_for tell hash s (Ends w) = tell (report_of (script_rules hash s) s.lines w)
 due_for tell hash s (Clashes earlier later) = error_line (error.HashClash earlier later)
 
 -- the text that is due for a script: that of its report, or the line of the clash in which it ends,
 -- or of the cause for which it isn't run
 abbrev pub due_of : (Reported → List ℕ) → (List ℕ → Digest32) → Result Scenario RunError → List ℕ
 due_of tell hash (Ok s) =
-    due_for tell hash s (outcome (rules_of hash s) (opening (rules_of hash s) s.lines) s.lines)
+    due_for tell hash s
+    (outcome (script_rules hash s) (opening (script_rules hash s) s.lines) s.lines)
 due_of tell hash (Err e) = error_line e
 
 abbrev pub due_text : Travel → (Reported → List ℕ) → (List ℕ → Digest32) → List ℕ → List ℕ

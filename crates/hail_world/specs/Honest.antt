@@ -5,7 +5,7 @@ use Rattle.cw_rules.specs.Rules.{Rules}
 use Rattle.cw_rules.specs.Step.{Member}
 use Rattle.cw_rules.specs.World.{Faulty, Line, Sent, line_member}
 use Rattle.hail_world.specs.declared.place.Place.{Place}
-use Rattle.hail_world.specs.Places.{SitsAs, Makes, found_at, over, table, turned_by}
+use Rattle.hail_world.specs.Places.{SitsAs, Makes, found_at, world_of_pool, table, turned_by}
 use Rattle.hail_world.specs.Seats.{Seat}
 
 -- a line that isn't of a faulty member
@@ -24,6 +24,6 @@ pub record IsPlaced (r : Rules) (faulty : List Bool) (pool : List Sent) (line : 
   pub makes : (o : Option Member) → SitsAs before o
       → Makes o
       (option_and_then
-      (turned_by r (table faulty pool) (over pool) (line_member line) line)
+      (turned_by r (table faulty pool) (world_of_pool pool) (line_member line) line)
       o)
       after out

@@ -12,11 +12,11 @@ use Rattle.cw_rules.specs.Fits.{context_for}
 use Rattle.cw_rules.specs.Rules.{Rules, commit, digest, genesis, genesis_commitment}
 use Rattle.cw_rules.specs.Sends.{block_sends, to_all}
 use Rattle.cw_rules.specs.World.{World, voted_on}
-use Rattle.shards.specs.Kept.{rules_of}
+use Rattle.shards.specs.Kept.{chunk_rules}
 
 -- a vote on what the vote of that number is on
-abbrev pub again : Bool → World → ℕ → ℕ → List Out
-again finalizes w a number =
+abbrev pub second_vote : Bool → World → ℕ → ℕ → List Out
+second_vote finalizes w a number =
     option_map_or (λ p. to_all (Message.Vote a (if finalizes then Finalize p else Notarize p)) ∷ [])
     (voted_on w number) []
 
@@ -32,7 +32,7 @@ some_of (Some x) = x ∷ []
 -- a block of that view over the first one
 abbrev pub offered : (List ℕ → Digest32) → Epochs → ℕ → List ℕ → Block
 offered hash epochs view payload =
-    let r = rules_of hash epochs in
+    let r = chunk_rules hash epochs in
     record {
       context = context_for r (record {
         epoch = 0;

@@ -21,8 +21,8 @@ use Rattle.hail_world.specs.Seats.{Seat, Works, out_of, rules_by}
 
 -- the rules of a script's cluster, by how its blocks travel, in which every block is accepted over
 -- every other
-abbrev pub rules_of : (List ℕ → Digest32) → Scenario → Rules
-rules_of hash s = ruled s.travel hash s.committees s.backlog (λ b a. true)
+abbrev pub script_rules : (List ℕ → Digest32) → Scenario → Rules
+script_rules hash s = ruled s.travel hash s.committees s.backlog (λ b a. true)
 
 -- a disk that holds some frames of notes, which are these notes in order
 abbrev pub DiskHolds : MemoryState → List Note → Type 0
@@ -65,16 +65,16 @@ notes_at (place.Live m) = member_notes m.member
 notes_at (place.Stopped disk notes) = notes
 
 -- the member is marked as faulty
-abbrev pub marked : List Bool → ℕ → Bool
-marked faulty i = option_map_or (λ b. b) (slice_get faulty i) false
+abbrev pub is_faulty_member : List Bool → ℕ → Bool
+is_faulty_member faulty i = option_map_or (λ b. b) (slice_get faulty i) false
 
 -- ideal signatures: a faulty member signed every vote, an honest one those that it sent
 abbrev pub table : List Bool → List Sent → ℕ → Vote → Bool
-table faulty pool i v = marked faulty i || list_any (is_sent_vote i v) pool
+table faulty pool i v = is_faulty_member faulty i || list_any (is_sent_vote i v) pool
 
 -- a world in which these messages were sent
-abbrev pub over : List Sent → World
-over pool = record { members = []; pool = pool }
+abbrev pub world_of_pool : List Sent → World
+world_of_pool pool = record { members = []; pool = pool }
 
 -- what a member does that is asked for something: nothing where it is stopped, or where there is no
 -- such message

@@ -17,7 +17,7 @@ use Rattle.hail_script.specs.Scenario.{Scenario}
 use Rattle.hail_world.specs.declared.report.Report.{Report}
 use Rattle.marshal.specs.Frames.{FindsNotes}
 use Rattle.node_disk.specs.Memory.{is_calm, memory_state}
-use Rattle.hail_world.specs.Places.{rules_of}
+use Rattle.hail_world.specs.Places.{script_rules}
 use Rattle.hail_world.specs.Seats.{Seat, Works, rules_by}
 
 -- what a report tells of the rules
@@ -43,7 +43,7 @@ HoldNotes _ _ = ⊥
 
 -- The node of a member that is live at the end of a run: it is that member, under its number, by
 -- the rules of the run, it takes events, and its disk doesn't fail and has these bytes.
-pub record IsNodeOf (r : Rules) (number : ℕ) (m : Member) (disk : List ℕ)
+pub record IsNodeOfMember (r : Rules) (number : ℕ) (m : Member) (disk : List ℕ)
     (node : Seat) : Type 0 where
   pub live : m.live ≡ true
   pub id : node.id ≡ number
@@ -56,7 +56,7 @@ pub record IsNodeOf (r : Rules) (number : ℕ) (m : Member) (disk : List ℕ)
 -- a member has its node, and there is none exactly for a stopped one
 abbrev pub IsLiveAs : Rules → ℕ × Member → List ℕ → Option Seat → Type 0
 IsLiveAs r at disk None = at.1.live ≡ false
-IsLiveAs r at disk (Some node) = IsNodeOf r at.0 at.1 disk node
+IsLiveAs r at disk (Some node) = IsNodeOfMember r at.0 at.1 disk node
 
 -- so for each member, with its number, and the disk of each
 abbrev pub AreNodesOf : Rules → List (ℕ × Member) → List (List ℕ) → List (Option Seat) → Type 0
@@ -71,12 +71,12 @@ AreNodesOf r _ _ _ = ⊥
 pub record IsRun {H W : Type 0} (hash : List ℕ → Digest32) (script : Scenario)
     (report : Report H W) : Type 0 where
   pub world : World
-  pub ends : outcome (rules_of hash script) (opening (rules_of hash script) script.lines)
+  pub ends : outcome (script_rules hash script) (opening (script_rules hash script) script.lines)
       script.lines
       ≡ Ends world
-  pub told : shown_report report ≡ report_of (rules_of hash script) script.lines world
+  pub told : shown_report report ≡ report_of (script_rules hash script) script.lines world
   pub disks : HoldNotes (honest world) report.disks
-  pub nodes : AreNodesOf (rules_of hash script) (honest_at world) report.disks report.nodes
+  pub nodes : AreNodesOf (script_rules hash script) (honest_at world) report.disks report.nodes
 
 -- the members that no line makes faulty, by number
 abbrev pub honest_numbers : Scenario → List ℕ
@@ -92,19 +92,19 @@ pub record IsReport {H W : Type 0} (travel : Travel) (hash : List ℕ → Digest
   pub run : IsRun hash script report
   pub opened : map (λ e. e.member) report.opening ≡ map Some (honest_numbers script)
   pub stepped : length report.steps ≡ length script.lines
-  pub chain : IsReported (rules_of hash script) run.world
-      (handed_in (rules_of hash script) script.lines) report.chain
+  pub chain : IsReported (script_rules hash script) run.world
+      (handed_in (script_rules hash script) script.lines) report.chain
 
 -- the run of the script ends in this clash, and these are the encodings of two different blocks of
 -- one digest, each genesis or noted by an honest member: two different texts
 pub record IsClashOf (hash : List ℕ → Digest32) (script : Scenario)
     (earlier later : List ℕ) : Type 0 where
-  pub ends : outcome (rules_of hash script) (opening (rules_of hash script) script.lines)
+  pub ends : outcome (script_rules hash script) (opening (script_rules hash script) script.lines)
       script.lines
       ≡ Clashes earlier later
   pub world : World
-  pub reached : Reaches (rules_of hash script) script.lines world
-  pub shown : IsClash (rules_of hash script) world earlier later
+  pub reached : Reaches (script_rules hash script) script.lines world
+  pub shown : IsClash (script_rules hash script) world earlier later
   pub texts : earlier ≢ later
 
 -- the text spells a script that ends in this clash

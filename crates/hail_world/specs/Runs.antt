@@ -22,12 +22,12 @@ use Rattle.hail_script.specs.Scenario.{Scenario}
 use Rattle.hail_world.specs.declared.place.Place.{Place}
 use Rattle.hail_world.specs.declared.place.Place.TheVariants as place
 use Rattle.node_disk.specs.Memory.{memory_state}
-use Rattle.hail_world.specs.Places.{rules_of}
+use Rattle.hail_world.specs.Places.{script_rules}
 use Rattle.hail_world.specs.Seats.{Seat}
 
 -- the world in which a script begins
 abbrev pub opened : (List ℕ → Digest32) → Scenario → World
-opened hash s = opening (rules_of hash s) s.lines
+opened hash s = opening (script_rules hash s) s.lines
 
 -- who sits in a place when a script begins: a member on an empty disk, where no line makes it
 -- faulty
@@ -45,15 +45,15 @@ abbrev pub encoded : Rules → Block × Block → List ℕ × List ℕ
 encoded r both = (r.block_bytes both.0, r.block_bytes both.1)
 
 -- the notes at a place of the rules
-abbrev pub notes_of : Option Member → List Note
-notes_of o = option_map_or member_notes o []
+abbrev pub notes_of_place : Option Member → List Note
+notes_of_place o = option_map_or member_notes o []
 
 -- the second world differs from the first in one place, where notes were added to so many
 pub record HasGrown (before after : World) (i old : ℕ) : Type 0 where
   pub low : take i after.members ≡ take i before.members
   pub high : drop (i + 1) after.members ≡ drop (i + 1) before.members
-  pub own : flat_map notes_of (take 1 (drop i before.members))
-      ≡ take old (flat_map notes_of (take 1 (drop i after.members)))
+  pub own : flat_map notes_of_place (take 1 (drop i before.members))
+      ≡ take old (flat_map notes_of_place (take 1 (drop i after.members)))
 
 -- the rules hash what is hashed by that hash
 pub record GoesBy (hash : List ℕ → Digest32) (r : Rules) : Type 0 where

@@ -41,8 +41,8 @@ pub record HasStarted (r : Rules) (id : ℕ) (frames : List (List Note)) (disk :
   pub went_on : Continues disk new.log.disk
 
 -- the notes of a step
-abbrev pub notes_of_step : Rules → (ℕ → Vote → Bool) → Event → Seat → List Note
-notes_of_step r signed e s = step_notes r s.id (taken r signed (state_of s.member) e) e
+abbrev pub seat_step_notes : Rules → (ℕ → Vote → Bool) → Event → Seat → List Note
+seat_step_notes r signed e s = step_notes r s.id (taken r signed (state_of s.member) e) e
 
 -- the step of the rules, whose notes are then on the disk as one frame
 pub record HasStepped (r : Rules) (signed : ℕ → Vote → Bool) (e : Event) (old new : Seat)
@@ -52,16 +52,17 @@ pub record HasStepped (r : Rules) (signed : ℕ → Vote → Bool) (e : Event) (
   pub member : new.member ≡ (step r old.id signed old.member e).member
   pub gives : out ≡ out_of (step r old.id signed old.member e)
   pub works : Works new
-  pub appended : HasAppended memory_state Continues (frame_bytes (notes_of_step r signed e old))
+  pub appended : HasAppended memory_state Continues (frame_bytes (seat_step_notes r signed e old))
       old.log new.log
 
 -- The disk failed while the notes of the step were written. With them as one frame more the
 -- member's frames read back
 pub record WasStopped (r : Rules) (signed : ℕ → Vote → Bool) (e : Event)
     (old new : Seat) : Type 0 where
-  pub cut : WasCutShort memory_state Continues (frame_bytes (notes_of_step r signed e old)) old.log
+  pub cut : WasCutShort memory_state Continues (frame_bytes (seat_step_notes r signed e old))
+      old.log
       new.log
-  pub readable : ReadBack (add_frame old.member.frames (notes_of_step r signed e old))
+  pub readable : ReadBack (add_frame old.member.frames (seat_step_notes r signed e old))
 
 -- the same with a stop at a device call from now
 abbrev pub with_stop : ℕ → ℕ → ℕ → Seat → Seat

@@ -6,7 +6,7 @@ ghost use Rattle.cw_rules.specs.Chains.{Ends, outcome};
 ghost use Rattle.cw_rules.specs.Report.{opening_entries};
 ghost use Rattle.cw_rules.specs.World.{Line};
 ghost use Rattle.hail_world.specs.Clusters.{steps_in, world_in};
-ghost use Rattle.hail_world.specs.Places.{rules_of};
+ghost use Rattle.hail_world.specs.Places.{script_rules};
 ghost use Rattle.hail_world.specs.Played.{IsReportOf, lines_of};
 ghost use Rattle.hail_world.specs.Runs.{IsStopped, opened};
 
@@ -45,7 +45,7 @@ pub struct Cluster<H: Hasher<Digest = Digest32>, W: Way> {
 }
 
 impl<H: Hasher<Digest = Digest32>, W: Way> Model for Cluster<H, W> {
-    ghost use Rattle.hail_world.specs.Clusters.{Cluster, Stands, rows_at};
+    ghost use Rattle.hail_world.specs.Clusters.{Cluster, ClusterStands, rows_at};
 
     ghost Value = { Cluster };
 
@@ -55,7 +55,7 @@ impl<H: Hasher<Digest = Digest32>, W: Way> Model for Cluster<H, W> {
       over = c.over;
     } };
 
-    ghost invariant = { λ c. Stands H.digest_of W.travel c.script c.opening
+    ghost invariant = { λ c. ClusterStands H.digest_of W.travel c.script c.opening
         (rows_at c.script.lines c.turns.items) c.over c.pool c.places.items c.known
         c.faulty.items };
 }
@@ -105,7 +105,7 @@ impl<H: Hasher<Digest = Digest32>, W: Way> Cluster<H, W> {
             (self.new ≡ record self.old { rows = self.old.rows ++ (number, line) ∷ [] }) }
         ensures err { (line : Line) → slice_get self.old.script.lines at ≡ Some line
             → IfErr result
-            (λ e. IsStopped (rules_of H.digest_of self.old.script)
+            (λ e. IsStopped (script_rules H.digest_of self.old.script)
             (opened H.digest_of self.old.script) (lines_of self.old.rows ++ line ∷ []) e) }
         ensures over { OnErr result (self.new.over ≡ true) }
     {
@@ -152,7 +152,8 @@ impl<H: Hasher<Digest = Digest32>, W: Way> Cluster<H, W> {
     /// A law: the lines that had their turns brought no clash.
     pub fn goes_on(&self)
         ensures { self.now.over ≡ false
-            → outcome (rules_of H.digest_of self.now.script) (opened H.digest_of self.now.script)
+            → outcome (script_rules H.digest_of self.now.script)
+            (opened H.digest_of self.now.script)
             (lines_of self.now.rows)
             ≡ Ends (world_in H.digest_of self.now) }
     {
@@ -164,8 +165,8 @@ impl<H: Hasher<Digest = Digest32>, W: Way> Cluster<H, W> {
         requires { self.over ≡ false }
         ensures script { IfOk result (λ ran. ran.script ≡ self.script) }
         ensures report { IfOk result
-            (λ ran. IsReportOf (rules_of H.digest_of self.script) (world_in H.digest_of self)
-            (opening_entries (rules_of H.digest_of self.script) self.script.lines)
+            (λ ran. IsReportOf (script_rules H.digest_of self.script) (world_in H.digest_of self)
+            (opening_entries (script_rules H.digest_of self.script) self.script.lines)
             (steps_in H.digest_of self) ran.report) }
     {
         let Cluster {

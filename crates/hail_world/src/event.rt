@@ -3,7 +3,7 @@
 ghost use Rattle.std.specs.Prelude.{◌≡◌, IfOk};
 ghost use Rattle.std.specs.Option.{option_map};
 ghost use Rattle.cw_rules.specs.World as rule;
-ghost use Rattle.hail_world.specs.Places.{marked, over};
+ghost use Rattle.hail_world.specs.Places.{is_faulty_member, world_of_pool};
 ghost use Rattle.hail_report.specs.Pool.{sent_in};
 
 use cw_base::NoMemory;
@@ -14,7 +14,7 @@ use std::alloc::Global;
 
 /// Whether a member is marked as faulty.
 pub(crate) fn is_faulty(faulty: &[bool], member: u16) -> bool
-    ensures { result ≡ marked faulty.now member }
+    ensures { result ≡ is_faulty_member faulty.now member }
 {
     match faulty.get(usize::from(member)) {
         Some(faulty) => *faulty,
@@ -34,7 +34,7 @@ fn is_to(to: To, member: u16) -> bool
 // The message of that number, where it was sent and goes to the member.
 fn message_for(pool: &Pool, member: u16, number: u64) -> Option<&Message>
     ensures { option_map (λ message. message.now) result ≡ rule.message_for
-        (over (sent_in pool.now)) member number }
+        (world_of_pool (sent_in pool.now)) member number }
 {
     match pool.get(number) {
         None => None,
@@ -66,7 +66,8 @@ fn delivered(
     number: u64,
 ) -> Result<Option<Event>, NoMemory>
     ensures { IfOk result
-        (λ event. event ≡ rule.event_of (over (sent_in pool.now)) member (rule.Deliver number)) }
+        (λ event. event
+        ≡ rule.event_of (world_of_pool (sent_in pool.now)) member (rule.Deliver number)) }
 {
     match message_for(pool, member, number) {
         None => Ok(None),
@@ -76,7 +77,8 @@ fn delivered(
 
 fn floor_of(alloc: Global, pool: &Pool, member: u16, number: u64) -> Result<Option<Event>, NoMemory>
     ensures { IfOk result
-        (λ event. event ≡ rule.event_of (over (sent_in pool.now)) member (rule.Floor number)) }
+        (λ event. event
+        ≡ rule.event_of (world_of_pool (sent_in pool.now)) member (rule.Floor number)) }
 {
     match message_for(pool, member, number) {
         None => Ok(None),
@@ -92,7 +94,7 @@ pub(crate) fn event_for(
     ask: &Ask,
 ) -> Result<Option<Event>, NoMemory>
     ensures { IfOk result
-        (λ event. event ≡ rule.event_of (over (sent_in pool.now)) member ask.now) }
+        (λ event. event ≡ rule.event_of (world_of_pool (sent_in pool.now)) member ask.now) }
 {
     match ask.kind() {
         AskKind::Propose(payload) => Ok(Some(Event::Propose(payload.copy(alloc)?))),

@@ -10,10 +10,10 @@ ghost use Rattle.cw_rules.specs.declared.travel.Travel.TheVariants as travel;
 ghost use Rattle.cw_rules.specs.Rules.{commit};
 ghost use Rattle.cw_rules.specs.Sends.{block_sends, chunk_out, to_all as all};
 ghost use Rattle.cw_rules.specs.World as rule;
-ghost use Rattle.cw_rules_coded.specs.Coded.{uncut};
-ghost use Rattle.shards.specs.Kept.{rules_of as cut_by};
+ghost use Rattle.cw_rules_coded.specs.Coded.{uncut_rules};
+ghost use Rattle.shards.specs.Kept.{chunk_rules as cut_by};
 ghost use Rattle.hail_world.specs.Offers as offers;
-ghost use Rattle.hail_world.specs.Places.{over, rules_of};
+ghost use Rattle.hail_world.specs.Places.{world_of_pool, script_rules};
 ghost use Rattle.hail_report.specs.Pool.{sent_in};
 
 use cw_base::{Digest32, Hasher, Items, NoMemory, Reader, Strategy};
@@ -46,7 +46,7 @@ fn proposal_of(message: &Message) -> Option<Proposal>
 
 // The proposal of a vote that was sent under that number.
 fn voted_on(pool: &Pool, number: u64) -> Option<Proposal>
-    ensures { result ≡ rule.voted_on (over (sent_in pool.now)) number }
+    ensures { result ≡ rule.voted_on (world_of_pool (sent_in pool.now)) number }
 {
     match pool.get(number) {
         None => None,
@@ -79,7 +79,8 @@ fn again(
     finalizes: bool,
 ) -> Result<Items<Out>, NoMemory>
     ensures { IfOk result
-        (λ outs. outs ≡ offers.again finalizes (over (sent_in pool.now)) member number) }
+        (λ outs. outs
+        ≡ offers.second_vote finalizes (world_of_pool (sent_in pool.now)) member number) }
 {
     match voted_on(pool, number) {
         None => Ok(Items::new(alloc)),
@@ -209,7 +210,7 @@ fn go_whole<H: Hasher<Digest = Digest32>>(
 ) -> Result<(Commitment, Items<Out>), NoMemory>
     ensures name { (epochs : Epochs) (backlog : ℕ) (accepts : Block → Block → Bool)
         → IfOk result
-        (λ gone. gone.0 ≡ commit (uncut H.digest_of epochs backlog accepts) block) }
+        (λ gone. gone.0 ≡ commit (uncut_rules H.digest_of epochs backlog accepts) block) }
     ensures outs { IfOk result (λ gone. gone.1 ≡ all (message.Block block) ∷ []) }
 {
     let commitment = whole_commit::<H>(alloc, &block)?;
@@ -227,9 +228,10 @@ fn go_out<H: Hasher<Digest = Digest32>, R: Threads + Sync, S: Strategy>(
     strategy: &S,
 ) -> Result<(Commitment, Items<Out>), NoMemory>
     ensures name { IfOk result
-        (λ gone. gone.0 ≡ commit (rules_of H.digest_of script.now) block) }
+        (λ gone. gone.0 ≡ commit (script_rules H.digest_of script.now) block) }
     ensures outs { IfOk result
-        (λ gone. gone.1 ≡ block_sends script.now.travel (rules_of H.digest_of script.now) member 0
+        (λ gone. gone.1
+        ≡ block_sends script.now.travel (script_rules H.digest_of script.now) member 0
         block) }
 {
     match script.travel() {
@@ -251,7 +253,8 @@ fn offer<H: Hasher<Digest = Digest32>, R: Threads + Sync, S: Strategy>(
     strategy: &S,
 ) -> Result<Items<Out>, NoMemory>
     ensures { IfOk result
-        (λ outs. outs ≡ offers.offer (rules_of H.digest_of script.now) member view payload.now) }
+        (λ outs. outs ≡ offers.offer (script_rules H.digest_of script.now) member view payload.now)
+        }
 {
     let committees = script.committees(alloc)?;
     let block = offered::<H>(alloc, &committees, view, payload.copy(alloc)?)?;
@@ -277,8 +280,8 @@ pub(crate) fn fault_sends<H: Hasher<Digest = Digest32>, R: Threads + Sync, S: St
     strategy: &S,
 ) -> Result<Items<Out>, NoMemory>
     ensures { IfOk result
-        (λ outs. outs ≡ rule.fault_sends (rules_of H.digest_of script.now)
-        (over (sent_in pool.now)) member fault.now) }
+        (λ outs. outs ≡ rule.fault_sends (script_rules H.digest_of script.now)
+        (world_of_pool (sent_in pool.now)) member fault.now) }
 {
     match fault.kind() {
         FaultKind::Silent => Ok(Items::new(alloc)),

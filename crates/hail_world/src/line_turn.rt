@@ -5,7 +5,7 @@ ghost use Rattle.std.specs.Prelude.{slice_get, IfOk, IfErr};
 ghost use Rattle.cw_rules.specs.Report.{entry_of};
 ghost use Rattle.cw_rules.specs.World.{Line, World as RulesWorld, run};
 ghost use Rattle.hail_world.specs.Played.{lines_of};
-ghost use Rattle.hail_world.specs.Places.{WorkBy, notes_at as notes_in, rules_of};
+ghost use Rattle.hail_world.specs.Places.{WorkBy, notes_at as notes_in, script_rules};
 ghost use Rattle.hail_world.specs.declared.place.Place.{Place as PlaceValue};
 ghost use Rattle.hail_world.specs.Seats.{Seat as SeatValue};
 ghost use Rattle.hail_world.specs.Runs.{IsStopped};
@@ -37,32 +37,32 @@ pub(crate) fn turn_line<H: Hasher<Digest = Digest32>, W: Way, R: Threads + Sync,
 ) -> Result<Entry, RunError>
     requires way { setting.now.script.now.travel ≡ W.travel }
     requires count { length places.old ≡ setting.now.script.now.committees.total }
-    requires sound { WorkBy (rules_of H.digest_of setting.now.script.now) 0 places.old }
+    requires sound { WorkBy (script_rules H.digest_of setting.now.script.now) 0 places.old }
     ensures played { (w : RulesWorld) (rows : List (ℕ × Line))
-        → Begin (rules_of H.digest_of setting.now.script.now) w
+        → Begin (script_rules H.digest_of setting.now.script.now) w
         (lines_of rows ++ setting.now.line.now ∷ [])
-        → HavePlayed (rules_of H.digest_of setting.now.script.now) w rows setting.now.pool.now
+        → HavePlayed (script_rules H.digest_of setting.now.script.now) w rows setting.now.pool.now
         places.old known.old setting.now.faulty.now
         → IfOk result
-        (λ entry. HavePlayed (rules_of H.digest_of setting.now.script.now) w
+        (λ entry. HavePlayed (script_rules H.digest_of setting.now.script.now) w
         (rows ++ (setting.now.number, setting.now.line.now) ∷ [])
         (setting.now.pool.now ++ entry ∷ []) places.new known.new setting.now.faulty.now) }
     ensures gives { (w : RulesWorld) (rows : List (ℕ × Line))
-        → HavePlayed (rules_of H.digest_of setting.now.script.now) w rows setting.now.pool.now
+        → HavePlayed (script_rules H.digest_of setting.now.script.now) w rows setting.now.pool.now
         places.old known.old setting.now.faulty.now
         → IfOk result
-        (λ entry. entry ≡ entry_of (rules_of H.digest_of setting.now.script.now)
-        (run (rules_of H.digest_of setting.now.script.now) w (lines_of rows)) setting.now.number
+        (λ entry. entry ≡ entry_of (script_rules H.digest_of setting.now.script.now)
+        (run (script_rules H.digest_of setting.now.script.now) w (lines_of rows)) setting.now.number
         setting.now.line.now) }
     ensures sound { IfOk result
-        (λ _. WorkBy (rules_of H.digest_of setting.now.script.now) 0 places.new) }
+        (λ _. WorkBy (script_rules H.digest_of setting.now.script.now) 0 places.new) }
     ensures err { (w : RulesWorld) (rows : List (ℕ × Line))
-        → Begin (rules_of H.digest_of setting.now.script.now) w
+        → Begin (script_rules H.digest_of setting.now.script.now) w
         (lines_of rows ++ setting.now.line.now ∷ [])
-        → HavePlayed (rules_of H.digest_of setting.now.script.now) w rows setting.now.pool.now
+        → HavePlayed (script_rules H.digest_of setting.now.script.now) w rows setting.now.pool.now
         places.old known.old setting.now.faulty.now
         → IfErr result
-        (λ e. IsStopped (rules_of H.digest_of setting.now.script.now) w
+        (λ e. IsStopped (script_rules H.digest_of setting.now.script.now) w
         (lines_of rows ++ setting.now.line.now ∷ []) e) }
 {
     cluster_laws();

@@ -4,7 +4,7 @@ ghost use Rattle.std.specs.Prelude.{◌≡◌, ◌++◌, [], None, List, Option,
 ghost use Rattle.std.specs.Prelude.{is_none, length, IfOk};
 ghost use Rattle.cw_rules.specs.World.{World, fault_sends, line_member, sent_from};
 ghost use Rattle.hail_world.specs.Honest.{IsHonest, IsPlaced};
-ghost use Rattle.hail_world.specs.Places.{SitAs, WorkBy, IsTurn, over, rules_of};
+ghost use Rattle.hail_world.specs.Places.{SitAs, WorkBy, IsTurn, world_of_pool, script_rules};
 ghost use Rattle.hail_report.specs.Pool.{sent_in};
 
 use crate::fault;
@@ -31,12 +31,12 @@ fn turn_place<H: Hasher<Digest = Digest32>, W: Way, R: Threads + Sync, S: Strate
 ) -> Result<(Option<u64>, Option<StepOut>), NoMemory>
     requires way { setting.now.script.now.travel ≡ W.travel }
     requires count { length places.old ≡ setting.now.script.now.committees.total }
-    requires sound { WorkBy (rules_of H.digest_of setting.now.script.now) 0 places.old }
+    requires sound { WorkBy (script_rules H.digest_of setting.now.script.now) 0 places.old }
     ensures turned { IfOk result
-        (λ r. IsPlaced (rules_of H.digest_of setting.now.script.now) setting.now.faulty.now
+        (λ r. IsPlaced (script_rules H.digest_of setting.now.script.now) setting.now.faulty.now
         (sent_in setting.now.pool.now) setting.now.line.now places.old places.new r.0 r.1) }
     ensures sound { IfOk result
-        (λ _. WorkBy (rules_of H.digest_of setting.now.script.now) 0 places.new) }
+        (λ _. WorkBy (script_rules H.digest_of setting.now.script.now) 0 places.new) }
 {
     let id = setting.line.member();
     let place = mem::replace(&mut places[usize::from(id)], Place::Faulty);
@@ -57,15 +57,15 @@ pub(crate) fn play_member<H: Hasher<Digest = Digest32>, W: Way, R: Threads + Syn
     requires honest { IsHonest setting.now.line.now }
     requires way { setting.now.script.now.travel ≡ W.travel }
     requires count { length places.old ≡ setting.now.script.now.committees.total }
-    requires sound { WorkBy (rules_of H.digest_of setting.now.script.now) 0 places.old }
+    requires sound { WorkBy (script_rules H.digest_of setting.now.script.now) 0 places.old }
     ensures turn { (w : World) → SitAs places.old w.members
         → sent_in setting.now.pool.now ≡ w.pool
         → setting.now.faulty.now ≡ map is_none w.members
         → IfOk result
-        (λ entry. IsTurn (rules_of H.digest_of setting.now.script.now) w setting.now.number
+        (λ entry. IsTurn (script_rules H.digest_of setting.now.script.now) w setting.now.number
         setting.now.line.now places.new (sent_in setting.now.pool.now ++ entry.sent) entry) }
     ensures sound { IfOk result
-        (λ _. WorkBy (rules_of H.digest_of setting.now.script.now) 0 places.new) }
+        (λ _. WorkBy (script_rules H.digest_of setting.now.script.now) 0 places.new) }
 {
     let (found, done) = turn_place(rt, alloc, setting, places, strategy)?;
     let member = setting.line.member();
@@ -82,8 +82,8 @@ fn play_fault<H: Hasher<Digest = Digest32>, R: Threads + Sync, S: Strategy>(
     fault: &Fault,
     strategy: &S,
 ) -> Result<Entry, NoMemory>
-    ensures { let outs = fault_sends (rules_of H.digest_of setting.now.script.now)
-        (over (sent_in setting.now.pool.now)) member fault.now in
+    ensures { let outs = fault_sends (script_rules H.digest_of setting.now.script.now)
+        (world_of_pool (sent_in setting.now.pool.now)) member fault.now in
         IfOk result
         (λ entry. entry
         ≡ record {
@@ -117,15 +117,15 @@ pub(crate) fn play<H: Hasher<Digest = Digest32>, W: Way, R: Threads + Sync, S: S
 ) -> Result<Entry, NoMemory>
     requires way { setting.now.script.now.travel ≡ W.travel }
     requires count { length places.old ≡ setting.now.script.now.committees.total }
-    requires sound { WorkBy (rules_of H.digest_of setting.now.script.now) 0 places.old }
+    requires sound { WorkBy (script_rules H.digest_of setting.now.script.now) 0 places.old }
     ensures turn { (w : World) → SitAs places.old w.members
         → sent_in setting.now.pool.now ≡ w.pool
         → setting.now.faulty.now ≡ map is_none w.members
         → IfOk result
-        (λ entry. IsTurn (rules_of H.digest_of setting.now.script.now) w setting.now.number
+        (λ entry. IsTurn (script_rules H.digest_of setting.now.script.now) w setting.now.number
         setting.now.line.now places.new (sent_in setting.now.pool.now ++ entry.sent) entry) }
     ensures sound { IfOk result
-        (λ _. WorkBy (rules_of H.digest_of setting.now.script.now) 0 places.new) }
+        (λ _. WorkBy (script_rules H.digest_of setting.now.script.now) 0 places.new) }
 {
     match setting.line.kind() {
         LineKind::Faulty(member, fault) => {

@@ -11,7 +11,7 @@ ghost use Rattle.marshal.specs.Frames.{FindsNotes};
 ghost use Rattle.node_disk.specs.Memory.{is_calm, memory_state};
 ghost use Rattle.hail_world.specs.Places.{DiskHolds, IsPutOut, Makes, SitsAs, WorksBy};
 ghost use Rattle.hail_world.specs.Places.{did, did_cut};
-ghost use Rattle.hail_world.specs.Places.{over, rules_of, starts_again, table, turned_by};
+ghost use Rattle.hail_world.specs.Places.{world_of_pool, script_rules, starts_again, table, turned_by};
 ghost use Rattle.hail_world.specs.Places as places;
 ghost use Rattle.hail_world.specs.declared.place.Place.TheVariants.{Live};
 ghost use Rattle.hail_report.specs.Pool.{sent_in};
@@ -131,9 +131,9 @@ pub(crate) fn restart<H: Hasher<Digest = Digest32>, W: Way, R: Threads + Sync, S
         × FindsNotes frames (memory_state disk).now.seen }
     ensures started { (frames : List (List NoteValue))
         → FindsNotes frames (memory_state disk).now.seen
-        → let done = start (rules_of H.digest_of script.now) id frames in
+        → let done = start (script_rules H.digest_of script.now) id frames in
         IfOk result (λ made. SitsAs made.0 (Some done.member) × (made.1 ≡ out_of done)) }
-    ensures sound { IfOk result (λ made. WorksBy (rules_of H.digest_of script.now) id made.0) }
+    ensures sound { IfOk result (λ made. WorksBy (script_rules H.digest_of script.now) id made.0) }
 {
     let committees = script.committees(alloc)?;
     let (seat, out) = start(rt, alloc, id, committees, script.backlog(), disk, strategy)?;
@@ -177,16 +177,16 @@ fn asked_live<H: Hasher<Digest = Digest32>, W: Way, R: Threads + Sync, S: Strate
     ask: &Ask,
     strategy: &S,
 ) -> Result<(Place<Seat<H, W>>, Option<StepOut>), NoMemory>
-    requires sound { WorksBy (rules_of H.digest_of setting.now.script.now) id (Live seat) }
+    requires sound { WorksBy (script_rules H.digest_of setting.now.script.now) id (Live seat) }
     ensures makes { (o : Option Member) → SitsAs (Live seat) o
         → let signed = table setting.now.faulty.now (sent_in setting.now.pool.now) in
         IfOk result
         (λ made. Makes o
         (option_and_then
-        (did (rules_of H.digest_of setting.now.script.now) signed
-        (over (sent_in setting.now.pool.now)) id ask.now) o) made.0 made.1) }
+        (did (script_rules H.digest_of setting.now.script.now) signed
+        (world_of_pool (sent_in setting.now.pool.now)) id ask.now) o) made.0 made.1) }
     ensures sound { IfOk result
-        (λ made. WorksBy (rules_of H.digest_of setting.now.script.now) id made.0) }
+        (λ made. WorksBy (script_rules H.digest_of setting.now.script.now) id made.0) }
 {
     match event_for(alloc, setting.pool, id, ask) {
         Ok(None) => Ok((Place::Live(seat), None)),
@@ -213,16 +213,16 @@ fn asked<H: Hasher<Digest = Digest32>, W: Way, R: Threads + Sync, S: Strategy>(
     ask: &Ask,
     strategy: &S,
 ) -> Result<(Place<Seat<H, W>>, Option<StepOut>), NoMemory>
-    requires sound { WorksBy (rules_of H.digest_of setting.now.script.now) id place }
+    requires sound { WorksBy (script_rules H.digest_of setting.now.script.now) id place }
     ensures makes { (o : Option Member) → SitsAs place o
         → let signed = table setting.now.faulty.now (sent_in setting.now.pool.now) in
         IfOk result
         (λ made. Makes o
         (option_and_then
-        (did (rules_of H.digest_of setting.now.script.now) signed
-        (over (sent_in setting.now.pool.now)) id ask.now) o) made.0 made.1) }
+        (did (script_rules H.digest_of setting.now.script.now) signed
+        (world_of_pool (sent_in setting.now.pool.now)) id ask.now) o) made.0 made.1) }
     ensures sound { IfOk result
-        (λ made. WorksBy (rules_of H.digest_of setting.now.script.now) id made.0) }
+        (λ made. WorksBy (script_rules H.digest_of setting.now.script.now) id made.0) }
 {
     match place {
         Place::Live(seat) => asked_live(rt, alloc, setting, id, seat, ask, strategy),
@@ -241,17 +241,17 @@ fn cut_live<H: Hasher<Digest = Digest32>, W: Way, R: Threads + Sync, S: Strategy
     ask: &Ask,
     strategy: &S,
 ) -> Result<(Place<Seat<H, W>>, Option<StepOut>), NoMemory>
-    requires sound { WorksBy (rules_of H.digest_of setting.now.script.now) id (Live seat) }
+    requires sound { WorksBy (script_rules H.digest_of setting.now.script.now) id (Live seat) }
     ensures makes { (o : Option Member) → SitsAs (Live seat) o
         → let signed = table setting.now.faulty.now (sent_in setting.now.pool.now) in
         IfOk result
         (λ made. Makes o
         (option_and_then
-        (did_cut (rules_of H.digest_of setting.now.script.now) signed
-        (over (sent_in setting.now.pool.now)) id stop.call stop.cut stop.fill ask.now) o)
+        (did_cut (script_rules H.digest_of setting.now.script.now) signed
+        (world_of_pool (sent_in setting.now.pool.now)) id stop.call stop.cut stop.fill ask.now) o)
         made.0 made.1) }
     ensures sound { IfOk result
-        (λ made. WorksBy (rules_of H.digest_of setting.now.script.now) id made.0) }
+        (λ made. WorksBy (script_rules H.digest_of setting.now.script.now) id made.0) }
 {
     match event_for(alloc, setting.pool, id, ask) {
         Ok(None) => Ok((Place::Live(seat), None)),
@@ -280,17 +280,17 @@ fn cut<H: Hasher<Digest = Digest32>, W: Way, R: Threads + Sync, S: Strategy>(
     ask: &Ask,
     strategy: &S,
 ) -> Result<(Place<Seat<H, W>>, Option<StepOut>), NoMemory>
-    requires sound { WorksBy (rules_of H.digest_of setting.now.script.now) id place }
+    requires sound { WorksBy (script_rules H.digest_of setting.now.script.now) id place }
     ensures makes { (o : Option Member) → SitsAs place o
         → let signed = table setting.now.faulty.now (sent_in setting.now.pool.now) in
         IfOk result
         (λ made. Makes o
         (option_and_then
-        (did_cut (rules_of H.digest_of setting.now.script.now) signed
-        (over (sent_in setting.now.pool.now)) id stop.call stop.cut stop.fill ask.now) o)
+        (did_cut (script_rules H.digest_of setting.now.script.now) signed
+        (world_of_pool (sent_in setting.now.pool.now)) id stop.call stop.cut stop.fill ask.now) o)
         made.0 made.1) }
     ensures sound { IfOk result
-        (λ made. WorksBy (rules_of H.digest_of setting.now.script.now) id made.0) }
+        (λ made. WorksBy (script_rules H.digest_of setting.now.script.now) id made.0) }
 {
     match place {
         Place::Live(seat) => cut_live(rt, alloc, setting, id, seat, stop, ask, strategy),
@@ -309,14 +309,14 @@ fn restarted<H: Hasher<Digest = Digest32>, W: Way, R: Threads + Sync, S: Strateg
 ) -> Result<(Place<Seat<H, W>>, Option<StepOut>), NoMemory>
     requires way { setting.now.script.now.travel ≡ W.travel }
     requires member { id ≡ line_member setting.now.line.now }
-    requires sound { WorksBy (rules_of H.digest_of setting.now.script.now) id place }
+    requires sound { WorksBy (script_rules H.digest_of setting.now.script.now) id place }
     ensures makes { (o : Option Member) → SitsAs place o
         → IfOk result
         (λ made. Makes o
-        (option_and_then (starts_again (rules_of H.digest_of setting.now.script.now) id) o)
+        (option_and_then (starts_again (script_rules H.digest_of setting.now.script.now) id) o)
         made.0 made.1) }
     ensures sound { IfOk result
-        (λ made. WorksBy (rules_of H.digest_of setting.now.script.now) id made.0) }
+        (λ made. WorksBy (script_rules H.digest_of setting.now.script.now) id made.0) }
 {
     match place {
         Place::Stopped(disk, _) => {
@@ -338,16 +338,16 @@ pub(crate) fn take_turn<H: Hasher<Digest = Digest32>, W: Way, R: Threads + Sync,
 ) -> Result<(Place<Seat<H, W>>, Option<StepOut>), NoMemory>
     requires way { setting.now.script.now.travel ≡ W.travel }
     requires member { id ≡ line_member setting.now.line.now }
-    requires sound { WorksBy (rules_of H.digest_of setting.now.script.now) id place }
+    requires sound { WorksBy (script_rules H.digest_of setting.now.script.now) id place }
     ensures makes { (o : Option Member) → SitsAs place o
         → let signed = table setting.now.faulty.now (sent_in setting.now.pool.now) in
         IfOk result
         (λ made. Makes o
         (option_and_then
-        (turned_by (rules_of H.digest_of setting.now.script.now) signed
-        (over (sent_in setting.now.pool.now)) id setting.now.line.now) o) made.0 made.1) }
+        (turned_by (script_rules H.digest_of setting.now.script.now) signed
+        (world_of_pool (sent_in setting.now.pool.now)) id setting.now.line.now) o) made.0 made.1) }
     ensures sound { IfOk result
-        (λ made. WorksBy (rules_of H.digest_of setting.now.script.now) id made.0) }
+        (λ made. WorksBy (script_rules H.digest_of setting.now.script.now) id made.0) }
 {
     match setting.line.kind() {
         LineKind::Do(_, ask) => asked(rt, alloc, setting, id, place, ask, strategy),

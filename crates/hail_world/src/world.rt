@@ -9,9 +9,9 @@ ghost use Rattle.cw_rules.specs.Rules.{Rules};
 ghost use Rattle.cw_rules.specs.Step.{Member};
 ghost use Rattle.hail_world.specs.Offers.{some_of};
 ghost use Rattle.cw_rules.specs.World.{World as RulesWorld};
-ghost use Rattle.hail_script.specs.Grammar.{first_event, marks, script_by};
+ghost use Rattle.hail_script.specs.Grammar.{first_event, faulty_marks, script_by};
 ghost use Rattle.hail_world.specs.Places.{SitAs, WorkBy, SitsAs, WorksBy};
-ghost use Rattle.hail_world.specs.Places.{rules_of};
+ghost use Rattle.hail_world.specs.Places.{script_rules};
 ghost use Rattle.hail_world.specs.Reports.{AreNodesOf, HoldNotes, IsCause, IsReport, IsRun, honest};
 ghost use Rattle.hail_world.specs.Reports.{honest_at};
 ghost use Rattle.hail_world.specs.Played.{IsReportOf};
@@ -76,7 +76,8 @@ fn run_script<H: Hasher<Digest = Digest32>, W: Way, R: Threads + Sync, S: Strate
     ensures script { IfOk result (λ ran. ran.script ≡ script) }
     ensures ok { IfOk result (λ ran. IsRun H.digest_of script ran.report) }
     ensures err { IfErr result
-        (λ e. IsStopped (rules_of H.digest_of script) (opened H.digest_of script) script.lines e) }
+        (λ e. IsStopped (script_rules H.digest_of script) (opened H.digest_of script) script.lines
+        e) }
 {
     let mut cluster = Cluster::<H, W>::open(rt, alloc, script, strategy)?;
     match play_all(rt, alloc, &mut cluster, strategy) {
@@ -109,7 +110,7 @@ fn play_all<H: Hasher<Digest = Digest32>, W: Way, R: Threads + Sync, S: Strategy
               enumerate_from (first_event cluster.old.script.committees) cluster.old.script.lines;
         }) }
     ensures err { IfErr result
-        (λ e. IsStopped (rules_of H.digest_of cluster.old.script)
+        (λ e. IsStopped (script_rules H.digest_of cluster.old.script)
         (opened H.digest_of cluster.old.script) cluster.old.script.lines e) }
 {
     let first = cluster.script().first_event();
@@ -159,13 +160,14 @@ fn open_one<H: Hasher<Digest = Digest32>, W: Way, R: Threads + Sync, S: Strategy
     strategy: &S,
 ) -> Result<(Place<Seat<H, W>>, Option<Entry>), NoMemory>
     requires way { script.now.travel ≡ W.travel }
-    requires marks { faulty.now ≡ marks script.now.lines script.now.committees.total }
+    requires marks { faulty.now ≡ faulty_marks script.now.lines script.now.committees.total }
     requires known { id < script.now.committees.total }
     ensures entry { IfOk result
-        (λ made. made.1 ≡ opening_entry (rules_of H.digest_of script.now) script.now.lines id) }
+        (λ made. made.1 ≡ opening_entry (script_rules H.digest_of script.now) script.now.lines id) }
     ensures member { IfOk result
-        (λ made. SitsAs made.0 (seat_of (rules_of H.digest_of script.now) script.now.lines id)) }
-    ensures sound { IfOk result (λ made. WorksBy (rules_of H.digest_of script.now) id made.0) }
+        (λ made. SitsAs made.0 (seat_of (script_rules H.digest_of script.now) script.now.lines id))
+        }
+    ensures sound { IfOk result (λ made. WorksBy (script_rules H.digest_of script.now) id made.0) }
 {
     if is_faulty(faulty, id) {
         return Ok((Place::Faulty, None));
@@ -203,12 +205,12 @@ pub(crate) fn open_all<H: Hasher<Digest = Digest32>, W: Way, R: Threads + Sync, 
     strategy: &S,
 ) -> Result<(Items<Entry>, Vec<Place<Seat<H, W>>>), NoMemory>
     requires way { script.now.travel ≡ W.travel }
-    requires flags { faulty.now ≡ marks script.now.lines script.now.committees.total }
+    requires flags { faulty.now ≡ faulty_marks script.now.lines script.now.committees.total }
     ensures opening { IfOk result
-        (λ r. r.0 ≡ opening_entries (rules_of H.digest_of script.now) script.now.lines) }
+        (λ r. r.0 ≡ opening_entries (script_rules H.digest_of script.now) script.now.lines) }
     ensures members { IfOk result
         (λ r. SitAs r.1.items (opened H.digest_of script.now).members) }
-    ensures sound { IfOk result (λ r. WorkBy (rules_of H.digest_of script.now) 0 r.1.items) }
+    ensures sound { IfOk result (λ r. WorkBy (script_rules H.digest_of script.now) 0 r.1.items) }
     ensures count { IfOk result (λ r. length r.1.items ≡ script.now.committees.total) }
 {
     let mut opening = Items::new(alloc);

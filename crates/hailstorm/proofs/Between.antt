@@ -14,7 +14,7 @@ use Rattle.hail_script.specs.Lanes.{Laned, laned_of, lanes, rows}
 use Rattle.hail_script.specs.Scenario.{Scenario}
 use Rattle.hail_world.specs.Clusters.{Cluster, steps_in, world_in}
 use Rattle.hailstorm.specs.Lanes.{IsLanesCause, lane_at, left, without_next}
-use Rattle.hail_world.specs.Places.{rules_of}
+use Rattle.hail_world.specs.Places.{script_rules}
 use Rattle.hail_world.specs.Played.{lines_of}
 use Rattle.hail_world.specs.Runs.{IsStopped, opened}
 use Rattle.hailstorm.specs.Turns.{HasAdvanced, IsBetween, IsOver, IsTurnBy, IsTurnOf, IsTurning, Turning, between, told_order}
@@ -92,10 +92,10 @@ pub steps_more : (hash : List ℕ → Digest32) (old new : Cluster) (number : �
     → new ≡ record old { rows = old.rows ++ (number, line) ∷ [] } → steps ≡ steps_in hash new
     → steps
     ≡ steps_in hash old
-    ++ entry_of (rules_of hash old.script) (world_in hash old) number line ∷ []
+    ++ entry_of (script_rules hash old.script) (world_in hash old) number line ∷ []
 steps_more hash old new number line steps is all =
     all ∙ ap (λ (k : Cluster). steps_in hash k) is
-    ∙ entries_more (rules_of hash old.script) (opened hash old.script) old.rows number line
+    ∙ entries_more (script_rules hash old.script) (opened hash old.script) old.rows number line
 
 -- the same, whatever its parts are called
 pub between_seen : (x : Laned) (script : Scenario) (numbers sizes order order' : List ℕ)
@@ -114,7 +114,7 @@ module _ (hash : List ℕ → Digest32) (x : Laned) (order : List ℕ) (cluster 
     (there : slice_get x.script.lines from ≡ Some line) where
   pub advanced : (entry : Entry)
       → entry
-      ≡ entry_of (rules_of hash cluster.script) (world_in hash cluster)
+      ≡ entry_of (script_rules hash cluster.script) (world_in hash cluster)
       (slice_index x.numbers from) line
       → HasAdvanced hash x order k entry
   advanced entry gives = record {
@@ -123,27 +123,29 @@ module _ (hash : List ℕ → Digest32) (x : Laned) (order : List ℕ) (cluster 
     gives =
         gives
         ∙ ap
-        (λ (c : Cluster). entry_of (rules_of hash c.script) (world_in hash c)
+        (λ (c : Cluster). entry_of (script_rules hash c.script) (world_in hash c)
         (slice_index x.numbers from) line)
         h.played;
   }
 
   pub over_by : (e : RunError)
-      → outcome (rules_of hash cluster.script) (opened hash cluster.script) (lines_of cluster.rows)
+      → outcome (script_rules hash cluster.script) (opened hash cluster.script)
+      (lines_of cluster.rows)
       ≡ Ends (world_in hash cluster)
-      → IsStopped (rules_of hash cluster.script) (opened hash cluster.script)
+      → IsStopped (script_rules hash cluster.script) (opened hash cluster.script)
       (lines_of cluster.rows ++ line ∷ []) e
       → IsOver hash x (order ++ k ∷ []) e
   over_by e ends stops =
       is_over hash x order k line e
       (lines_then x order cursors k from end line h.rest at lt there)
       (subst
-      (λ (c : Cluster). outcome (rules_of hash c.script) (opened hash c.script) (lines_of c.rows)
+      (λ (c : Cluster). outcome (script_rules hash c.script) (opened hash c.script)
+      (lines_of c.rows)
       ≡ Ends (world_in hash c))
       h.played ends)
       (turns_then x order cursors k from end line h.rest at lt there h.turns)
       (subst
-      (λ (c : Cluster). IsStopped (rules_of hash c.script) (opened hash c.script)
+      (λ (c : Cluster). IsStopped (script_rules hash c.script) (opened hash c.script)
       (lines_of c.rows ++ line ∷ []) e)
       h.played stops)
 
@@ -188,7 +190,7 @@ pub over_cause : (hash : List ℕ → Digest32) (text : List ℕ) (x : Laned) (o
     → ((r : Rules) (script : List Line) (earlier later : List ℕ)
     → outcome r (opening r script) script ≡ Clashes earlier later
     → (w : World) × Reaches r script w × IsClash r w earlier later)
-    → TellsApart (rules_of hash x.script) x.script.lines
+    → TellsApart (script_rules hash x.script) x.script.lines
     → IsLanesCause hash text (told_order order e) e
 over_cause hash text x order error.NoMemory spells h law apart = refl
 over_cause hash text x order (error.HashClash earlier later) spells h law apart =

@@ -22,7 +22,7 @@ use Rattle.hailstorm.specs.Reports.{Report}
 use Rattle.hail_world.specs.Clusters.{Cluster, steps_in, world_in}
 use Rattle.hail_world.specs.Played.{IsReportOf, entries_of, lines_of}
 use Rattle.hailstorm.specs.Lanes.{IsLanesCause, IsLanesClash, IsLanesReport, but_last, lane_at, left, merged, played, renumbered, script_with, turns_of, whole, without_next}
-use Rattle.hail_world.specs.Places.{rules_of}
+use Rattle.hail_world.specs.Places.{script_rules}
 use Rattle.hailstorm.specs.Reports.{IsClashOf}
 use Rattle.hail_world.specs.Runs.{IsStopped, chain_from, opened}
 use Rattle.hailstorm.specs.Turns.{HasMet, IsBetween, IsOver, between}
@@ -237,17 +237,17 @@ but_last_more order k =
 pub is_over : (hash : List ℕ → Digest32) (x : Laned) (order : List ℕ) (k : ℕ) (line : Line)
     (e : RunError)
     → lines_of (played x (order ++ k ∷ [])) ≡ lines_of (played x order) ++ line ∷ []
-    → outcome (rules_of hash x.script) (opened hash x.script) (lines_of (played x order))
-    ≡ Ends (run (rules_of hash x.script) (opened hash x.script) (lines_of (played x order)))
+    → outcome (script_rules hash x.script) (opened hash x.script) (lines_of (played x order))
+    ≡ Ends (run (script_rules hash x.script) (opened hash x.script) (lines_of (played x order)))
     → ((j : ℕ)
     → turns_of j (order ++ k ∷ []) + length (lane_at (left (lanes x) (order ++ k ∷ [])) j)
     ≡ length (lane_at (lanes x) j))
-    → IsStopped (rules_of hash x.script) (opened hash x.script)
+    → IsStopped (script_rules hash x.script) (opened hash x.script)
     (lines_of (played x order) ++ line ∷ []) e
     → IsOver hash x (order ++ k ∷ []) e
 is_over hash x order k line error.NoMemory lines ends turns h = tt
 is_over hash x order k line (error.HashClash earlier later) lines ends turns h =
-    let r = rules_of hash x.script in
+    let r = script_rules hash x.script in
     let w = opened hash x.script in
     record {
       ends = ap (λ (l : List Line). outcome r w l) lines ∙ h;
@@ -312,18 +312,20 @@ pub lanes_reported : {H : Type 0} (hash : List ℕ → Digest32) (text : List �
     (order : List ℕ) (cluster : Cluster) (cursors : List (ℕ × ℕ)) (report : Report H)
     → laned_of text ≡ Ok x → IsBetween x order cluster cursors
     → flat_map (λ lane. lane) (left (lanes x) order) ≡ []
-    → outcome (rules_of hash cluster.script) (opened hash cluster.script) (lines_of cluster.rows)
+    → outcome (script_rules hash cluster.script) (opened hash cluster.script)
+    (lines_of cluster.rows)
     ≡ Ends (world_in hash cluster)
-    → IsReportOf (rules_of hash cluster.script) (world_in hash cluster)
-    (opening_entries (rules_of hash cluster.script) cluster.script.lines) (steps_in hash cluster)
+    → IsReportOf (script_rules hash cluster.script) (world_in hash cluster)
+    (opening_entries (script_rules hash cluster.script) cluster.script.lines)
+    (steps_in hash cluster)
     report
-    → IsCluster (rules_of hash x.script) x.script.lines → 0 < x.script.backlog
+    → IsCluster (script_rules hash x.script) x.script.lines → 0 < x.script.backlog
     → ((r : Rules) (script : List Line) (w : World) → IsCluster r script → 0 < r.backlog
     → outcome r (opening r script) script ≡ Ends w
     → IsReported r w (handed_in r script) (report_of r script w).chain)
     → IsLanesReport hash text order report
 lanes_reported hash text x order cluster cursors report spells h none clear tells among some law =
-    let r = rules_of hash x.script in
+    let r = script_rules hash x.script in
     let w = opened hash x.script in
     let lines = lines_of (played x order) in
     let opens : List Entry = opening_entries r x.script.lines in
@@ -331,13 +333,13 @@ lanes_reported hash text x order cluster cursors report spells h none clear tell
     let world = run r w lines in
     let played_all : outcome r w lines ≡ Ends world =
     subst
-    (λ (c : Cluster). outcome (rules_of hash c.script) (opened hash c.script) (lines_of c.rows)
+    (λ (c : Cluster). outcome (script_rules hash c.script) (opened hash c.script) (lines_of c.rows)
     ≡ Ends (world_in hash c))
     h.played clear in
     let told : IsReportOf r world opens steps report =
     subst
-    (λ (c : Cluster). IsReportOf (rules_of hash c.script) (world_in hash c)
-    (opening_entries (rules_of hash c.script) c.script.lines) (steps_in hash c) report)
+    (λ (c : Cluster). IsReportOf (script_rules hash c.script) (world_in hash c)
+    (opening_entries (script_rules hash c.script) c.script.lines) (steps_in hash c) report)
     h.played tells in
     let same : (let p : ℕ → Bool = λ i. list_any (faults i) x.script.lines in p)
     ≡ (λ i. list_any (faults i) lines) =
@@ -426,30 +428,31 @@ pub record TellsApart (r : Rules) (lines : List Line) : Type 0 where
       → AllByRecursion FitsLine script → outcome r (opening r script) script ≡ Clashes earlier later
       → earlier ≢ later
 
-pub tells_apart : (hash : List ℕ → Digest32) (x : Laned) → TellsBlocks (rules_of hash x.script)
-    → IsCluster (rules_of hash x.script) x.script.lines → AllByRecursion FitsLine x.script.lines
+pub tells_apart : (hash : List ℕ → Digest32) (x : Laned) → TellsBlocks (script_rules hash x.script)
+    → IsCluster (script_rules hash x.script) x.script.lines → AllByRecursion FitsLine x.script.lines
     → ((r : Rules) (script : List Line) (earlier later : List ℕ) → TellsBlocks r → IsCluster r
     script
     → AllByRecursion FitsLine script → outcome r (opening r script) script ≡ Clashes earlier later
     → earlier ≢ later)
-    → TellsApart (rules_of hash x.script) x.script.lines
+    → TellsApart (script_rules hash x.script) x.script.lines
 tells_apart hash x tells cluster fits law = record {
   cluster = cluster;
   fits = fits;
   law =
-      λ script earlier later c f h. law (rules_of hash x.script) script earlier later tells c f h;
+      λ script earlier later c f h. law (script_rules hash x.script) script earlier later tells c f
+      h;
 }
 
 clash_of_whole : (hash : List ℕ → Digest32) (x : Laned) (order earlier later : List ℕ)
-    → outcome (rules_of hash x.script) (opened hash x.script) (lines_of (played x order))
+    → outcome (script_rules hash x.script) (opened hash x.script) (lines_of (played x order))
     ≡ Clashes earlier later
     → ((r : Rules) (script : List Line) (earlier later : List ℕ)
     → outcome r (opening r script) script ≡ Clashes earlier later
     → (w : World) × Reaches r script w × IsClash r w earlier later)
-    → TellsApart (rules_of hash x.script) x.script.lines
+    → TellsApart (script_rules hash x.script) x.script.lines
     → IsClashOf hash (script_with x (whole x order)) earlier later
 clash_of_whole hash x order earlier later met law apart =
-    let r = rules_of hash x.script in
+    let r = script_rules hash x.script in
     let rest = flat_map (λ lane. lane) (left (lanes x) order) in
     let all = lines_of (whole x order) in
     let behind : outcome r (opened hash x.script) all ≡ Clashes earlier later =
@@ -478,7 +481,7 @@ pub lanes_clashed : (hash : List ℕ → Digest32) (text : List ℕ) (x : Laned)
     → ((r : Rules) (script : List Line) (earlier later : List ℕ)
     → outcome r (opening r script) script ≡ Clashes earlier later
     → (w : World) × Reaches r script w × IsClash r w earlier later)
-    → TellsApart (rules_of hash x.script) x.script.lines
+    → TellsApart (script_rules hash x.script) x.script.lines
     → IsLanesClash hash text order earlier later
 lanes_clashed hash text x order earlier later spells h law apart = record {
   laned = x;
@@ -488,7 +491,7 @@ lanes_clashed hash text x order earlier later spells h law apart = record {
   met = h.ends;
   at_last =
       λ some. (
-        run (rules_of hash x.script) (opened hash x.script)
+        run (script_rules hash x.script) (opened hash x.script)
             (lines_of (played x (but_last order))),
         h.before,
       );
@@ -497,18 +500,18 @@ lanes_clashed hash text x order earlier later spells h law apart = record {
 -- a clash before the first turn
 pub opening_clashed : (hash : List ℕ → Digest32) (text : List ℕ) (x : Laned) (e : RunError)
     → laned_of text ≡ Ok x
-    → IsStopped (rules_of hash x.script) (opened hash x.script) (lines_of (prefix x)) e
+    → IsStopped (script_rules hash x.script) (opened hash x.script) (lines_of (prefix x)) e
     → ((r : Rules) (script : List Line) (earlier later : List ℕ)
     → outcome r (opening r script) script ≡ Clashes earlier later
     → (w : World) × Reaches r script w × IsClash r w earlier later)
-    → TellsApart (rules_of hash x.script) x.script.lines
+    → TellsApart (script_rules hash x.script) x.script.lines
     → IsLanesCause hash text [] e
 opening_clashed hash text x error.NoMemory spells h law apart = refl
 opening_clashed hash text x (error.HashClash earlier later) spells h law apart =
-    let met : outcome (rules_of hash x.script) (opened hash x.script) (lines_of (played x []))
+    let met : outcome (script_rules hash x.script) (opened hash x.script) (lines_of (played x []))
     ≡ Clashes earlier later =
     ap
-    (λ (l : List (ℕ × Line)). outcome (rules_of hash x.script) (opened hash x.script)
+    (λ (l : List (ℕ × Line)). outcome (script_rules hash x.script) (opened hash x.script)
     (lines_of l))
     (append-nil (prefix x))
     ∙ h

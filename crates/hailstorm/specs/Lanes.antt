@@ -11,7 +11,7 @@ use Rattle.hail_script.specs.declared.error.RunError.TheVariants as error
 use Rattle.hail_script.specs.Grammar.{first_event}
 use Rattle.hail_script.specs.Lanes.{Laned, laned_of, lanes, prefix}
 use Rattle.hail_script.specs.Scenario.{Scenario}
-use Rattle.hail_world.specs.Places.{rules_of}
+use Rattle.hail_world.specs.Places.{script_rules}
 use Rattle.hail_world.specs.Played.{lines_of}
 use Rattle.hailstorm.specs.Reports.{Report, IsClashOf, IsRun, honest_numbers}
 
@@ -78,8 +78,8 @@ pub record IsLanesReport {H : Type 0} (hash : List ℕ → Digest32) (text : Lis
   pub run : IsRun hash (script_with laned (played laned order)) (as_plain laned report)
   pub opened : map (λ e. e.member) report.opening ≡ map Some (honest_numbers laned.script)
   pub stepped : length report.steps ≡ length laned.script.lines
-  pub chain : IsReported (rules_of hash laned.script) run.world
-      (handed_in (rules_of hash laned.script) (lines_of (played laned order))) report.chain
+  pub chain : IsReported (script_rules hash laned.script) run.world
+      (handed_in (script_rules hash laned.script) (lines_of (played laned order))) report.chain
 
 -- all but the last
 abbrev pub but_last : List ℕ → List ℕ
@@ -94,13 +94,13 @@ pub record IsLanesClash (hash : List ℕ → Digest32) (text : List ℕ) (order 
   pub in_grammar : laned_of text ≡ Ok laned
   pub at_most : (k : ℕ) → turns_of k order ≤ length (lane_at (lanes laned) k)
   pub clash : IsClashOf hash (script_with laned (whole laned order)) earlier later
-  pub met : outcome (rules_of hash laned.script)
-      (opening (rules_of hash laned.script) laned.script.lines) (lines_of (played laned order))
+  pub met : outcome (script_rules hash laned.script)
+      (opening (script_rules hash laned.script) laned.script.lines) (lines_of (played laned order))
       ≡ Clashes earlier later
   pub at_last : order ≢ []
       → (w : World)
-      × (outcome (rules_of hash laned.script)
-      (opening (rules_of hash laned.script) laned.script.lines)
+      × (outcome (script_rules hash laned.script)
+      (opening (script_rules hash laned.script) laned.script.lines)
       (lines_of (played laned (but_last order)))
       ≡ Ends w)
 

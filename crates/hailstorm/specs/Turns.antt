@@ -8,7 +8,7 @@ use Rattle.hail_script.specs.declared.error.RunError.{RunError}
 use Rattle.hail_script.specs.declared.error.RunError.TheVariants as error
 use Rattle.hail_script.specs.Lanes.{Laned, lanes, rows}
 use Rattle.hail_world.specs.Clusters.{Cluster}
-use Rattle.hail_world.specs.Places.{rules_of}
+use Rattle.hail_world.specs.Places.{script_rules}
 use Rattle.hail_world.specs.Played.{lines_of}
 use Rattle.hail_world.specs.Runs.{opened}
 use Rattle.hailstorm.specs.Lanes.{but_last, lane_at, left, played, turns_of}
@@ -30,12 +30,12 @@ pub record IsBetween (x : Laned) (order : List ℕ) (cluster : Cluster)
 -- the last of these turns met this clash
 pub record HasMet (hash : List ℕ → Digest32) (x : Laned) (order : List ℕ)
     (earlier later : List ℕ) : Type 0 where
-  pub ends : outcome (rules_of hash x.script) (opened hash x.script) (lines_of (played x order))
+  pub ends : outcome (script_rules hash x.script) (opened hash x.script) (lines_of (played x order))
       ≡ Clashes earlier later
-  pub before : outcome (rules_of hash x.script) (opened hash x.script)
+  pub before : outcome (script_rules hash x.script) (opened hash x.script)
       (lines_of (played x (but_last order)))
       ≡ Ends
-      (run (rules_of hash x.script) (opened hash x.script)
+      (run (script_rules hash x.script) (opened hash x.script)
       (lines_of (played x (but_last order))))
   pub turns : (k : ℕ) → turns_of k order ≤ length (lane_at (lanes x) k)
 
@@ -66,8 +66,8 @@ pub record HasAdvanced (hash : List ℕ → Digest32) (x : Laned) (order : List 
   pub row : ℕ × Line
   pub next : take 1 (lane_at (left (lanes x) order) k) ≡ row ∷ []
   pub gives : entry
-      ≡ entry_of (rules_of hash x.script)
-      (run (rules_of hash x.script) (opened hash x.script) (lines_of (played x order))) row.0
+      ≡ entry_of (script_rules hash x.script)
+      (run (script_rules hash x.script) (opened hash x.script) (lines_of (played x order))) row.0
       row.1
 
 -- what the reply of a turn means

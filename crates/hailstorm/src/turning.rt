@@ -9,7 +9,7 @@ ghost use Rattle.cw_rules.specs.World.{Line};
 ghost use Rattle.hail_script.specs.declared.error.RunError.TheVariants as cause;
 ghost use Rattle.hail_script.specs.Lanes.{Laned, laned_of, lanes as lanes_in, prefix, rows};
 ghost use Rattle.hail_world.specs.Clusters.{world_in};
-ghost use Rattle.hail_world.specs.Places.{rules_of};
+ghost use Rattle.hail_world.specs.Places.{script_rules};
 ghost use Rattle.hail_world.specs.Played.{lines_of};
 ghost use Rattle.hail_world.specs.Runs.{IsStopped, opened};
 ghost use Rattle.hailstorm.specs.Lanes.{IsLanesCause, IsLanesReport, lane_at, left};
@@ -71,7 +71,8 @@ impl<H: Hasher<Digest = Digest32>> Turning<H> {
     ) -> Result<Turning<H>, RunError>
         ensures ok { IfOk result (λ t. t ≡ record { laned = script; order = []; stopped = None }) }
         ensures err { IfErr result
-            (λ e. IsStopped (rules_of H.digest_of script.script) (opened H.digest_of script.script)
+            (λ e. IsStopped (script_rules H.digest_of script.script)
+            (opened H.digest_of script.script)
             (lines_of (prefix script)) e) }
     {
         let (plain, numbers, sizes) = script.into_parts();
@@ -261,7 +262,7 @@ fn play_before<H: Hasher<Digest = Digest32>, R: Threads + Sync, S: Strategy>(
         → OnOk result (cluster.new ≡ record cluster.old { rows = take before (rows x) }) }
     ensures err { (x : Laned) → x.script ≡ cluster.old.script → x.numbers ≡ numbers.now
         → IfErr result
-        (λ e. IsStopped (rules_of H.digest_of x.script) (opened H.digest_of x.script)
+        (λ e. IsStopped (script_rules H.digest_of x.script) (opened H.digest_of x.script)
         (lines_of (take before (rows x))) e) }
 {
     for at in 0..before {
@@ -291,14 +292,14 @@ fn play_twice<H: Hasher<Digest = Digest32>, R: Threads + Sync, S: Strategy>(
         (cluster.new ≡ record cluster.old { rows = cluster.old.rows ++ (number, line) ∷ [] }) }
     ensures gives { (line : Line) → slice_get cluster.old.script.lines at ≡ Some line
         → IfOk result
-        (λ r. r.0 ≡ entry_of (rules_of H.digest_of cluster.old.script)
+        (λ r. r.0 ≡ entry_of (script_rules H.digest_of cluster.old.script)
         (world_in H.digest_of cluster.old) number line) }
     ensures twice { IfOk result (λ r. r.0 ≡ r.1) }
     ensures err { (line : Line) → slice_get cluster.old.script.lines at ≡ Some line
         → IfErr result
-        (λ e. IsStopped (rules_of H.digest_of cluster.old.script)
+        (λ e. IsStopped (script_rules H.digest_of cluster.old.script)
         (opened H.digest_of cluster.old.script) (lines_of cluster.old.rows ++ line ∷ []) e) }
-    ensures before { outcome (rules_of H.digest_of cluster.old.script)
+    ensures before { outcome (script_rules H.digest_of cluster.old.script)
         (opened H.digest_of cluster.old.script) (lines_of cluster.old.rows)
         ≡ Ends (world_in H.digest_of cluster.old) }
 {

@@ -10,7 +10,7 @@ use Rattle.mailbox.specs.declared.call.Call.{Call}
 use Rattle.mailbox.specs.declared.mark.Mark.{Mark}
 use Rattle.mailbox.specs.declared.mark.Mark.TheVariants.{Empty, Filled, Failed}
 use Rattle.mailbox.specs.Calls.{IsFirstFault, none_at, rises_at, holds_in, holds_at, times_in, calls_at, place_holds}
-use Rattle.mailbox.specs.Marks.{is_empty, is_filled, next_mark, marked, marked_by, marked_by_all}
+use Rattle.mailbox.specs.Marks.{is_empty, is_filled, next_mark, mark_behind, marked_by, marked_by_all}
 use Rattle.mailbox.proofs.PlacesHad.{is_same, itself, none_all, none_holds, none_rises, none_times, read_at, some_times, sum_cons, times_cons}
 
 -- before the first call every mark is empty
@@ -22,17 +22,18 @@ empty_at (x ∷ xs) (suc k) = empty_at xs k
 
 marked_other : {T E R : Type 0} (is_it : Call T E R → Bool) (k : ℕ) (mark : Mark) (top : ℕ)
     (c : Call T E R)
-    → (c.place == k) ≡ false → marked is_it k mark top c ≡ mark
+    → (c.place == k) ≡ false → mark_behind is_it k mark top c ≡ mark
 marked_other is_it k mark top c h = rw h refl
 
 marked_own : {T E R : Type 0} (is_it : Call T E R → Bool) (mark : Mark) (top : ℕ) (c : Call T E R)
-    → marked is_it c.place mark top c ≡ next_mark is_it mark top c
+    → mark_behind is_it c.place mark top c ≡ next_mark is_it mark top c
 marked_own is_it mark top c = rw (itself c.place) refl
 
 -- a call past the history marks nothing
 pub marked_past : {T E R X : Type 0} (same : X → Call T E R → Bool) (history : List X) (mark : Mark)
     (k top : ℕ) (c : Call T E R) (x : X)
-    → length history ≤ c.place → slice_get history k ≡ Some x → mark ≡ marked (same x) k mark top c
+    → length history ≤ c.place → slice_get history k ≡ Some x → mark
+    ≡ mark_behind (same x) k mark top c
 marked_past same history mark k top c x past at =
     let less = slice_get_within history k x at in
     let other : (c.place == k) ≡ false = grind (arith, nat_tests) in
@@ -43,13 +44,13 @@ pub marked_set : {T E R X : Type 0} (same : X → Call T E R → Bool) (history 
     (marks : List Mark) (k top : ℕ) (c : Call T E R) (mark : Mark) (e x : X)
     → c.place < length history → length marks ≡ length history → e ≡ get_or history c.place e
     → slice_get history k ≡ Some x → mark ≡ next_mark (same e) (get_or marks c.place Empty) top c
-    → get_or (set marks c.place mark) k Empty ≡ marked (same x) k (get_or marks k Empty) top c
+    → get_or (set marks c.place mark) k Empty ≡ mark_behind (same x) k (get_or marks k Empty) top c
 marked_set {X = X} same history marks k top c mark e x within len read at is =
     step (c.place == k) refl
   where
     own : (y : X) → slice_get history c.place ≡ Some y
         → get_or (set marks c.place mark) c.place Empty
-        ≡ marked (same y) c.place (get_or marks c.place Empty) top c
+        ≡ mark_behind (same y) c.place (get_or marks c.place Empty) top c
     own y here =
         let there : slice_get history c.place ≡ Some e =
         slice_get_read history (length history) c.place e refl within read in
@@ -60,12 +61,13 @@ marked_set {X = X} same history marks k top c mark e x within len read at is =
         ∙ sym (marked_own (same y) (get_or marks c.place Empty) top c)))
 
     step : (b : Bool) → (c.place == k) ≡ b
-        → get_or (set marks c.place mark) k Empty ≡ marked (same x) k (get_or marks k Empty) top c
+        → get_or (set marks c.place mark) k Empty
+        ≡ mark_behind (same x) k (get_or marks k Empty) top c
     step true h =
         let P : ℕ → Type 0 =
         λ q. slice_get history q ≡ Some x
         → get_or (set marks c.place mark) q Empty
-        ≡ marked (same x) q (get_or marks q Empty) top c in
+        ≡ mark_behind (same x) q (get_or marks q Empty) top c in
         subst P (is_same c.place k h) (own x) at
     step false h =
         let other : k ≢ c.place =
@@ -76,13 +78,13 @@ marked_set {X = X} same history marks k top c mark e x within len read at is =
         ∙ sym (marked_other (same x) k (get_or marks k Empty) top c h)
 
 failed_mark : {T E R : Type 0} (is_it : Call T E R → Bool) (k top : ℕ) (c : Call T E R)
-    → marked is_it k Failed top c ≡ Failed
+    → mark_behind is_it k Failed top c ≡ Failed
 failed_mark is_it k top c =
     elim (c.place == k) as (λ b. (if b then next_mark is_it Failed top c else Failed) ≡ Failed)
     [ true ↦ refl | false ↦ refl ]
 
 filled_mark : {T E R : Type 0} (is_it : Call T E R → Bool) (k top : ℕ) (c : Call T E R)
-    → marked is_it k Filled top c ≡ (if c.place == k then Failed else Filled)
+    → mark_behind is_it k Filled top c ≡ (if c.place == k then Failed else Filled)
 filled_mark is_it k top c =
     elim (c.place == k)
     as (λ b. (if b then next_mark is_it Filled top c else Filled)
@@ -198,12 +200,12 @@ empty_by {T} {E} {R} is_it k top (c ∷ cs) =
         → marked_by is_it k Empty (max top c.place) cs
         ≡ verdict (none_at k cs) (times_in k cs) (nat_lt k (max top c.place))
         (holds_in is_it k cs)
-        → marked_by is_it k (marked is_it k Empty top c) (max top c.place) cs
+        → marked_by is_it k (mark_behind is_it k Empty top c) (max top c.place) cs
         ≡ verdict (none_at k (c ∷ cs)) (times_in k (c ∷ cs)) (nat_lt k top)
         (holds_in is_it k (c ∷ cs))
     step true h rest =
         let P : ℕ → Type 0 =
-        λ q. marked_by is_it q (marked is_it q Empty top c) (max top c.place) cs
+        λ q. marked_by is_it q (mark_behind is_it q Empty top c) (max top c.place) cs
         ≡ verdict (none_at q (c ∷ cs)) (times_in q (c ∷ cs)) (nat_lt q top)
         (holds_in is_it q (c ∷ cs)) in
         subst P (is_same c.place k h)

@@ -20,8 +20,8 @@ abbrev pub calls_in : {C : Type 0} → List (List C) → ℕ
 calls_in lists = sum_by (λ list. length list) lists
 
 -- a mailbox with the parts and all lists of another beside its own
-abbrev pub joined : {C : Type 0} → Mail C → Mail C → Mail C
-joined m other = record {
+abbrev pub mail_joined : {C : Type 0} → Mail C → Mail C → Mail C
+mail_joined m other = record {
   parts = m.parts + other.parts;
   own = m.own;
   lists = m.lists ++ lists_of other;

@@ -23,15 +23,15 @@ next_mark is_it mark top c =
     if is_empty mark && not (nat_lt c.place top) && is_it c then Filled else Failed
 
 -- the mark of the place k behind one more call
-abbrev pub marked : {T E R : Type 0} → (Call T E R → Bool) → ℕ → Mark → ℕ → Call T E R → Mark
-marked is_it k mark top c = if c.place == k then next_mark is_it mark top c else mark
+abbrev pub mark_behind : {T E R : Type 0} → (Call T E R → Bool) → ℕ → Mark → ℕ → Call T E R → Mark
+mark_behind is_it k mark top c = if c.place == k then next_mark is_it mark top c else mark
 
 -- the same behind the calls of a list
 abbrev pub marked_by : {T E R : Type 0} → (Call T E R → Bool) → ℕ → Mark → ℕ → List (Call T E R)
     → Mark
 marked_by is_it k mark top [] = mark
 marked_by is_it k mark top (c ∷ cs) =
-    marked_by is_it k (marked is_it k mark top c) (max top c.place) cs
+    marked_by is_it k (mark_behind is_it k mark top c) (max top c.place) cs
 
 -- the same behind all lists
 abbrev pub marked_by_all : {T E R : Type 0} → (Call T E R → Bool) → ℕ → Mark

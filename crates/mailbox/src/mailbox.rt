@@ -4,7 +4,7 @@ ghost use Rattle.std.specs.Prelude.{◌≡◌, ◌≢◌, ◌+◌, ◌-◌, ◌/
 ghost use Rattle.std.specs.Prelude.{IfOk, OnErr, OnOk, length, map, ℕ};
 ghost use Rattle.mailbox.specs.Calls.{AreCalls, HasAddedCall, IsFirstFault, Mail, calls_in};
 ghost use Rattle.mailbox.specs.Calls.{is_entry};
-ghost use Rattle.mailbox.specs.Calls.{joined, lists_of};
+ghost use Rattle.mailbox.specs.Calls.{mail_joined, lists_of};
 ghost use Rattle.mailbox.specs.Replay.{IsReplay, IsReplayToSome};
 ghost use Rattle.mailbox.specs.Turning.{TurnsBy};
 
@@ -241,7 +241,7 @@ impl<T: Turn, L: Session<T>> Mailbox<T, L> {
     /// Takes the parts and all lists of another mailbox of the session. It is handed back for want
     /// of memory alone.
     pub fn join(&mut self, _alloc: Global, other: Mailbox<T, L>) -> Result<(), Mailbox<T, L>>
-        ensures ok { OnOk result (self.new ≡ joined self.old other) }
+        ensures ok { OnOk result (self.new ≡ mail_joined self.old other) }
         ensures back { IfErr result (λ m. m ≡ other) }
         ensures err { OnErr result (self.new ≡ self.old) }
     {

@@ -3,7 +3,7 @@
 ghost use Rattle.std.specs.Prelude.{◌≡◌, ◌<◌, ℕ, ◌&&◌, length, map, true, false, MatchOption, Some};
 ghost use Rattle.std.specs.Prelude.{get_or, slice_get};
 ghost use Rattle.mailbox.specs.Calls.{IsFirstFault, is_entry, place_holds};
-ghost use Rattle.mailbox.specs.Marks.{is_empty, is_filled, marked, marked_by, next_mark};
+ghost use Rattle.mailbox.specs.Marks.{is_empty, is_filled, mark_behind, marked_by, next_mark};
 
 use crate::call::Call;
 use crate::turn::Turn;
@@ -84,7 +84,8 @@ fn mark_call<T: Turn>(
     requires { length marks.old ≡ length history.now }
     ensures { (k : ℕ) (x : _) → slice_get history.now k ≡ Some x
         → get_or marks.new k Mark.Empty
-        ≡ marked (is_entry T.Event.eq T.Reply.eq x) k (get_or marks.old k Mark.Empty) top call.now }
+        ≡ mark_behind (is_entry T.Event.eq T.Reply.eq x) k (get_or marks.old k Mark.Empty) top
+        call.now }
 {
     if call.place < history.len() as u64 {
         let place = call.place as usize;

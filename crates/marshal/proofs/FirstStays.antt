@@ -14,7 +14,7 @@ use Rattle.cw_rules.specs.Rules.{Rules}
 use Rattle.cw_rules.specs.Sends.{finalization_at}
 use Rattle.cw_rules.proofs.Lists.{and_then_some, in_left}
 use Rattle.marshal.specs.Bare.{reached_by}
-use Rattle.marshal.specs.Finding.{finalization, highest, identified}
+use Rattle.marshal.specs.Finding.{finalization, highest_block, identified}
 use Rattle.marshal.specs.Promises.{AgreeAt, IsUnpruned}
 use Rattle.marshal.specs.declared.identifier.Identifier.{Identifier}
 use Rattle.marshal.proofs.Growing.{filter_map_both, first_in, first_same, held_stays, reaches_itself}
@@ -186,4 +186,4 @@ module _ (r : Rules) where
 
   pub no_latest : (notes : List Note) → filter_map finalization_of notes ≡ []
       → identified r notes Identifier.Latest ≡ None
-  no_latest notes e = ap highest (none_final (λ p. held r notes p.payload) notes e)
+  no_latest notes e = ap highest_block (none_final (λ p. held r notes p.payload) notes e)

@@ -19,7 +19,7 @@ use Rattle.cw_rules.specs.Held.{finalization_of, held, noted_block_of}
 use Rattle.cw_rules.specs.Rules.{Rules}
 use Rattle.cw_rules.proofs.Lists.{and_then_some, first_of_both}
 use Rattle.marshal.specs.Finding.{final_block}
-use Rattle.marshal.specs.Reach.{AreAbove, HasFinals, IsLifted, Reaches, final_height, is_final}
+use Rattle.marshal.specs.Reach.{AreAbove, HasFinals, IsLifted, BoundsHeights, final_height, is_final}
 use Rattle.marshal.proofs.Growing.{first_front, held_cases}
 use Rattle.marshal.proofs.Placing.{or_none, position_cons}
 
@@ -138,11 +138,11 @@ height_low notes note n p b low is e =
 -- a note at the end
 pub reaches_on : (notes : List Note) (note : Note) (finals : List (Commitment × ℕ))
     (reach more new : List ℕ) (x : ℕ)
-    → Reaches notes reach → HasFinals finals (notes ++ note ∷ []) → more ≡ reach ++ x ∷ []
+    → BoundsHeights notes reach → HasFinals finals (notes ++ note ∷ []) → more ≡ reach ++ x ∷ []
     → unwrap_or (final_height notes note) 0 ≤ x → IsLifted more new
     → ((c : Commitment) (b : Block) (place : ℕ) → note ≡ Note.Block c b
     → lookup (same_commitment c) finals ≡ Some place → AreAbove place b.height new)
-    → Reaches (notes ++ note ∷ []) new
+    → BoundsHeights (notes ++ note ∷ []) new
 reaches_on notes note finals reach more new x reaches has more_is own lifted block = record {
   one_each = long;
   rising = lifted.rising;
@@ -246,10 +246,10 @@ reaches_on notes note finals reach more new x reaches has more_is own lifted blo
 
 -- without the last note
 pub reaches_less : (notes less : List Note) (note : Note) (n : ℕ) (reach new : List ℕ)
-    → Reaches notes reach → notes ≡ less ++ note ∷ [] → n ≡ length less → new ≡ take n reach
-    → Reaches less new
+    → BoundsHeights notes reach → notes ≡ less ++ note ∷ [] → n ≡ length less → new ≡ take n reach
+    → BoundsHeights less new
 reaches_less notes less note n reach new reaches split at new_is =
-    subst (Reaches less) (sym new_is) (record {
+    subst (BoundsHeights less) (sym new_is) (record {
       one_each = long;
       rising = IsNonDecreasingBy-take (λ y. y) n reach reaches.rising;
       bounds = λ i m e. low_at less m (slice_index_or (take n reach) i 0) (each i m e);
@@ -294,7 +294,8 @@ every : {X : Type 0} (P : X → Type 0) (xs : List X)
 every P [] each = tt
 every P (x ∷ xs) each = (each 0 x refl, every P xs (λ i y e. each (suc i) y e))
 
-module _ (r : Rules) (notes : List Note) (reach : List ℕ) (reaches : Reaches notes reach) where
+module _ (r : Rules) (notes : List Note) (reach : List ℕ) (reaches : BoundsHeights notes reach)
+    where
   final_low : (i : ℕ) (note : Note) (b : Block) → slice_get notes i ≡ Some note
       → final_block r notes note ≡ Some b → b.height ≤ slice_index_or reach i 0
   final_low i note b e is =

@@ -16,7 +16,7 @@ use Rattle.cw_rules.specs.Held.{finalization_of, held, reached}
 use Rattle.cw_rules.specs.Rules.{Rules}
 use Rattle.cw_rules.specs.Sends.{finalization_at}
 use Rattle.marshal.specs.Bare.{reached_by}
-use Rattle.marshal.specs.Finding.{final_block, higher_of, highest}
+use Rattle.marshal.specs.Finding.{final_block, higher_of, highest_block}
 use Rattle.marshal.specs.Reach.{HasFinals, is_final}
 use Rattle.marshal.proofs.Growing.{reached_low}
 use Rattle.marshal.proofs.Placing.{position_cons}
@@ -107,7 +107,8 @@ module _ (r : Rules) (notes : List Note) (h k : ℕ)
 -- ---- the highest
 
 highest_low : {X : Type 0} (f : X → Option Block) (top : ℕ) (xs : List X) (b : Block)
-    → AllByRecursion (λ x. IfSome (f x) (λ y. y.height ≤ top)) xs → highest (filter_map f xs) ≡ Some b
+    → AllByRecursion (λ x. IfSome (f x) (λ y. y.height ≤ top)) xs → highest_block (filter_map f xs)
+    ≡ Some b
     → b.height ≤ top
 highest_low f top [] b all e = absurd (none-some b e)
 highest_low {X = X} f top (x ∷ xs) b all e =
@@ -130,11 +131,11 @@ highest_low {X = X} f top (x ∷ xs) b all e =
             (same_Some c b (sym (ap (λ s. Some (cond s d c)) t) ∙ is)) l
 
     go : (o : Option Block) → f x ≡ o → IfSome o (λ y. y.height ≤ top)
-        → highest (filter_map f (x ∷ xs)) ≡ Some b
-        → ((d : Block) → highest (filter_map f xs) ≡ Some d → d.height ≤ top) → b.height ≤ top
+        → highest_block (filter_map f (x ∷ xs)) ≡ Some b
+        → ((d : Block) → highest_block (filter_map f xs) ≡ Some d → d.height ≤ top) → b.height ≤ top
     go None is l found later = later b (rw is at found)
     go (Some c) is l found later =
-        on c l (highest (filter_map f xs)) later
+        on c l (highest_block (filter_map f xs)) later
         (rw is at found)
 
 -- one that is as high as any, where those before it are lower
@@ -142,11 +143,11 @@ pub highest_at : {X : Type 0} (f : X → Option Block) (k : ℕ) (xs : List X) (
     → option_and_then f (slice_get xs k) ≡ Some b
     → AllByRecursion (λ x. IfSome (f x) (λ y. y.height < b.height)) (take k xs)
     → AllByRecursion (λ x. IfSome (f x) (λ y. y.height ≤ b.height)) xs
-    → highest (filter_map f xs) ≡ Some b
+    → highest_block (filter_map f xs) ≡ Some b
 highest_at f k [] b e low all = absurd (none-some b e)
 highest_at f zero (x ∷ xs) b e low all =
     rw e
-    (alone (highest (filter_map f xs)) (λ d h. highest_low f b.height xs d all.1 h))
+    (alone (highest_block (filter_map f xs)) (λ d h. highest_low f b.height xs d all.1 h))
   where
     alone : (o : Option Block) → ((d : Block) → o ≡ Some d → d.height ≤ b.height)
         → higher_of (Some b) o ≡ Some b
@@ -159,7 +160,7 @@ highest_at f (suc k) (x ∷ xs) b e low all =
     go (f x) refl low.0 (highest_at f k xs b e low.1 all.1)
   where
     go : (o : Option Block) → f x ≡ o → IfSome o (λ y. y.height < b.height)
-        → highest (filter_map f xs) ≡ Some b → highest (filter_map f (x ∷ xs)) ≡ Some b
+        → highest_block (filter_map f xs) ≡ Some b → highest_block (filter_map f (x ∷ xs)) ≡ Some b
     go None is l later = rw is later
     go (Some c) is l later =
         let yes : nat_lt c.height b.height ≡ true = grind (arith, nat_tests) in
@@ -167,7 +168,7 @@ highest_at f (suc k) (x ∷ xs) b e low all =
 
 -- where no payload has a finalization, no block of one is held
 none_of : (r : Rules) (all notes : List Note) → HasFinals [] notes
-    → highest (filter_map (final_block r all) notes) ≡ None
+    → highest_block (filter_map (final_block r all) notes) ≡ None
 none_of r all [] has = refl
 none_of r all (x ∷ xs) has = go (finalization_of x) refl (none_of r all xs later)
   where
@@ -192,13 +193,13 @@ none_of r all (x ∷ xs) has = go (finalization_of x) refl (none_of r all xs lat
         e))
 
     go : (o : Option Proposal) → finalization_of x ≡ o
-        → highest (filter_map (final_block r all) xs) ≡ None
-        → highest (filter_map (final_block r all) (x ∷ xs)) ≡ None
+        → highest_block (filter_map (final_block r all) xs) ≡ None
+        → highest_block (filter_map (final_block r all) (x ∷ xs)) ≡ None
     go None e none = rw e none
     go (Some p) e none = absurd (here p (rw e (same_commitment_self p.payload)))
 
 pub none_final : (r : Rules) (all : List Note) (entries : List (Commitment × ℕ)) (notes : List Note)
     → length entries ≡ 0 → HasFinals entries notes
-    → highest (filter_map (final_block r all) notes) ≡ None
+    → highest_block (filter_map (final_block r all) notes) ≡ None
 none_final r all [] notes none has = none_of r all notes has
 none_final r all (x ∷ xs) notes none has = absurd (omega (arith, none))

@@ -12,7 +12,7 @@ use Rattle.marshal.specs.declared.index.Index.{Index}
 -- an index of notes, beside which stand the digests of their blocks: it has where the first Block
 -- note of each commitment stands, the first finalization of each payload, the first certificate of
 -- each vote, and each digest; and what was verified last in each round
-pub record AreIndexed (notes : List Note) (digests : List (Option Digest32))
+pub record IsIndexOf (notes : List Note) (digests : List (Option Digest32))
     (index : Index) : Type 0 where
   pub placed : HasPlaces index.places.entries notes
   pub finalized : HasFinals index.finals.entries notes

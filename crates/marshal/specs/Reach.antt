@@ -25,7 +25,7 @@ final_height notes note =
 
 -- Beside each note stands a number. They never fall, and the noted payload of a finalization isn't
 -- higher than the number there. So none up to a note is higher than its number.
-pub record Reaches (notes : List Note) (reach : List ℕ) : Type 0 where
+pub record BoundsHeights (notes : List Note) (reach : List ℕ) : Type 0 where
   pub one_each : length reach ≡ length notes
   pub rising : IsNonDecreasing reach
   pub bounds : (i : ℕ) (note : Note) → slice_get notes i ≡ Some note

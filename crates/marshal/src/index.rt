@@ -3,7 +3,7 @@
 ghost use Rattle.std.specs.Prelude.{◌≡◌, ◌++◌, ◌∷◌, [], List, OnErr, OnOk, Option, length};
 ghost use Rattle.cw_base.specs.declared.hash.Digest32.{Digest32 as DigestValue};
 ghost use Rattle.cw_types.specs.declared.note.Note.{Note as NoteValue};
-ghost use Rattle.marshal.specs.Indexed.{AreIndexed};
+ghost use Rattle.marshal.specs.Indexed.{IsIndexOf};
 
 use crate::by_digest::ByDigest;
 use crate::by_round::ByRound;
@@ -28,7 +28,7 @@ pub(crate) struct Index {
 impl Index {
     /// That of no notes.
     pub(crate) fn new(alloc: Global) -> Index
-        ensures { AreIndexed [] [] result }
+        ensures { IsIndexOf [] [] result }
     {
         Index {
             places: BTreeMap::new(alloc),
@@ -48,12 +48,12 @@ impl Index {
         place: u64,
     ) -> Result<(), NoMemory>
         ensures ok { (notes : List NoteValue) (digests : List (Option DigestValue))
-            → AreIndexed notes digests self.old → place ≡ length notes → place ≡ length digests
-            → OnOk result (AreIndexed (notes ++ note.now ∷ []) (digests ++ digest ∷ [])
+            → IsIndexOf notes digests self.old → place ≡ length notes → place ≡ length digests
+            → OnOk result (IsIndexOf (notes ++ note.now ∷ []) (digests ++ digest ∷ [])
             self.new) }
         ensures err { (notes : List NoteValue) (digests : List (Option DigestValue))
-            → AreIndexed notes digests self.old → place ≡ length notes → place ≡ length digests
-            → OnErr result (AreIndexed notes digests self.new) }
+            → IsIndexOf notes digests self.old → place ≡ length notes → place ≡ length digests
+            → OnErr result (IsIndexOf notes digests self.new) }
     {
         self.by_digest.put(digest, place)?;
         if let Err(NoMemory) = self.certs.put(note, place) {
@@ -77,8 +77,8 @@ impl Index {
     /// Lets the note behind these go, with the digest of its block.
     pub(crate) fn take(&mut self, note: &Note, digest: Option<Digest32>, notes: &[Note])
         ensures { (digests : List (Option DigestValue))
-            → AreIndexed (notes.now ++ note.now ∷ []) (digests ++ digest ∷ []) self.old
-            → length digests ≡ length notes.now → AreIndexed notes.now digests self.new }
+            → IsIndexOf (notes.now ++ note.now ∷ []) (digests ++ digest ∷ []) self.old
+            → length digests ≡ length notes.now → IsIndexOf notes.now digests self.new }
     {
         let place = notes.len() as u64;
         self.by_digest.take(digest, place);

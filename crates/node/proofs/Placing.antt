@@ -18,7 +18,7 @@ use Rattle.cw_types.proofs.Same.{same_block-true, same_commitment-true, same_com
 use Rattle.cw_rules.specs.Accepted.{first_some}
 use Rattle.cw_rules.specs.Held.{noted_block_of}
 use Rattle.cw_rules.specs.Notes.{is_block}
-use Rattle.node.specs.Arriving.{HasFirsts, IsBehind, PutsFirst, first_child}
+use Rattle.node.specs.Arriving.{HasFirsts, IsFirstChild, PutsFirst, first_child}
 use Rattle.node.specs.Holding.{is_whole, shown_under, whole_under}
 use Rattle.node.specs.declared.arrival.Arrival.{Arrival}
 use Rattle.node.specs.declared.arrival.Shown.{Shown}
@@ -260,7 +260,7 @@ take_and_drop p (suc n) (x ∷ xs) = go (p x) (take_and_drop p n xs)
 
 -- so the block stands from its place on, if anywhere
 pub stands_behind : (xs : List Arrival) (entries : List (Commitment × ℕ)) (b : Block)
-    → IsBehind xs entries b
+    → IsFirstChild xs entries b
     → list_any (is_whole b) (drop (first_child xs entries b) xs) ≡ list_any (is_whole b) xs
 stands_behind xs entries b behind =
     sym
@@ -269,7 +269,7 @@ stands_behind xs entries b behind =
 
 -- and nowhere where there is no place
 pub stands_nowhere : (xs : List Arrival) (entries : List (Commitment × ℕ)) (b : Block)
-    → IsBehind xs entries b → lookup (same_commitment b.context.parent) entries ≡ None
+    → IsFirstChild xs entries b → lookup (same_commitment b.context.parent) entries ≡ None
     → list_any (is_whole b) xs ≡ false
 stands_nowhere xs entries b behind none =
     sym
@@ -312,12 +312,13 @@ later_here xs a b (Some n) later = later_front xs a n b later.within later.none
 later_here xs a b None later =
     later_front xs a (length xs) b (at_most (length xs)) later.none
 
-is_later : (xs : List Arrival) (entries : List (Commitment × ℕ)) (b : Block) → IsBehind xs entries b
+is_later : (xs : List Arrival) (entries : List (Commitment × ℕ)) (b : Block)
+    → IsFirstChild xs entries b
     → IsLater xs (lookup (same_commitment b.context.parent) entries) b
 is_later xs entries b behind = record { within = behind.within; none = behind.none }
 
 is_behind : (xs : List Arrival) (entries : List (Commitment × ℕ)) (b : Block)
-    → IsLater xs (lookup (same_commitment b.context.parent) entries) b → IsBehind xs entries b
+    → IsLater xs (lookup (same_commitment b.context.parent) entries) b → IsFirstChild xs entries b
 is_behind xs entries b later = record { within = later.within; none = later.none }
 
 -- what is found once a place was kept
@@ -336,8 +337,8 @@ found_put c d place n old new puts at =
 pub one_child : (xs : List Arrival) (old new : List (Commitment × ℕ)) (a : Arrival) (d : Block)
     (place : ℕ)
     → a.block ≡ Some d → PutsFirst d.context.parent place old new → place ≡ length xs
-    → ((b : Block) → IsBehind xs old b)
-    → (b : Block) → IsBehind (xs ++ a ∷ []) new b
+    → ((b : Block) → IsFirstChild xs old b)
+    → (b : Block) → IsFirstChild (xs ++ a ∷ []) new b
 one_child xs old new a d place whole puts at behind b =
     is_behind (xs ++ a ∷ []) new b
     (subst (λ (o : Option ℕ). IsLater (xs ++ a ∷ []) o b)

@@ -16,7 +16,7 @@ use Rattle.cw_rules.specs.Held.{if_committed, shown}
 use Rattle.cw_rules.specs.Rules.{Chunk, Rules, block_of}
 use Rattle.shards.specs.Kept as kept
 use Rattle.shards.specs.Standing as shards
-use Rattle.shards.specs.Verdicts.{after, kept_after, kept_verdict, verdict}
+use Rattle.shards.specs.Verdicts.{gathered_after, kept_after, kept_verdict, verdict}
 use Rattle.shards.specs.declared.pieces.KeptChunk.{KeptChunk}
 use Rattle.shards.specs.declared.verdict.Verdict.{Verdict}
 use Rattle.shards.specs.declared.verdict.Verdict.TheVariants.{Foreign, Garbage, Held, Kept, Known}
@@ -27,7 +27,7 @@ use Rattle.node.proofs.Accepting.{came_nothing, came_row}
 use Rattle.cw_types.proofs.Same.{same_commitment-true}
 use Rattle.cw_rules.proofs.Lists.{first_of_both}
 use Rattle.node.specs.Accepting.{is_new_row, is_own_place, with_row}
-use Rattle.node.specs.Holding.{Holding, came_of, cut_rules, rules_of, shown_under, state_of}
+use Rattle.node.specs.Holding.{Holding, came_of, cut_rules, rules_of, shown_under, holding_state}
 use Rattle.node.specs.Standing.{HasCome, PartsStand}
 use Rattle.node.specs.declared.arrival.Shown.{Shown}
 
@@ -96,32 +96,32 @@ row_stands hash t r s x id c index epochs same own other = go (is_own_place x id
 -- a chunk that isn't known and isn't foreign is new, and the rules take it
 pub taken_by : (r : Rules) (ks : List KeptChunk) (c : Commitment) (x : Chunk)
     → (verdict r ks c x ≡ Known → ⊥) → (verdict r ks c x ≡ Foreign → ⊥)
-    → (kept.is_known ks c x ≡ false) × (is_chunk_of r c x ≡ true)
-taken_by r ks c x known foreign = go (kept.is_known ks c x) refl (is_chunk_of r c x) refl
+    → (kept.is_kept_chunk ks c x ≡ false) × (is_chunk_of r c x ≡ true)
+taken_by r ks c x known foreign = go (kept.is_kept_chunk ks c x) refl (is_chunk_of r c x) refl
   where
-    go : (a : Bool) → kept.is_known ks c x ≡ a → (b : Bool) → is_chunk_of r c x ≡ b
-        → (kept.is_known ks c x ≡ false) × (is_chunk_of r c x ≡ true)
+    go : (a : Bool) → kept.is_kept_chunk ks c x ≡ a → (b : Bool) → is_chunk_of r c x ≡ b
+        → (kept.is_kept_chunk ks c x ≡ false) × (is_chunk_of r c x ≡ true)
     go true e b f = absurd (known (rw e refl))
     go false e true f = (e, f)
     go false e false f = absurd (foreign (rw (e, f) refl))
 
 kept_so : (r : Rules) (ks : List KeptChunk) (c : Commitment) (x : Chunk)
-    → kept.is_known ks c x ≡ false → is_chunk_of r c x ≡ true
+    → kept.is_kept_chunk ks c x ≡ false → is_chunk_of r c x ≡ true
     → kept_after r ks c x ≡ kept.with_chunk ks c x
 kept_so r ks c x e f = rw (e, f) refl
 
 same_kept : (r : Rules) (ks : List KeptChunk) (c : Commitment) (x : Chunk)
     → (verdict r ks c x ≡ Known) ⊎ (verdict r ks c x ≡ Foreign) → kept_after r ks c x ≡ ks
-same_kept r ks c x told = go (kept.is_known ks c x) refl (is_chunk_of r c x) refl told
+same_kept r ks c x told = go (kept.is_kept_chunk ks c x) refl (is_chunk_of r c x) refl told
   where
     never : (v : Verdict) → (Known ≡ v) ⊎ (Foreign ≡ v) → (b : Bool) → v ≡ kept_verdict r ks c x
         → (length (kept.chunks_of c ks) + 1 == c.config.minimum) ≡ b → ⊥
     never v t false e f =
         ⊎_elim (λ k. let z : Known ≡ Kept = k ∙ (e ∙ rw f refl) in cc)
         (λ k. let z : Foreign ≡ Kept = k ∙ (e ∙ rw f refl) in cc) t
-    never v t true e f = shownly (shown r (kept.came_of (kept.with_chunk ks c x)) c) refl
+    never v t true e f = shownly (shown r (kept.kept_came (kept.with_chunk ks c x)) c) refl
       where
-        shownly : (o : Option Block) → shown r (kept.came_of (kept.with_chunk ks c x)) c ≡ o → ⊥
+        shownly : (o : Option Block) → shown r (kept.kept_came (kept.with_chunk ks c x)) c ≡ o → ⊥
         shownly (Some b) g =
             ⊎_elim (λ k. let z : Known ≡ Held b = k ∙ (e ∙ rw (f, g) refl) in cc)
             (λ k. let z : Foreign ≡ Held b = k ∙ (e ∙ rw (f, g) refl) in cc) t
@@ -129,7 +129,7 @@ same_kept r ks c x told = go (kept.is_known ks c x) refl (is_chunk_of r c x) ref
             ⊎_elim (λ k. let z : Known ≡ Garbage = k ∙ (e ∙ rw (f, g) refl) in cc)
             (λ k. let z : Foreign ≡ Garbage = k ∙ (e ∙ rw (f, g) refl) in cc) t
 
-    go : (a : Bool) → kept.is_known ks c x ≡ a → (b : Bool) → is_chunk_of r c x ≡ b
+    go : (a : Bool) → kept.is_kept_chunk ks c x ≡ a → (b : Bool) → is_chunk_of r c x ≡ b
         → (verdict r ks c x ≡ Known) ⊎ (verdict r ks c x ≡ Foreign) → kept_after r ks c x ≡ ks
     go true e b f t = rw e refl
     go false e false f t = rw (e, f) refl
@@ -146,13 +146,13 @@ or_none None = refl
 -- before a chunk by which a block is held nothing is shown
 before_none : (hash : List ℕ → Digest32) (epochs : Epochs) (ks : List KeptChunk) (c : Commitment)
     (x : Chunk) (b : Block)
-    → shown (kept.rules_of hash epochs) (kept.came_of ks) c
-    ≡ option_and_then (if_committed (kept.rules_of hash epochs) c)
-    (block_of (kept.rules_of hash epochs) c.config
+    → shown (kept.chunk_rules hash epochs) (kept.kept_came ks) c
+    ≡ option_and_then (if_committed (kept.chunk_rules hash epochs) c)
+    (block_of (kept.chunk_rules hash epochs) c.config
     (take c.config.minimum (kept.chunks_of c ks)))
-    → kept.is_known ks c x ≡ false → is_chunk_of (kept.rules_of hash epochs) c x ≡ true
-    → verdict (kept.rules_of hash epochs) ks c x ≡ Held b
-    → shown (kept.rules_of hash epochs) (kept.came_of ks) c ≡ None
+    → kept.is_kept_chunk ks c x ≡ false → is_chunk_of (kept.chunk_rules hash epochs) c x ≡ true
+    → verdict (kept.chunk_rules hash epochs) ks c x ≡ Held b
+    → shown (kept.chunk_rules hash epochs) (kept.kept_came ks) c ≡ None
 before_none hash epochs ks c x b first e f told =
     go (length (kept.chunks_of c ks) + 1 == c.config.minimum) refl
   where
@@ -171,7 +171,7 @@ before_none hash epochs ks c x b first e f told =
         take_all c.config.minimum (kept.chunks_of c ks) (omega arith)
 
     go : (t : Bool) → (length (kept.chunks_of c ks) + 1 == c.config.minimum) ≡ t
-        → shown (kept.rules_of hash epochs) (kept.came_of ks) c ≡ None
+        → shown (kept.chunk_rules hash epochs) (kept.kept_came ks) c ≡ None
     go true t = first ∙ rw (all t) (rw (short t) refl)
     go false t = let z : Kept ≡ Held b = rw (e, f, t) at told in cc
 
@@ -183,19 +183,20 @@ module _ {D A : Type 0} (hash : List ℕ → Digest32) (accepts : A → Block �
     (h : Holding D A) (s : PartsStand hash accepts h) (c : Commitment) (x : Chunk) where
   -- the rules of the kept chunks take a chunk as those of the node do
   pub same_test : is_chunk_of (cut_rules hash accepts h) c x
-      ≡ is_chunk_of (kept.rules_of hash h.shards.epochs) c x
+      ≡ is_chunk_of (kept.chunk_rules hash h.shards.epochs) c x
   same_test = ap (λ q. is_chunk_of q c x) s.shards.rules
 
   -- it came before, or the rules don't take it
   pub row_none : (new : Holding D A)
-      → ((verdict (kept.rules_of hash h.shards.epochs) h.shards.kept c x ≡ Known) ↔ IsTrue
+      → ((verdict (kept.chunk_rules hash h.shards.epochs) h.shards.kept c x ≡ Known) ↔ IsTrue
       (list_any (same_part (Row c x)) (came_of h).parts))
-      → ((verdict (kept.rules_of hash h.shards.epochs) h.shards.kept c x ≡ Foreign) ↔
+      → ((verdict (kept.chunk_rules hash h.shards.epochs) h.shards.kept c x ≡ Foreign) ↔
       (IsFalse (list_any (same_part (Row c x)) (came_of h).parts)
       × IsFalse (is_chunk_of (cut_rules hash accepts h) c x)))
-      → (verdict (kept.rules_of hash h.shards.epochs) h.shards.kept c x ≡ Known)
-      ⊎ (verdict (kept.rules_of hash h.shards.epochs) h.shards.kept c x ≡ Foreign)
-      → new ≡ record h { shards = after (kept.rules_of hash h.shards.epochs) h.shards c x }
+      → (verdict (kept.chunk_rules hash h.shards.epochs) h.shards.kept c x ≡ Known)
+      ⊎ (verdict (kept.chunk_rules hash h.shards.epochs) h.shards.kept c x ≡ Foreign)
+      → new ≡ record h
+      { shards = gathered_after (kept.chunk_rules hash h.shards.epochs) h.shards c x }
       → HasCome hash accepts
       (take_part (came_of h) (is_chunk_of (cut_rules hash accepts h) c x) (Row c x)) h new
       × (false ≡ is_new_row (cut_rules hash accepts h) (came_of h) c x)
@@ -211,7 +212,7 @@ module _ {D A : Type 0} (hash : List ℕ → Digest32) (accepts : A → Block �
             kept = ks;
           };
         })
-        (same_kept (kept.rules_of hash h.shards.epochs) h.shards.kept c x told)))
+        (same_kept (kept.chunk_rules hash h.shards.epochs) h.shards.kept c x told)))
         (came_nothing hash accepts h s)),
     sym refused,
   )
@@ -227,25 +228,25 @@ module _ {D A : Type 0} (hash : List ℕ → Digest32) (accepts : A → Block �
 
   -- it is kept
   pub row_some : (new : Holding D A) (showing : List Shown)
-      → ((verdict (kept.rules_of hash h.shards.epochs) h.shards.kept c x ≡ Known) ↔ IsTrue
+      → ((verdict (kept.chunk_rules hash h.shards.epochs) h.shards.kept c x ≡ Known) ↔ IsTrue
       (list_any (same_part (Row c x)) (came_of h).parts))
-      → ((verdict (kept.rules_of hash h.shards.epochs) h.shards.kept c x ≡ Foreign) ↔
+      → ((verdict (kept.chunk_rules hash h.shards.epochs) h.shards.kept c x ≡ Foreign) ↔
       (IsFalse (list_any (same_part (Row c x)) (came_of h).parts)
       × IsFalse (is_chunk_of (cut_rules hash accepts h) c x)))
-      → (verdict (kept.rules_of hash h.shards.epochs) h.shards.kept c x ≡ Known → ⊥)
-      → (verdict (kept.rules_of hash h.shards.epochs) h.shards.kept c x ≡ Foreign → ⊥)
+      → (verdict (kept.chunk_rules hash h.shards.epochs) h.shards.kept c x ≡ Known → ⊥)
+      → (verdict (kept.chunk_rules hash h.shards.epochs) h.shards.kept c x ≡ Foreign → ⊥)
       → voter.IsTallyOf hash (with_row h.epochs h.id h.tally c x.index) (rules_of hash accepts h)
-      (voter.with_came (state_of h) (take_part (came_of h) true (Row c x)))
-      → shards.StandsFor hash (after (kept.rules_of hash h.shards.epochs) h.shards c x)
+      (voter.with_came (holding_state h) (take_part (came_of h) true (Row c x)))
+      → shards.StandsFor hash (gathered_after (kept.chunk_rules hash h.shards.epochs) h.shards c x)
       (cut_rules hash accepts h)
       (take_part (came_of h) (is_chunk_of (cut_rules hash accepts h) c x) (Row c x))
       → ((d : Commitment) → 0 < d.config.minimum
-      → shown (kept.rules_of hash h.shards.epochs)
-      (kept.came_of (kept_after (kept.rules_of hash h.shards.epochs) h.shards.kept c x)) d
+      → shown (kept.chunk_rules hash h.shards.epochs)
+      (kept.kept_came (kept_after (kept.chunk_rules hash h.shards.epochs) h.shards.kept c x)) d
       ≡ first_some (shown_under d) showing)
       → new
       ≡ record h {
-        shards = after (kept.rules_of hash h.shards.epochs) h.shards c x;
+        shards = gathered_after (kept.chunk_rules hash h.shards.epochs) h.shards c x;
         tally = with_row h.epochs h.id h.tally c x.index;
         arrivals = h.arrivals ++ record { commitment = c; block = None } ∷ [];
         shown = showing;
@@ -263,11 +264,11 @@ module _ {D A : Type 0} (hash : List ℕ → Digest32) (accepts : A → Block �
         so
         (subst
         (λ (t : Bool). shards.StandsFor hash
-        (after (kept.rules_of hash h.shards.epochs) h.shards c x)
+        (gathered_after (kept.chunk_rules hash h.shards.epochs) h.shards c x)
         (cut_rules hash accepts h) (take_part (came_of h) t (Row c x)))
         test chunks))
         (λ d m. ap
-        (λ (ks : List KeptChunk). shown (kept.rules_of hash h.shards.epochs) (kept.came_of ks)
+        (λ (ks : List KeptChunk). shown (kept.chunk_rules hash h.shards.epochs) (kept.kept_came ks)
         d)
         (sym so)
         ∙ shows d m)
@@ -283,9 +284,9 @@ module _ {D A : Type 0} (hash : List ℕ → Digest32) (accepts : A → Block �
     sym (rw (test, fresh) refl),
   )
     where
-      both : (kept.is_known h.shards.kept c x ≡ false)
-          × (is_chunk_of (kept.rules_of hash h.shards.epochs) c x ≡ true)
-      both = taken_by (kept.rules_of hash h.shards.epochs) h.shards.kept c x unknown taken
+      both : (kept.is_kept_chunk h.shards.kept c x ≡ false)
+          × (is_chunk_of (kept.chunk_rules hash h.shards.epochs) c x ≡ true)
+      both = taken_by (kept.chunk_rules hash h.shards.epochs) h.shards.kept c x unknown taken
 
       test : is_chunk_of (cut_rules hash accepts h) c x ≡ true
       test = same_test ∙ both.1
@@ -295,80 +296,82 @@ module _ {D A : Type 0} (hash : List ℕ → Digest32) (accepts : A → Block �
           false_from_ne_true (list_any (same_part (Row c x)) (came_of h).parts)
           (λ t. unknown (known.1 t))
 
-      so : kept_after (kept.rules_of hash h.shards.epochs) h.shards.kept c x
+      so : kept_after (kept.chunk_rules hash h.shards.epochs) h.shards.kept c x
           ≡ kept.with_chunk h.shards.kept c x
-      so = kept_so (kept.rules_of hash h.shards.epochs) h.shards.kept c x both.0 both.1
+      so = kept_so (kept.chunk_rules hash h.shards.epochs) h.shards.kept c x both.0 both.1
 
   -- what is shown then, by a chunk by which no block is held
   pub shows_same :
       ((d : Commitment)
-      → shown (kept.rules_of hash h.shards.epochs)
-      (kept.came_of (kept_after (kept.rules_of hash h.shards.epochs) h.shards.kept c x)) d
-      ≡ shown (kept.rules_of hash h.shards.epochs) (kept.came_of h.shards.kept) d)
+      → shown (kept.chunk_rules hash h.shards.epochs)
+      (kept.kept_came (kept_after (kept.chunk_rules hash h.shards.epochs) h.shards.kept c x)) d
+      ≡ shown (kept.chunk_rules hash h.shards.epochs) (kept.kept_came h.shards.kept) d)
       → (d : Commitment) → 0 < d.config.minimum
-      → shown (kept.rules_of hash h.shards.epochs)
-      (kept.came_of (kept_after (kept.rules_of hash h.shards.epochs) h.shards.kept c x)) d
+      → shown (kept.chunk_rules hash h.shards.epochs)
+      (kept.kept_came (kept_after (kept.chunk_rules hash h.shards.epochs) h.shards.kept c x)) d
       ≡ first_some (shown_under d) h.shown
   shows_same law d m = law d ∙ s.shown d m
 
   -- and by one by which a block is held
   pub shows_held : (b : Block)
-      → verdict (kept.rules_of hash h.shards.epochs) h.shards.kept c x ≡ Held b
-      → shown (kept.rules_of hash h.shards.epochs) (kept.came_of h.shards.kept) c
-      ≡ option_and_then (if_committed (kept.rules_of hash h.shards.epochs) c)
-      (block_of (kept.rules_of hash h.shards.epochs) c.config
+      → verdict (kept.chunk_rules hash h.shards.epochs) h.shards.kept c x ≡ Held b
+      → shown (kept.chunk_rules hash h.shards.epochs) (kept.kept_came h.shards.kept) c
+      ≡ option_and_then (if_committed (kept.chunk_rules hash h.shards.epochs) c)
+      (block_of (kept.chunk_rules hash h.shards.epochs) c.config
       (take c.config.minimum (kept.chunks_of c h.shards.kept)))
-      → shown (kept.rules_of hash h.shards.epochs)
-      (kept.came_of (kept_after (kept.rules_of hash h.shards.epochs) h.shards.kept c x ++ [])) c
+      → shown (kept.chunk_rules hash h.shards.epochs)
+      (kept.kept_came (kept_after (kept.chunk_rules hash h.shards.epochs) h.shards.kept c x ++ []))
+      c
       ≡ Some b
       → ((d : Commitment) → IsFalse (same_commitment d c)
-      → shown (kept.rules_of hash h.shards.epochs)
-      (kept.came_of (kept_after (kept.rules_of hash h.shards.epochs) h.shards.kept c x)) d
-      ≡ shown (kept.rules_of hash h.shards.epochs) (kept.came_of h.shards.kept) d)
+      → shown (kept.chunk_rules hash h.shards.epochs)
+      (kept.kept_came (kept_after (kept.chunk_rules hash h.shards.epochs) h.shards.kept c x)) d
+      ≡ shown (kept.chunk_rules hash h.shards.epochs) (kept.kept_came h.shards.kept) d)
       → (d : Commitment) → 0 < d.config.minimum
-      → shown (kept.rules_of hash h.shards.epochs)
-      (kept.came_of (kept_after (kept.rules_of hash h.shards.epochs) h.shards.kept c x)) d
+      → shown (kept.chunk_rules hash h.shards.epochs)
+      (kept.kept_came (kept_after (kept.chunk_rules hash h.shards.epochs) h.shards.kept c x)) d
       ≡ first_some (shown_under d) (h.shown ++ record { commitment = c; block = b } ∷ [])
   shows_held b told first held others d m = go (same_commitment d c) refl
     where
-      both : (kept.is_known h.shards.kept c x ≡ false)
-          × (is_chunk_of (kept.rules_of hash h.shards.epochs) c x ≡ true)
+      both : (kept.is_kept_chunk h.shards.kept c x ≡ false)
+          × (is_chunk_of (kept.chunk_rules hash h.shards.epochs) c x ≡ true)
       both =
-          taken_by (kept.rules_of hash h.shards.epochs) h.shards.kept c x
+          taken_by (kept.chunk_rules hash h.shards.epochs) h.shards.kept c x
           (λ k. let z : Known ≡ Held b = sym k ∙ told in cc)
           (λ k. let z : Foreign ≡ Held b = sym k ∙ told in cc)
 
-      now : shown (kept.rules_of hash h.shards.epochs)
-          (kept.came_of (kept_after (kept.rules_of hash h.shards.epochs) h.shards.kept c x)) c
+      now : shown (kept.chunk_rules hash h.shards.epochs)
+          (kept.kept_came (kept_after (kept.chunk_rules hash h.shards.epochs) h.shards.kept c x)) c
           ≡ Some b
       now =
           ap
-          (λ (ks : List KeptChunk). shown (kept.rules_of hash h.shards.epochs) (kept.came_of ks)
+          (λ (ks : List KeptChunk). shown (kept.chunk_rules hash h.shards.epochs)
+          (kept.kept_came ks)
           c)
-          (sym (append-nil (kept_after (kept.rules_of hash h.shards.epochs) h.shards.kept c x)))
+          (sym (append-nil (kept_after (kept.chunk_rules hash h.shards.epochs) h.shards.kept c x)))
           ∙ held
 
-      before : shown (kept.rules_of hash h.shards.epochs) (kept.came_of h.shards.kept) c ≡ None
+      before : shown (kept.chunk_rules hash h.shards.epochs) (kept.kept_came h.shards.kept) c ≡ None
       before = before_none hash h.shards.epochs h.shards.kept c x b first both.0 both.1 told
 
       go : (t : Bool) → same_commitment d c ≡ t
-          → shown (kept.rules_of hash h.shards.epochs)
-          (kept.came_of (kept_after (kept.rules_of hash h.shards.epochs) h.shards.kept c x)) d
+          → shown (kept.chunk_rules hash h.shards.epochs)
+          (kept.kept_came (kept_after (kept.chunk_rules hash h.shards.epochs) h.shards.kept c x)) d
           ≡ first_some (shown_under d) (h.shown ++ record { commitment = c; block = b } ∷ [])
       go true t =
           let e = same_commitment-true d c t in
           let at =
           ap
-          (λ (k : Commitment). shown (kept.rules_of hash h.shards.epochs)
-          (kept.came_of
-          (kept_after (kept.rules_of hash h.shards.epochs) h.shards.kept c x))
+          (λ (k : Commitment). shown (kept.chunk_rules hash h.shards.epochs)
+          (kept.kept_came
+          (kept_after (kept.chunk_rules hash h.shards.epochs) h.shards.kept c x))
           k)
           e
           ∙ now in
           let was =
           ap
-          (λ (k : Commitment). shown (kept.rules_of hash h.shards.epochs)
-          (kept.came_of h.shards.kept) k)
+          (λ (k : Commitment). shown (kept.chunk_rules hash h.shards.epochs)
+          (kept.kept_came h.shards.kept) k)
           e
           ∙ before in
           let none : first_some (shown_under d) h.shown ≡ None = sym (s.shown d m) ∙ was in

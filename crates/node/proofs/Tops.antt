@@ -11,7 +11,7 @@ use Rattle.cw_rules.specs.Held.{at_height, finalization_of, held}
 use Rattle.cw_rules.specs.Notes.{epoch_of}
 use Rattle.cw_rules.specs.Owed.{final_heights, reached_epoch}
 use Rattle.cw_rules.specs.Rules.{Rules}
-use Rattle.marshal.specs.Finding.{final_blocks, higher_of, highest}
+use Rattle.marshal.specs.Finding.{final_blocks, higher_of, highest_block}
 use Rattle.note_scans.specs.Heights.{greatest_of}
 
 -- below both
@@ -83,9 +83,10 @@ find_end p xs i h = rw (drop_none xs i h) refl
 
 -- the greatest height of some blocks is that of the highest
 highest_of : (bs : List Block)
-    → greatest (map (λ (b : Block). b.height) bs) ≡ option_map_or (λ b. b.height) (highest bs) 0
+    → greatest (map (λ (b : Block). b.height) bs)
+    ≡ option_map_or (λ b. b.height) (highest_block bs) 0
 highest_of [] = refl
-highest_of (b ∷ bs) = go (highest bs) (highest_of bs)
+highest_of (b ∷ bs) = go (highest_block bs) (highest_of bs)
   where
     higher : (c : Block) → max b.height c.height ≡ (if nat_lt b.height c.height then c else b).height
     higher c = by (nat_lt b.height c.height) refl
@@ -127,7 +128,7 @@ map_kept {Y = Y} {Z = Z} f g h (x ∷ xs) = go (f x) (map_kept f g h xs)
 
 pub highest_height : (r : Rules) (notes : List Note)
     → greatest (final_heights r notes)
-    ≡ option_map_or (λ (b : Block). b.height) (highest (final_blocks r notes)) 0
+    ≡ option_map_or (λ (b : Block). b.height) (highest_block (final_blocks r notes)) 0
 highest_height r notes =
     ap greatest
     (map_kept finalization_of (λ (p : Proposal). held r notes p.payload) (λ (b : Block). b.height)

@@ -30,11 +30,12 @@ first_child xs entries b =
     unwrap_or (lookup (same_commitment b.context.parent) entries) (length xs)
 
 -- before that place no arrival is the block
-pub record IsBehind (xs : List Arrival) (entries : List (Commitment × ℕ)) (b : Block) : Type 0 where
+pub record IsFirstChild (xs : List Arrival) (entries : List (Commitment × ℕ)) (b : Block) : Type 0
+    where
   pub within : first_child xs entries b ≤ length xs
   pub none : list_any (is_whole b) (take (first_child xs entries b) xs) ≡ false
 
 -- two maps have the places of what came whole, under each commitment and over each parent
 pub record ArePlaces (xs : List Arrival) (under over : List (Commitment × ℕ)) : Type 0 where
   pub wholes : HasFirsts whole_under xs under
-  pub children : (b : Block) → IsBehind xs over b
+  pub children : (b : Block) → IsFirstChild xs over b

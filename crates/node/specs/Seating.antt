@@ -10,7 +10,7 @@ use Rattle.node_disk.specs.Disk.{DiskState}
 use Rattle.node_disk.specs.declared.log.StoreError.{StoreError}
 use Rattle.node_disk.specs.declared.log.StoreError.TheVariants as store
 use Rattle.node.specs.Disks.{HasTried}
-use Rattle.node.specs.State.{IsAtWork, IsSameNode, NodeState, notes_of_step, rules_of, stepped}
+use Rattle.node.specs.State.{IsAtWork, IsSameNode, NodeState, notes_of_step, node_rules, stepped}
 
 -- a node, its verifier, and whether an answer of it was lost for want of memory
 pub record SeatState (D A V : Type 0) : Type 0 where
@@ -25,7 +25,7 @@ pub record IsStep {D A : Type 0} (hash : List ℕ → Digest32) (accepts : A →
     (old : NodeState D A) (event : Event) (result : Result StepOut StoreError) (new : NodeState D A)
     : Type 0 where
   pub step : IfOk result (λ out. stepped new.member out
-      ≡ rule.step (rules_of hash accepts old) old.id signed old.member event)
+      ≡ rule.step (node_rules hash accepts old) old.id signed old.member event)
   pub same : IsSameNode old new
   pub at_work : OnOk result (IsAtWork state new)
   pub err : OnErr result (new.member.live ≡ false)
@@ -34,7 +34,7 @@ pub record IsStep {D A : Type 0} (hash : List ℕ → Digest32) (accepts : A →
   pub failed_only : IsErrOf result store.Failed → old.member.live ≡ false
   pub not_foreign : (place : ℕ) → IsErrOf result (store.Foreign place) → ⊥
   pub disk : old.member.live ≡ true → HasTried state continues old.member.frames
-      (notes_of_step (rules_of hash accepts old) signed old event) result old.log new.log
+      (notes_of_step (node_rules hash accepts old) signed old event) result old.log new.log
 
 -- A turn of a seat: a step of its node, with what that answered. Where no memory was left to answer
 -- it twice, the answer is NoMemory and is lost; from then on each turn answers Failed and changes

@@ -12,7 +12,7 @@ use Rattle.cw_rules.specs.Rules.{Rules}
 use Rattle.shards.specs.Kept as kept
 use Rattle.shards.specs.Standing as shards
 use Rattle.voter.specs.Standing as voter
-use Rattle.node.specs.Holding.{Holding, came_of, count_rows, cut_rules, rules_of, shown_under, state_of}
+use Rattle.node.specs.Holding.{Holding, came_of, count_rows, cut_rules, rules_of, shown_under, holding_state}
 use Rattle.node.specs.Leading.{IsLedBy}
 use Rattle.node.specs.Store.{stored_notes}
 use Rattle.node.specs.declared.leads.Led.{Led}
@@ -26,13 +26,13 @@ pub record PartsStand {D A : Type 0} (hash : List ℕ → Digest32) (accepts : A
   pub backlog : h.store.backlog ≡ h.backlog
   pub running : h.store.failed ≡ false
   pub id : h.tally.id ≡ h.id
-  pub tally : voter.IsTallyOf hash h.tally (rules_of hash accepts h) (state_of h)
+  pub tally : voter.IsTallyOf hash h.tally (rules_of hash accepts h) (holding_state h)
   pub shards : shards.StandsFor hash h.shards (cut_rules hash accepts h) (came_of h)
   pub rows : count_rows h.arrivals ≡ length h.shards.kept
-  pub named : named_commitments (rules_of hash accepts h) (state_of h)
+  pub named : named_commitments (rules_of hash accepts h) (holding_state h)
       ≡ map (λ a. a.commitment) h.arrivals
   pub shown : (c : Commitment) → 0 < c.config.minimum
-      → shown (kept.rules_of hash h.shards.epochs) (kept.came_of h.shards.kept) c
+      → shown (kept.chunk_rules hash h.shards.epochs) (kept.kept_came h.shards.kept) c
       ≡ first_some (shown_under c) h.shown
 
 -- no block is owed
@@ -51,7 +51,7 @@ pub record IsReady {D A : Type 0} (hash : List ℕ → Digest32) (accepts : A �
     (h : Holding D A) : Type 0 where
   pub stands : PartsStand hash accepts h
   pub quiet : h.store.staged ≡ []
-  pub rests : OwesNoBlock (rules_of hash accepts h) (state_of h)
+  pub rests : OwesNoBlock (rules_of hash accepts h) (holding_state h)
 
 -- what it holds then beside a map of what its notes lead to, which stands for them
 pub record IsAwake {D A : Type 0} (hash : List ℕ → Digest32) (accepts : A → Block → Block → Bool)

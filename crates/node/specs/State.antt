@@ -30,9 +30,9 @@ pub record NodeState (D A : Type 0) : Type 0 where
   pub log : LogState D
 
 -- the rules that a node follows, by how its blocks travel, its hasher and its application
-abbrev pub rules_of : {D A : Type 0} → (List ℕ → Digest32) → (A → Block → Block → Bool)
+abbrev pub node_rules : {D A : Type 0} → (List ℕ → Digest32) → (A → Block → Block → Bool)
     → NodeState D A → Rules
-rules_of hash accepts node = ruled node.travel hash node.epochs node.backlog (accepts node.app)
+node_rules hash accepts node = ruled node.travel hash node.epochs node.backlog (accepts node.app)
 
 -- the member that a step leaves, with what it answers
 abbrev pub stepped : Member → StepOut → Stepped
@@ -80,4 +80,4 @@ pub record IsMarshalOf {D A : Type 0} (node : NodeState D A) (m : marshal.Stored
   pub staged : m.staged ≡ []
   pub given : m.given ≡ node.member.given
   pub tickets : m.tickets ≡ node.member.tickets
-  pub log : marshal.log_of m ≡ node.log
+  pub log : marshal.marshal_log m ≡ node.log

@@ -3,7 +3,7 @@
 ghost use Rattle.std.specs.Prelude.{◌≡◌, List, false, map};
 ghost use Rattle.cw_types.specs.declared.note.Note.{Note as NoteValue};
 ghost use Rattle.marshal.specs.Frames.{FindsAllOrNone, ReadBack, frame_bytes};
-ghost use Rattle.marshal.specs.Stored.{log_of};
+ghost use Rattle.marshal.specs.Stored.{marshal_log};
 ghost use Rattle.node_disk.specs.Disk.{LeavesOnly};
 ghost use Rattle.node_disk.specs.Log.{HasSettled};
 ghost use Rattle.node.specs.Store.{store_of};
@@ -39,7 +39,7 @@ pub(crate) struct Holding<H: Hasher<Digest = Digest32>, D: Disk, A> {
 }
 
 impl<H: Hasher<Digest = Digest32>, D: Disk, A> Model for Holding<H, D, A> {
-    ghost use Rattle.marshal.specs.Stored.{log_of};
+    ghost use Rattle.marshal.specs.Stored.{marshal_log};
     ghost use Rattle.node.specs.Holding.{Holding};
     ghost use Rattle.node.specs.Store.{store_of};
 
@@ -52,7 +52,7 @@ impl<H: Hasher<Digest = Digest32>, D: Disk, A> Model for Holding<H, D, A> {
       backlog = h.backlog;
       app = h.app;
       store = store_of h.store.marshal;
-      log = log_of h.store.marshal;
+      log = marshal_log h.store.marshal;
       tally = h.tally;
       shards = h.shards;
       arrivals = h.arrivals;
@@ -81,7 +81,7 @@ impl<H: Hasher<Digest = Digest32>, D: Disk, A: Application> Holding<H, D, A> {
     /// The marshal.
     pub(crate) fn marshal(&self) -> &Marshal<H, D>
         ensures store { store_of result.now ≡ self.now.store }
-        ensures log { log_of result.now ≡ self.now.log }
+        ensures log { marshal_log result.now ≡ self.now.log }
     {
         &self.store.marshal
     }

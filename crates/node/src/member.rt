@@ -4,10 +4,10 @@ ghost use Rattle.std.specs.Prelude.{◌≡◌, ℕ, ◌<◌, ◌≤◌, IfErr, I
 ghost use Rattle.std.specs.Prelude.{length, take, true};
 ghost use Rattle.cw_rules.specs.Notes.{epoch_of, view_of};
 ghost use Rattle.cw_rules.specs.Step as rule;
-ghost use Rattle.marshal.specs.Stored.{log_of};
+ghost use Rattle.marshal.specs.Stored.{marshal_log};
 ghost use Rattle.node.specs.Disks.{HasFound, HasTried, WasRefused};
 ghost use Rattle.node.specs.State.{IsAtWork, IsMarshalOf, IsNodeOf, IsSameNode, notes_of_step};
-ghost use Rattle.node.specs.State.{rules_of, stepped};
+ghost use Rattle.node.specs.State.{node_rules, stepped};
 
 use crate::holding::Holding;
 use crate::leads::LeadMap;
@@ -106,7 +106,7 @@ impl<H: Hasher<Digest = Digest32>, D: Disk, A: Application + Drop, W: Way> Membe
         ensures way { IfOk result (λ r. r.0.travel ≡ W.travel) }
         ensures start { IfOk result (λ r.
             stepped r.0.member r.1 ≡ rule.start
-            (rules_of H.digest_of A.accepts r.0) id r.0.member.frames) }
+            (node_rules H.digest_of A.accepts r.0) id r.0.member.frames) }
         ensures at_work { IfOk result (λ r. IsAtWork D.state r.0) }
 
         // What it did to the disk, and what a crash at any moment leaves.
@@ -169,7 +169,7 @@ impl<H: Hasher<Digest = Digest32>, D: Disk, A: Application + Drop, W: Way> Membe
         // One step of the rules.
         ensures step { IfOk result (λ out.
             stepped self.new.member out ≡ rule.step
-            (rules_of H.digest_of A.accepts self.old) self.old.id
+            (node_rules H.digest_of A.accepts self.old) self.old.id
             (V.signs verifier.now) self.old.member event.now) }
         ensures same { IsSameNode self.old self.new }
         ensures at_work { OnOk result (IsAtWork D.state self.new) }
@@ -185,7 +185,7 @@ impl<H: Hasher<Digest = Digest32>, D: Disk, A: Application + Drop, W: Way> Membe
         // notes.
         ensures disk { self.old.member.live ≡ true
             → HasTried D.state D.continues self.old.member.frames
-            (notes_of_step (rules_of H.digest_of A.accepts self.old)
+            (notes_of_step (node_rules H.digest_of A.accepts self.old)
             (V.signs verifier.now) self.old event.now)
             result self.old.log self.new.log }
         ensures never_fails { D.calm self.old.log.disk ≡ true → IsErrOf result StoreError.Disk → ⊥ }
@@ -230,7 +230,7 @@ impl<H: Hasher<Digest = Digest32>, D: Disk, A: Application + Drop, W: Way> Membe
         ensures value { self.now.member.live ≡ true → IsMarshalOf self.now result.now }
         // Of a node that is out too.
         ensures frames { result.now.frames ≡ self.now.member.frames }
-        ensures log { log_of result.now ≡ self.now.log }
+        ensures log { marshal_log result.now ≡ self.now.log }
     {
         self.holding.marshal()
     }

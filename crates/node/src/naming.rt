@@ -2,7 +2,7 @@
 
 ghost use Rattle.std.specs.Prelude.{◌≡◌, ℕ, Bool, IfOk};
 ghost use Rattle.cw_rules.specs.Rules.{commit};
-ghost use Rattle.cw_rules_coded.specs.Coded.{uncut};
+ghost use Rattle.cw_rules_coded.specs.Coded.{uncut_rules};
 ghost use Rattle.cw_types.specs.Block.{Block};
 ghost use Rattle.cw_types.specs.Commit as types;
 ghost use Rattle.cw_types.specs.Epochs.{Epochs};
@@ -36,7 +36,7 @@ pub fn whole_commit<H: Hasher<Digest = Digest32>>(
 ) -> Result<Commitment, NoMemory>
     ensures { (epochs : Epochs) (backlog : ℕ) (accepts : Block → Block → Bool)
         → IfOk result
-        (λ c. c ≡ commit (uncut H.digest_of epochs backlog accepts) block.now) }
+        (λ c. c ≡ commit (uncut_rules H.digest_of epochs backlog accepts) block.now) }
 {
     let digest = block.digest::<H>(alloc)?;
     Ok(Commitment {

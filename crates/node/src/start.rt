@@ -5,7 +5,7 @@ ghost use Rattle.std.specs.List.{list_all};
 ghost use Rattle.cw_types.specs.Values.{is_storable};
 ghost use Rattle.voter.specs.Known.{unknowing};
 ghost use Rattle.cw_rules.specs.Step as rule;
-ghost use Rattle.marshal.specs.Stored.{log_of};
+ghost use Rattle.marshal.specs.Stored.{marshal_log};
 ghost use Rattle.node.specs.Store.{store_of};
 ghost use Rattle.node.specs.Holding.{begun, came_of, knowing, member_of, rules_of};
 ghost use Rattle.node.specs.Standing.{IsAwake, IsReady};
@@ -63,7 +63,7 @@ impl<H: Hasher<Digest = Digest32>, D: Disk, A: Application + Drop> Holding<H, D,
           backlog = setup.backlog;
           app = setup.app;
           store = store_of store.marshal;
-          log = log_of store.marshal;
+          log = marshal_log store.marshal;
           tally = unknowing lists.0
               setup.id;
           shards = record { epochs = lists.1; kept = [] };
@@ -147,10 +147,10 @@ impl<H: Hasher<Digest = Digest32>, D: Disk, A: Application + Drop> Holding<H, D,
         requires running { (store_of store.marshal).failed ≡ false }
         ensures value { IfOk result
             (λ h. h ≡ begun setup.travel setup.id setup.committees setup.backlog setup.app
-            (store_of store.marshal) (log_of store.marshal)) }
+            (store_of store.marshal) (marshal_log store.marshal)) }
         ensures ready { IfOk result (λ h. IsReady H.digest_of A.accepts h) }
         ensures err { IfErr result
-            (λ e. (e.0 ≡ (log_of store.marshal).disk) × (e.1 ≡ StoreError.NoMemory)) }
+            (λ e. (e.0 ≡ (marshal_log store.marshal).disk) × (e.1 ≡ StoreError.NoMemory)) }
     {
         standing_is_kept();
         shards_stand();

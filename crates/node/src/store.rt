@@ -18,9 +18,9 @@ ghost use Rattle.cw_types.specs.declared.note.Note.{Note as NoteValue};
 ghost use Rattle.node_disk.specs.Disk.{LeavesOnly};
 ghost use Rattle.node_disk.specs.Log.{HasSettled};
 ghost use Rattle.note_scans.specs.Heights.{greatest_of};
-ghost use Rattle.marshal.specs.Finding.{final_blocks, highest};
+ghost use Rattle.marshal.specs.Finding.{final_blocks, highest_block};
 ghost use Rattle.marshal.specs.Frames.{FindsAllOrNone, ReadBack, frame_bytes};
-ghost use Rattle.marshal.specs.Stored.{log_of};
+ghost use Rattle.marshal.specs.Stored.{marshal_log};
 ghost use Rattle.node.specs.Disks.{HasFound, HasTried, WasRefused};
 ghost use Rattle.node.specs.Store.{store_of, stored_notes, stored_rules, stored_state, with_staged};
 
@@ -60,7 +60,7 @@ impl<H: Hasher<Digest = Digest32>, D: Disk> Store<H, D> {
             }) }
         ensures found { IfOk result
             (λ s. HasFound D.state D.continues (store_of s.marshal).frames disk
-            (log_of s.marshal).disk) }
+            (marshal_log s.marshal).disk) }
         ensures refused { IfErr result (λ e. WasRefused D.state D.continues e.1 disk e.0) }
         ensures never_fails { D.calm disk ≡ true → IfErr result (λ e. e.1 ≡ StoreError.Disk → ⊥) }
         ensures not_failed { IfErr result (λ e. e.1 ≡ StoreError.Failed → ⊥) }
@@ -74,16 +74,17 @@ impl<H: Hasher<Digest = Digest32>, D: Disk> Store<H, D> {
     /// A law, of every store: its log is that of its frames, which read back; and unless the disk
     /// is in doubt it is at rest, so that a crash where no device is called leaves the frames.
     pub(crate) fn rests(&self)
-        ensures running { (log_of self.now.marshal).failed ≡ (store_of self.now.marshal).failed }
-        ensures frames { (log_of self.now.marshal).frames
+        ensures running
+            { (marshal_log self.now.marshal).failed ≡ (store_of self.now.marshal).failed }
+        ensures frames { (marshal_log self.now.marshal).frames
             ≡ map frame_bytes (store_of self.now.marshal).frames }
         ensures readable { ReadBack (store_of self.now.marshal).frames }
         ensures settled { (store_of self.now.marshal).failed ≡ false
-            → HasSettled (log_of self.now.marshal).frames (log_of self.now.marshal).gate
-            (D.state (log_of self.now.marshal).disk).now }
+            → HasSettled (marshal_log self.now.marshal).frames (marshal_log self.now.marshal).gate
+            (D.state (marshal_log self.now.marshal).disk).now }
         ensures still { (store_of self.now.marshal).failed ≡ false → (notes : List NoteValue)
-            → LeavesOnly (D.state (log_of self.now.marshal).disk)
-            (D.state (log_of self.now.marshal).disk)
+            → LeavesOnly (D.state (marshal_log self.now.marshal).disk)
+            (D.state (marshal_log self.now.marshal).disk)
             (FindsAllOrNone (store_of self.now.marshal).frames notes) }
     {
         self.marshal.frames_read_back();
@@ -137,7 +138,7 @@ impl<H: Hasher<Digest = Digest32>, D: Disk> Store<H, D> {
     /// The first of the highest held blocks that noted finalizations have.
     pub(crate) fn highest(&self) -> Option<&ChainBlock>
         ensures { option_map (λ block. block.now) result
-            ≡ highest (final_blocks (stored_rules H.digest_of (store_of self.now.marshal))
+            ≡ highest_block (final_blocks (stored_rules H.digest_of (store_of self.now.marshal))
             (stored_notes (store_of self.now.marshal))) }
     {
         self.marshal.get_block(Identifier::Latest)
@@ -219,7 +220,7 @@ impl<H: Hasher<Digest = Digest32>, D: Disk> Store<H, D> {
         ensures ok { OnOk result (store_of self.new.marshal
             ≡ with_staged (store_of self.old.marshal) note) }
         ensures err { OnErr result (store_of self.new.marshal ≡ store_of self.old.marshal) }
-        ensures log { log_of self.new.marshal ≡ log_of self.old.marshal }
+        ensures log { marshal_log self.new.marshal ≡ marshal_log self.old.marshal }
     {
         self.marshal.stage(note)
     }
@@ -235,9 +236,9 @@ impl<H: Hasher<Digest = Digest32>, D: Disk> Store<H, D> {
               staged = [];
             }) }
         ensures tried { HasTried D.state D.continues (store_of self.old.marshal).frames
-            (store_of self.old.marshal).staged result (log_of self.old.marshal)
-            (log_of self.new.marshal) }
-        ensures never_fails { D.calm (log_of self.old.marshal).disk ≡ true
+            (store_of self.old.marshal).staged result (marshal_log self.old.marshal)
+            (marshal_log self.new.marshal) }
+        ensures never_fails { D.calm (marshal_log self.old.marshal).disk ≡ true
             → IsErrOf result StoreError.Disk → ⊥ }
         ensures readable { ReadBack
             (add_frame (store_of self.old.marshal).frames (store_of self.old.marshal).staged) }
@@ -261,7 +262,7 @@ impl<H: Hasher<Digest = Digest32>, D: Disk> Store<H, D> {
             ≡ record (store_of self.old.marshal)
             { given = (store_of self.old.marshal).given ++ map (λ h. h.height) handed.items }) }
         ensures err { OnErr result (store_of self.new.marshal ≡ store_of self.old.marshal) }
-        ensures log { log_of self.new.marshal ≡ log_of self.old.marshal }
+        ensures log { marshal_log self.new.marshal ≡ marshal_log self.old.marshal }
     {
         self.marshal.next_deliveries(alloc)
     }
@@ -273,7 +274,7 @@ impl<H: Hasher<Digest = Digest32>, D: Disk> Store<H, D> {
         ensures ok { OnOk result (store_of self.new.marshal
             ≡ record (store_of self.old.marshal)
             { tickets = give_ticket (store_of self.old.marshal).tickets (Of_digest digest) }) }
-        ensures log { log_of self.new.marshal ≡ log_of self.old.marshal }
+        ensures log { marshal_log self.new.marshal ≡ marshal_log self.old.marshal }
     {
         self.marshal.subscribe_by_digest(digest)
     }
@@ -288,7 +289,7 @@ impl<H: Hasher<Digest = Digest32>, D: Disk> Store<H, D> {
               tickets = give_ticket (store_of self.old.marshal).tickets
                   (Of_commitment commitment);
             }) }
-        ensures log { log_of self.new.marshal ≡ log_of self.old.marshal }
+        ensures log { marshal_log self.new.marshal ≡ marshal_log self.old.marshal }
     {
         self.marshal.subscribe_by_commitment(commitment)
     }
@@ -298,7 +299,7 @@ impl<H: Hasher<Digest = Digest32>, D: Disk> Store<H, D> {
         ensures value { store_of self.new.marshal
             ≡ record (store_of self.old.marshal)
             { tickets = ticketed (store_of self.old.marshal).tickets (event.Cancel number) } }
-        ensures log { log_of self.new.marshal ≡ log_of self.old.marshal }
+        ensures log { marshal_log self.new.marshal ≡ marshal_log self.old.marshal }
     {
         let _was = self.marshal.cancel(number);
     }
@@ -317,14 +318,14 @@ impl<H: Hasher<Digest = Digest32>, D: Disk> Store<H, D> {
               tickets = unserved (stored_rules H.digest_of (store_of self.old.marshal))
                   (stored_notes (store_of self.old.marshal)) (store_of self.old.marshal).tickets;
             }) }
-        ensures log { log_of self.new.marshal ≡ log_of self.old.marshal }
+        ensures log { marshal_log self.new.marshal ≡ marshal_log self.old.marshal }
     {
         self.marshal.take_ticket_outs(alloc)
     }
 
     /// The disk, as it stands.
     pub(crate) fn into_disk(self) -> D
-        ensures { result ≡ (log_of self.marshal).disk }
+        ensures { result ≡ (marshal_log self.marshal).disk }
     {
         let Store { marshal } = self;
         marshal.into_disk()

@@ -5,7 +5,7 @@ use Rattle.std.proofs.lemmas.Bool.Decides.{nat_tests}
 use Rattle.cw_base.specs.Causes.{Rose}
 use Rattle.node_disk.specs.Images.{Moment}
 use Rattle.node_disk.specs.Disk.{DeviceCall, told_more, put_at, Torn, HasWritten, HasFailedToWrite, HasSynced, HasFailedToSync}
-use Rattle.node_disk.specs.Record.{Held, Written, Entry, Request, Write, Sync, request_of, entry_of, range_of, moment_of, torn, done_writes, effect, opened, step, run, moments, empty_disk, held_after, past_of, told_calls, told_entry, told_request, is_done, is_reached, is_listed, by_number, outcome_at}
+use Rattle.node_disk.specs.Record.{Held, Written, RecordedCall, Request, Write, Sync, request_of, recorded_of, range_of, moment_of, torn, done_writes, effect, held_at_opening, held_past, held_past_all, moments, empty_disk, held_after, past_of, told_calls, told_entry, told_request, has_succeeded, is_reached, is_to_fail, by_number, outcome_at}
 use Rattle.node_disk.specs.Memory.{MemoryState, memory_state, next_outcome, next_fails, IsHeldBy, HasCalled, Continues}
 use Rattle.node_disk.specs.MemoryLaws.{length-torn, length-put_torn}
 use Rattle.node_disk.specs.declared.record.Stop.{Stop}
@@ -14,20 +14,21 @@ use Rattle.node_disk.specs.declared.record.Outcome.{Outcome}
 use Rattle.node_disk.specs.declared.record.Outcome.TheVariants.{Done, Failed, Stopped}
 use Rattle.node_disk.proofs.Moments.{torn_same}
 
-run_push : (held : Held) (entries : List Entry) (e : Entry)
-    → run held (entries ++ e ∷ []) ≡ step (run held entries) e
+run_push : (held : Held) (entries : List RecordedCall) (e : RecordedCall)
+    → held_past_all held (entries ++ e ∷ []) ≡ held_past (held_past_all held entries) e
 run_push held [] e = refl
-run_push held (f ∷ entries) e = run_push (step held f) entries e
+run_push held (f ∷ entries) e = run_push (held_past held f) entries e
 
-moments_push : (held : Held) (entries : List Entry) (e : Entry)
+moments_push : (held : Held) (entries : List RecordedCall) (e : RecordedCall)
     → moments held (entries ++ e ∷ [])
-    ≡ moments held entries ++ moment_of (opened e.reopened (run held entries)) ∷ []
+    ≡ moments held entries ++ moment_of (held_at_opening e.reopened (held_past_all held entries))
+    ∷ []
 moments_push held [] e = refl
 moments_push held (f ∷ entries) e =
-    ap (λ (l : List Moment). moment_of (opened f.reopened held) ∷ l)
-    (moments_push (step held f) entries e)
+    ap (λ (l : List Moment). moment_of (held_at_opening f.reopened held) ∷ l)
+    (moments_push (held_past held f) entries e)
 
-done_only : (o : Outcome) → is_done o ≡ true → o ≡ Done
+done_only : (o : Outcome) → has_succeeded o ≡ true → o ≡ Done
 done_only Done is = refl
 done_only Failed is = absurd (let no : false ≡ true = is in cc)
 done_only (Stopped c x) is = absurd (let no : false ≡ true = is in cc)
@@ -67,10 +68,10 @@ torn_put old place count bytes size inside =
     }
 
 by_number_done : (failing : List ℕ) (made : ℕ)
-    → is_done (by_number failing made) ≡ not (is_listed failing (made + 1))
-by_number_done failing made = cases (is_listed failing (made + 1))
+    → has_succeeded (by_number failing made) ≡ not (is_to_fail failing (made + 1))
+by_number_done failing made = cases (is_to_fail failing (made + 1))
   where
-    cases : (b : Bool) → is_done (if b then Failed else Done) ≡ not b
+    cases : (b : Bool) → has_succeeded (if b then Failed else Done) ≡ not b
     cases true = refl
     cases false = refl
 
@@ -79,21 +80,21 @@ one_more m n = grind (arith, nat_tests)
 
 -- a call succeeds exactly where no stop stands at it or before it and its number isn't listed
 pub outcome_done : (stop : Option Stop) (failing : List ℕ) (made : ℕ)
-    → is_done (outcome_at stop failing made)
-    ≡ not (is_reached stop (made + 1) || is_listed failing (made + 1))
+    → has_succeeded (outcome_at stop failing made)
+    ≡ not (is_reached stop (made + 1) || is_to_fail failing (made + 1))
 outcome_done None failing made = by_number_done failing made
 outcome_done (Some stop) failing made =
     cases (nat_le (stop.after + stop.call) made) (stop.after + stop.call == made + 1)
-    (nat_le (stop.after + stop.call) (made + 1)) (is_listed failing (made + 1))
+    (nat_le (stop.after + stop.call) (made + 1)) (is_to_fail failing (made + 1))
     (by_number failing made) (by_number_done failing made) stop.cut stop.fill reaches
   where
     reaches : (nat_le (stop.after + stop.call) made || stop.after + stop.call == made + 1)
         ≡ nat_le (stop.after + stop.call) (made + 1)
     reaches = one_more (stop.after + stop.call) made
 
-    cases : (past here by listed : Bool) (other : Outcome) → is_done other ≡ not listed
+    cases : (past here by listed : Bool) (other : Outcome) → has_succeeded other ≡ not listed
         → (cut fill : ℕ) → (past || here) ≡ by
-        → is_done (if past then Failed else (if here then Stopped cut fill else other))
+        → has_succeeded (if past then Failed else (if here then Stopped cut fill else other))
         ≡ not (by || listed)
     cases true here by listed other is cut fill reach = cc
     cases false true by listed other is cut fill reach = cc
@@ -103,16 +104,17 @@ outcome_done (Some stop) failing made =
 pub called_by : (request : Request) (calls now : List Call) (added : Call) (old new : MemoryState)
     → now ≡ calls ++ added ∷ [] → request_of added.action ≡ request
     → added.outcome ≡ outcome_at old.stop old.failing (length calls)
-    → added.reopened ≡ old.reopened → old.calls ≡ map entry_of calls → new.calls ≡ map entry_of now
+    → added.reopened ≡ old.reopened → old.calls ≡ map recorded_of calls → new.calls
+    ≡ map recorded_of now
     → new.reopened ≡ false → new.stop ≡ old.stop → new.failing ≡ old.failing
     → HasCalled request old new
 called_by request calls now added old new pushed asked known reopened before after closed stop
     failing =
     let count : length calls ≡ length old.calls =
-    sym (length-map calls entry_of) ∙ ap length (sym before) in
+    sym (length-map calls recorded_of) ∙ ap length (sym before) in
     let outcome : added.outcome ≡ next_outcome old =
     known ∙ ap (λ (n : ℕ). outcome_at old.stop old.failing n) count in
-    let entry : entry_of added ≡ record {
+    let entry : recorded_of added ≡ record {
       reopened = old.reopened;
       request = request;
       outcome = next_outcome old;
@@ -120,9 +122,9 @@ called_by request calls now added old new pushed asked known reopened before aft
     λ i. record { reopened = reopened i; request = asked i; outcome = outcome i } in
     record {
       calls =
-          after ∙ ap (map entry_of) pushed ∙ map-append entry_of calls (added ∷ [])
-          ∙ ap (λ (l : List Entry). l ++ entry_of added ∷ []) (sym before)
-          ∙ ap (λ (e : Entry). old.calls ++ e ∷ []) entry;
+          after ∙ ap (map recorded_of) pushed ∙ map-append recorded_of calls (added ∷ [])
+          ∙ ap (λ (l : List RecordedCall). l ++ recorded_of added ∷ []) (sym before)
+          ∙ ap (λ (e : RecordedCall). old.calls ++ e ∷ []) entry;
       reopened = closed;
       stop = stop;
       failing = failing;
@@ -133,27 +135,28 @@ module _ (request : Request) (old new : MemoryState) (called : HasCalled request
   abbrev pub held : Held
   held = held_after old.calls old.reopened
 
-  abbrev entry : Entry
+  abbrev entry : RecordedCall
   entry = record { reopened = old.reopened; request = request; outcome = next_outcome old }
 
   pub held_now : held_after new.calls new.reopened ≡ effect held request (next_outcome old)
   unfolding held_after
   held_now =
-      ap (λ (r : Bool). opened r (run empty_disk new.calls)) called.reopened
-      ∙ ap (λ (l : List Entry). run empty_disk l) called.calls ∙ run_push empty_disk old.calls entry
+      ap (λ (r : Bool). held_at_opening r (held_past_all empty_disk new.calls)) called.reopened
+      ∙ ap (λ (l : List RecordedCall). held_past_all empty_disk l) called.calls
+      ∙ run_push empty_disk old.calls entry
 
   pub past_now : past_of new.calls ≡ past_of old.calls ++ moment_of held ∷ []
   unfolding held_after past_of
   past_now =
-      ap (λ (l : List Entry). moments empty_disk l) called.calls
+      ap (λ (l : List RecordedCall). moments empty_disk l) called.calls
       ∙ moments_push empty_disk old.calls entry
 
   told_now : told_calls new.calls
-      ≡ told_calls old.calls ++ told_request request (is_done (next_outcome old)) ∷ []
+      ≡ told_calls old.calls ++ told_request request (has_succeeded (next_outcome old)) ∷ []
   unfolding told_calls
   told_now = ap (map told_entry) called.calls ∙ map-append told_entry old.calls (entry ∷ [])
 
-  pub told_some : (done : Bool) → is_done (next_outcome old) ≡ done
+  pub told_some : (done : Bool) → has_succeeded (next_outcome old) ≡ done
       → (memory_state new).calls
       ≡ told_more (memory_state old).calls (told_request request done ∷ [])
   told_some done is =
@@ -162,13 +165,13 @@ module _ (request : Request) (old new : MemoryState) (called : HasCalled request
 
   pub keeps_now : (outcome : Outcome) (bytes : List ℕ) (pending : List (ℕ × List ℕ))
       (calls : List Call)
-      → outcome ≡ outcome_at old.stop old.failing (length calls) → old.calls ≡ map entry_of calls
+      → outcome ≡ outcome_at old.stop old.failing (length calls) → old.calls ≡ map recorded_of calls
       → bytes ≡ (effect held request outcome).seen
       → pending ≡ done_writes (effect held request outcome).writes
       → IsHeldBy (held_after new.calls new.reopened) bytes pending
   keeps_now outcome bytes pending calls known before seen unsynced =
       let count : length calls ≡ length old.calls =
-      sym (length-map calls entry_of) ∙ ap length (sym before) in
+      sym (length-map calls recorded_of) ∙ ap length (sym before) in
       let same : effect held request outcome ≡ held_after new.calls new.reopened =
       ap (λ (o : Outcome). effect held request o)
       (known ∙ ap (λ (n : ℕ). outcome_at old.stop old.failing n) count)
@@ -179,12 +182,12 @@ module _ (request : Request) (old new : MemoryState) (called : HasCalled request
       }
 
   pub outcome_was : (outcome : Outcome) (calls : List Call) (done : Bool)
-      → outcome ≡ outcome_at old.stop old.failing (length calls) → old.calls ≡ map entry_of calls
-      → is_done outcome ≡ done → is_done (next_outcome old) ≡ done
+      → outcome ≡ outcome_at old.stop old.failing (length calls) → old.calls ≡ map recorded_of calls
+      → has_succeeded outcome ≡ done → has_succeeded (next_outcome old) ≡ done
   outcome_was outcome calls done known before is =
       let count : length calls ≡ length old.calls =
-      sym (length-map calls entry_of) ∙ ap length (sym before) in
-      ap is_done (sym (known ∙ ap (λ (n : ℕ). outcome_at old.stop old.failing n) count)) ∙ is
+      sym (length-map calls recorded_of) ∙ ap length (sym before) in
+      ap has_succeeded (sym (known ∙ ap (λ (n : ℕ). outcome_at old.stop old.failing n) count)) ∙ is
 
   pub called_continues : Continues old new
   called_continues =
@@ -196,7 +199,7 @@ module _ (request : Request) (old new : MemoryState) (called : HasCalled request
         failing = called.failing;
       }
 
-  pub called_succeeds : is_done (next_outcome old) ≡ true → next_fails old ≡ false
+  pub called_succeeds : has_succeeded (next_outcome old) ≡ true → next_fails old ≡ false
   called_succeeds done =
       flip (next_fails old) (sym (outcome_done old.stop old.failing (length old.calls)) ∙ done)
     where
@@ -204,7 +207,7 @@ module _ (request : Request) (old new : MemoryState) (called : HasCalled request
       flip true is = cc
       flip false is = refl
 
-  pub called_fails : is_done (next_outcome old) ≡ false → next_fails old ≡ true
+  pub called_fails : has_succeeded (next_outcome old) ≡ false → next_fails old ≡ true
   called_fails fails =
       flip (next_fails old) (sym (outcome_done old.stop old.failing (length old.calls)) ∙ fails)
     where
@@ -217,7 +220,7 @@ module _ (place : ℕ) (bytes : List ℕ) (old new : MemoryState)
   abbrev held_before : Held
   held_before = held_after old.calls old.reopened
 
-  pub write_done : is_done (next_outcome old) ≡ true
+  pub write_done : has_succeeded (next_outcome old) ≡ true
       → HasWritten place bytes (memory_state old) (memory_state new)
   write_done done =
       let next : held_after new.calls new.reopened ≡ effect held_before (Write place bytes) Done =
@@ -234,7 +237,7 @@ module _ (place : ℕ) (bytes : List ℕ) (old new : MemoryState)
         calls = told_some (Write place bytes) old new called true done;
       }
 
-  failed_as : (o : Outcome) → is_done o ≡ false → place ≤ length held_before.seen
+  failed_as : (o : Outcome) → has_succeeded o ≡ false → place ≤ length held_before.seen
       → Torn place (length bytes) held_before.seen (effect held_before (Write place bytes) o).seen
       × ((effect held_before (Write place bytes) o).synced ≡ held_before.synced)
       × (map range_of (effect held_before (Write place bytes) o).writes
@@ -252,7 +255,7 @@ module _ (place : ℕ) (bytes : List ℕ) (old new : MemoryState)
     ranges_push held_before.writes (record { place = place; bytes = bytes; done = false }),
   )
 
-  pub write_failed : is_done (next_outcome old) ≡ false → place ≤ length held_before.seen
+  pub write_failed : has_succeeded (next_outcome old) ≡ false → place ≤ length held_before.seen
       → Rose old.faults new.faults
       → HasFailedToWrite place bytes (memory_state old) (memory_state new)
   write_failed not_done inside rose =
@@ -274,7 +277,7 @@ module _ (old new : MemoryState) (called : HasCalled Sync old new) where
   abbrev held_then : Held
   held_then = held_after old.calls old.reopened
 
-  pub sync_done : is_done (next_outcome old) ≡ true
+  pub sync_done : has_succeeded (next_outcome old) ≡ true
       → HasSynced (memory_state old) (memory_state new)
   sync_done done =
       let next : held_after new.calls new.reopened ≡ effect held_then Sync Done =
@@ -288,7 +291,7 @@ module _ (old new : MemoryState) (called : HasCalled Sync old new) where
         calls = told_some Sync old new called true done;
       }
 
-  not_synced : (o : Outcome) → is_done o ≡ false
+  not_synced : (o : Outcome) → has_succeeded o ≡ false
       → (length (effect held_then Sync o).seen ≡ length held_then.seen)
       × ((effect held_then Sync o).synced ≡ held_then.synced)
       × ((effect held_then Sync o).writes ≡ held_then.writes)
@@ -297,7 +300,7 @@ module _ (old new : MemoryState) (called : HasCalled Sync old new) where
   not_synced (Stopped cut fill) fails =
       (length-put_torn cut fill (done_writes held_then.writes) held_then.seen, refl, refl)
 
-  pub sync_failed : is_done (next_outcome old) ≡ false → Rose old.faults new.faults
+  pub sync_failed : has_succeeded (next_outcome old) ≡ false → Rose old.faults new.faults
       → HasFailedToSync (memory_state old) (memory_state new)
   sync_failed not_done rose =
       let next : held_after new.calls new.reopened ≡ effect held_then Sync (next_outcome old) =

@@ -6,7 +6,7 @@ use Rattle.std.proofs.lemmas.List.Folds.{list_all-append}
 use Rattle.node_disk.specs.Disk.{DeviceCall, IsCutShort, Synced, Wrote, failing}
 use Rattle.node_disk.specs.MemoryLaws.{calm_stop, calm_failing}
 use Rattle.node_disk.specs.Memory.{Continues, MemoryState, is_calm, is_stopped, memory_state, next_fails}
-use Rattle.node_disk.specs.Record.{Entry, Request, Sync, Write, decided, told_calls, told_entry, told_request}
+use Rattle.node_disk.specs.Record.{RecordedCall, Request, Sync, Write, decided, told_calls, told_entry, told_request}
 
 -- it isn't stopped, and its next device call doesn't fail
 pub calm_goes_on : (disk : MemoryState) → is_calm disk ≡ true → is_stopped disk ≡ false
@@ -49,7 +49,7 @@ not_failed did next =
     and_false true = refl
     and_false false = refl
 
-told_append : (a b : List Entry) → told_calls (a ++ b) ≡ told_calls a ++ map told_entry b
+told_append : (a b : List RecordedCall) → told_calls (a ++ b) ≡ told_calls a ++ map told_entry b
 unfolding told_calls
 told_append a b = map-append told_entry a b
 

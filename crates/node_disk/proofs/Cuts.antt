@@ -6,7 +6,7 @@ use Rattle.std.proofs.lemmas.Bool.Decides.{nat_tests}
 use Rattle.node_disk.specs.Disk.{DeviceCall, Wrote, Synced, failing, told_more, HasTold, put_at, Holds, IsCutShort}
 use Rattle.node_disk.specs.Frames.{body, blocks, IsAtRest, Finds}
 use Rattle.node_disk.specs.Log.{HasSettled, with_frame, append_calls, calls_of_append}
-use Rattle.node_disk.specs.Record.{Held, Written, Entry, Request, Write, Sync, range_of, put_within, torn, put_torn, done_writes, effect, opened, step, run, empty_disk, held_after, told_calls, told_entry, told_request, is_done, outcome_at, decided, reopened_still}
+use Rattle.node_disk.specs.Record.{Held, Written, RecordedCall, Request, Write, Sync, range_of, put_within, torn, put_torn, done_writes, effect, held_at_opening, held_past, held_past_all, empty_disk, held_after, told_calls, told_entry, told_request, has_succeeded, outcome_at, decided, reopened_still}
 use Rattle.node_disk.specs.MemoryLaws.{length-torn}
 use Rattle.node_disk.specs.Memory.{MemoryState, memory_state, Continues}
 use Rattle.node_disk.specs.Cut.{kept_frames, IsArmed}
@@ -31,12 +31,13 @@ requests_back : (stop : Option Stop) (fails : List ℕ) (made : ℕ) (reopened :
     → map request_of_call (map told_entry (decided stop fails made reopened requests)) ≡ requests
 requests_back stop fails made reopened [] = refl
 requests_back stop fails made reopened (d ∷ requests) =
-    λ i. told_back d (is_done (outcome_at stop fails made)) i
+    λ i. told_back d (has_succeeded (outcome_at stop fails made)) i
     ∷ requests_back stop fails (made + 1) false requests i
 
-run_append : (held : Held) (xs ys : List Entry) → run held (xs ++ ys) ≡ run (run held xs) ys
+run_append : (held : Held) (xs ys : List RecordedCall) → held_past_all held (xs ++ ys)
+    ≡ held_past_all (held_past_all held xs) ys
 run_append held [] ys = refl
-run_append held (x ∷ xs) ys = run_append (step held x) xs ys
+run_append held (x ∷ xs) ys = run_append (held_past held x) xs ys
 
 le_true : (m n : ℕ) → m ≤ n → nat_le m n ≡ true
 le_true m n le = grind (arith, nat_tests)
@@ -69,24 +70,26 @@ module _ (made call cut fill : ℕ) where
   outcome_after at i is le =
       if_true (nat_le (made + call) at) Failed (inner at) (le_true (made + call) at (omega arith))
 
-  done_before : (at i : ℕ) → at ≡ made + i → is_done (outcome_at stop [] at) ≡ true → i + 1 < call
+  done_before : (at i : ℕ) → at ≡ made + i → has_succeeded (outcome_at stop [] at) ≡ true
+      → i + 1 < call
   done_before at i is done = elim (cases_lt (i + 1) call) [
     | inl before ↦ before
     | inr from ↦ elim (cases_lt i call) [
       | inl here ↦ let stopped =
           outcome_here at i is (omega arith) in let no : false ≡ true =
-          ap is_done (sym stopped) ∙ done in absurd (cc)
+          ap has_succeeded (sym stopped) ∙ done in absurd (cc)
       | inr later ↦ let dead =
           outcome_after at i is later in let no : false ≡ true =
-          ap is_done (sym dead) ∙ done in absurd (cc)
+          ap has_succeeded (sym dead) ∙ done in absurd (cc)
     ]
   ]
 
-  failed_from : (at i : ℕ) → at ≡ made + i → is_done (outcome_at stop [] at) ≡ false → call ≤ i + 1
+  failed_from : (at i : ℕ) → at ≡ made + i → has_succeeded (outcome_at stop [] at) ≡ false
+      → call ≤ i + 1
   failed_from at i is fails = elim (cases_lt (i + 1) call) [
     | inl before ↦ let well =
         outcome_before at i is before in let no : true ≡ false =
-        ap is_done (sym well) ∙ fails in absurd (cc)
+        ap has_succeeded (sym well) ∙ fails in absurd (cc)
     | inr from ↦ from
   ]
 
@@ -238,7 +241,7 @@ module _ (old new : MemoryState) (frames : List (List ℕ)) (gate : ℕ) (frame 
   -- what the disk holds then
   held_new : (d : Request) (requests : List Request) → go.requests ≡ d ∷ requests
       → held_after new.calls new.reopened
-      ≡ run (effect held d (outcome_at one_stop [] made))
+      ≡ held_past_all (effect held d (outcome_at one_stop [] made))
       (decided one_stop [] (made + 1) false requests)
   unfolding held_after
   held_new d requests are =
@@ -248,7 +251,8 @@ module _ (old new : MemoryState) (frames : List (List ℕ)) (gate : ℕ) (frame 
       go.calls
       ∙ ap (λ l. old.calls ++ l)
       (same_requests go.requests ∙ ap (λ ds. decided one_stop [] made old.reopened ds) are) in
-      ap (λ r. opened r (run empty_disk new.calls)) still ∙ ap (λ l. run empty_disk l) entries
+      ap (λ r. held_at_opening r (held_past_all empty_disk new.calls)) still
+      ∙ ap (λ l. held_past_all empty_disk l) entries
       ∙ run_append empty_disk old.calls (decided one_stop [] made old.reopened (d ∷ requests))
 
   abbrev Leaves : Type 0
@@ -315,7 +319,7 @@ module _ (old new : MemoryState) (frames : List (List ℕ)) (gate : ℕ) (frame 
   first is =
       let requests : List Request = Write (gate + 1) new_bytes ∷ [] in
       let told = told_of requests (Wrote (gate + 1) new_bytes false ∷ []) is refl in
-      let d0 : is_done (outcome_of_next made) ≡ false = cc in
+      let d0 : has_succeeded (outcome_of_next made) ≡ false = cc in
       let here : made ≡ made + 0 = omega arith in
       let one : call ≡ 1 =
       omega (arith, failed_from made call cut fill made 0 here d0, armed.later) in
@@ -337,8 +341,8 @@ module _ (old new : MemoryState) (frames : List (List ℕ)) (gate : ℕ) (frame 
   second is =
       let requests : List Request = Write (gate + 1) new_bytes ∷ Sync ∷ [] in
       let told = told_of requests (Wrote (gate + 1) new_bytes true ∷ Synced false ∷ []) is refl in
-      let d0 : is_done (outcome_of_next made) ≡ true = cc in
-      let d1 : is_done (outcome_of_next (made + 1)) ≡ false = cc in
+      let d0 : has_succeeded (outcome_of_next made) ≡ true = cc in
+      let d1 : has_succeeded (outcome_of_next (made + 1)) ≡ false = cc in
       let at0 : made ≡ made + 0 = omega arith in
       let lt = done_before made call cut fill made 0 at0 d0 in
       let two : call ≡ 2 = omega (arith, lt, failed_from made call cut fill (made + 1) 1 refl d1) in
@@ -393,9 +397,9 @@ module _ (old new : MemoryState) (frames : List (List ℕ)) (gate : ℕ) (frame 
       told_of requests
       (Wrote (gate + 1) new_bytes true ∷ Synced true ∷ Wrote gate (1 ∷ []) false ∷ []) is
       refl in
-      let d0 : is_done (outcome_of_next made) ≡ true = cc in
-      let d1 : is_done (outcome_of_next (made + 1)) ≡ true = cc in
-      let d2 : is_done (outcome_of_next (made + 1 + 1)) ≡ false = cc in
+      let d0 : has_succeeded (outcome_of_next made) ≡ true = cc in
+      let d1 : has_succeeded (outcome_of_next (made + 1)) ≡ true = cc in
+      let d2 : has_succeeded (outcome_of_next (made + 1 + 1)) ≡ false = cc in
       let at0 : made ≡ made + 0 = omega arith in
       let at2 : made + 1 + 1 ≡ made + 2 = omega arith in
       let lt = done_before made call cut fill (made + 1) 1 refl d1 in
@@ -432,8 +436,8 @@ module _ (old new : MemoryState) (frames : List (List ℕ)) (gate : ℕ) (frame 
       (Wrote (gate + 1) new_bytes true ∷ Synced true ∷ Wrote gate (1 ∷ []) true
       ∷ Synced false ∷ [])
       is refl in
-      let d2 : is_done (outcome_of_next (made + 1 + 1)) ≡ true = cc in
-      let d3 : is_done (outcome_of_next (made + 1 + 1 + 1)) ≡ false = cc in
+      let d2 : has_succeeded (outcome_of_next (made + 1 + 1)) ≡ true = cc in
+      let d3 : has_succeeded (outcome_of_next (made + 1 + 1 + 1)) ≡ false = cc in
       let at0 : made ≡ made + 0 = omega arith in
       let at2 : made + 1 + 1 ≡ made + 2 = omega arith in
       let at3 : made + 1 + 1 + 1 ≡ made + 3 = omega arith in
@@ -493,7 +497,7 @@ module _ (old new : MemoryState) (frames : List (List ℕ)) (gate : ℕ) (frame 
       let requests : List Request =
       Write (gate + 1) new_bytes ∷ Sync ∷ Write gate (1 ∷ []) ∷ Sync ∷ [] in
       let told = told_of requests (append_calls gate frame) is refl in
-      let d3 : is_done (outcome_of_next (made + 1 + 1 + 1)) ≡ true = cc in
+      let d3 : has_succeeded (outcome_of_next (made + 1 + 1 + 1)) ≡ true = cc in
       let at3 : made + 1 + 1 + 1 ≡ made + 3 = omega arith in
       let lt = done_before made call cut fill (made + 1 + 1 + 1) 3 at3 d3 in
       omega arith

@@ -1,14 +1,15 @@
 -- The frames of a log, by how many there are and what a read gives.
 use Rattle.std.proofs.Common.{◌≡◌, inl, inr, ℕ, List, [], ◌∷◌, length, take, refl, sym, ◌∙◌, ap, arith}
 use Rattle.std.proofs.lemmas.List.{take_at, take_all}
-use Rattle.node_disk.specs.Frames.{Finds, FindsWithOrWithout, IsAtRest, frames_in, frames_or_none}
+use Rattle.node_disk.specs.Frames.{Finds, FindsWithOrWithout, IsAtRest, frames_in, log_frames_or_none}
 use Rattle.node_disk.proofs.AtRest.{finds_at_rest}
 
 pub frames_found : (frames : List (List ℕ)) (count : ℕ) (bytes : List ℕ) → Finds frames bytes
     → count ≡ length frames → frames_in count bytes ≡ frames
 unfolding frames_in
 frames_found frames count bytes finds counted =
-    ap (λ r. take count (frames_or_none r)) finds ∙ take_all count frames (omega (arith, counted))
+    ap (λ r. take count (log_frames_or_none r)) finds
+    ∙ take_all count frames (omega (arith, counted))
 
 -- none of them
 pub frames_none : (bytes : List ℕ) → frames_in 0 bytes ≡ []
@@ -27,4 +28,5 @@ unfolding frames_in
 frames_stay frames frame count bytes (inl finds) counted =
     frames_found frames count bytes finds counted
 frames_stay frames frame count bytes (inr finds) counted =
-    ap (λ r. take count (frames_or_none r)) finds ∙ take_at frames (frame ∷ []) count (sym counted)
+    ap (λ r. take count (log_frames_or_none r)) finds
+    ∙ take_at frames (frame ∷ []) count (sym counted)

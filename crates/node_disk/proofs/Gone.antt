@@ -5,7 +5,7 @@ use Rattle.std.proofs.lemmas.List.{append-nil}
 use Rattle.std.specs.declared.alloc.AllocError.{AllocError}
 use Rattle.cw_base.specs.Memory.{counted}
 use Rattle.node_disk.specs.Disk.{IsSame}
-use Rattle.node_disk.specs.Record.{Request, is_done}
+use Rattle.node_disk.specs.Record.{Request, has_succeeded}
 use Rattle.node_disk.specs.Memory.{MemoryState, memory_state, next_outcome, HasCalled, HasCounted, answer_of, Continues}
 use Rattle.node_disk.specs.declared.disk.DiskError.{DiskError}
 use Rattle.node_disk.specs.declared.disk.DiskError.TheVariants.{Failed, NoMemory}
@@ -14,9 +14,9 @@ use Rattle.node_disk.proofs.Called.{called_continues}
 -- a call that was done, one that failed, and one that was refused for memory
 pub record HasGone (request : Request) (result : Result (Unit {0}) DiskError)
     (old new : MemoryState) : Type 0 where
-  pub done : OnOk result (HasCalled request old new × (is_done (next_outcome old) ≡ true))
+  pub done : OnOk result (HasCalled request old new × (has_succeeded (next_outcome old) ≡ true))
   pub failed : result ≡ Err Failed
-      → HasCalled request old new × (is_done (next_outcome old) ≡ false)
+      → HasCalled request old new × (has_succeeded (next_outcome old) ≡ false)
   pub same : result ≡ Err NoMemory → IsSame (memory_state old) (memory_state new)
   pub calm : OnOk result (new.faults ≡ old.faults)
   pub fault_counted : result ≡ Err Failed → new.faults ≡ counted old.faults
@@ -52,7 +52,7 @@ module _ (request : Request) (old mid new : MemoryState) (faults : mid.faults �
   no_fewer = subst (λ n. n ≤ new.faults) faults later
 
   gone_as : (made : Result Bool AllocError) → OnOk made (HasCalled request old mid)
-      → IfOk made (λ done. done ≡ is_done (next_outcome old)) → OnErr made (mid ≡ old)
+      → IfOk made (λ done. done ≡ has_succeeded (next_outcome old)) → OnErr made (mid ≡ old)
       → HasCounted made mid new → HasGone request (answer_of made) old new
   gone_as (Ok true) called done err counts =
       let now : HasCalled request old new = called_on request (Ok true) old mid new called counts in
@@ -121,7 +121,7 @@ module _ (request : Request) (old mid new : MemoryState) (faults : mid.faults �
 
   pub has_gone : (made : Result Bool AllocError) (result : Result (Unit {0}) DiskError)
       → OnOk made (HasCalled request old mid)
-      → IfOk made (λ done. done ≡ is_done (next_outcome old)) → OnErr made (mid ≡ old)
+      → IfOk made (λ done. done ≡ has_succeeded (next_outcome old)) → OnErr made (mid ≡ old)
       → result ≡ answer_of made → HasCounted made mid new → HasGone request result old new
   has_gone made result called done err answer counts =
       subst (λ (r : Result (Unit {0}) DiskError). HasGone request r old new) (sym answer)

@@ -1,14 +1,14 @@
 -- What a disk holds once it is reopened.
 use Rattle.std.proofs.Common.{◌≡◌, List, [], Bool, true, false, refl}
-use Rattle.node_disk.specs.Record.{Entry, held_after}
+use Rattle.node_disk.specs.Record.{RecordedCall, held_after}
 
-pub reopened_seen : (calls : List Entry) (reopened : Bool)
+pub reopened_seen : (calls : List RecordedCall) (reopened : Bool)
     → (held_after calls true).seen ≡ (held_after calls reopened).seen
 unfolding held_after
 reopened_seen calls true = refl
 reopened_seen calls false = refl
 
-pub reopened_writes : (calls : List Entry) → (held_after calls true).writes ≡ []
+pub reopened_writes : (calls : List RecordedCall) → (held_after calls true).writes ≡ []
 unfolding held_after
 reopened_writes calls = refl
 

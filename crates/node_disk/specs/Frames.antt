@@ -55,13 +55,13 @@ pub record IsAtRest (frames : List (List ℕ)) (gate : ℕ) (bytes : List ℕ) :
   pub short : all_short frames ≡ true
 
 -- the frames of a log, none where it is refused
-abbrev pub frames_or_none : Result (List (List ℕ)) ℕ → List (List ℕ)
-frames_or_none (Ok frames) = frames
-frames_or_none (Err place) = []
+abbrev pub log_frames_or_none : Result (List (List ℕ)) ℕ → List (List ℕ)
+log_frames_or_none (Ok frames) = frames
+log_frames_or_none (Err place) = []
 
 -- so many of the frames that a start on these bytes finds, from the first on
 unfoldable pub frames_in : ℕ → List ℕ → List (List ℕ)
-frames_in count bytes = take count (frames_or_none (read_log bytes))
+frames_in count bytes = take count (log_frames_or_none (read_log bytes))
 
 -- a start on these bytes finds these frames
 abbrev pub Finds : List (List ℕ) → List ℕ → Type 0

@@ -4,7 +4,7 @@ use Rattle.std.specs.Option.{is_none}
 use Rattle.std.specs.declared.alloc.AllocError.{AllocError}
 use Rattle.cw_base.specs.Memory.{counted}
 use Rattle.node_disk.specs.Disk.{DiskState}
-use Rattle.node_disk.specs.Record.{Request, Entry, Held, held_after, past_of, told_calls, moment_of, done_writes, decided, reopened_still, outcome_at, is_reached, is_listed}
+use Rattle.node_disk.specs.Record.{Request, RecordedCall, Held, held_after, past_of, told_calls, moment_of, done_writes, decided, reopened_still, outcome_at, is_reached, is_to_fail}
 use Rattle.node_disk.specs.declared.disk.DiskError.{DiskError}
 use Rattle.node_disk.specs.declared.disk.DiskError.TheVariants as error
 use Rattle.node_disk.specs.declared.record.Outcome.{Outcome}
@@ -14,7 +14,7 @@ use Rattle.node_disk.specs.declared.record.Stop.{Stop}
 -- armed, the numbers of the device calls that fail, how often a call failed, and how often a device
 -- call was tried.
 pub record MemoryState : Type 0 where
-  pub calls : List Entry
+  pub calls : List RecordedCall
   pub reopened : Bool
   pub stop : Option Stop
   pub failing : List ℕ
@@ -54,7 +54,7 @@ is_stopped disk = is_reached disk.stop (length disk.calls)
 -- those that fail
 abbrev pub next_fails : MemoryState → Bool
 next_fails disk =
-    is_reached disk.stop (length disk.calls + 1) || is_listed disk.failing (length disk.calls + 1)
+    is_reached disk.stop (length disk.calls + 1) || is_to_fail disk.failing (length disk.calls + 1)
 
 -- these are no numbers
 abbrev pub is_none_listed : List ℕ → Bool

@@ -5,7 +5,7 @@ use Rattle.std.proofs.lemmas.Bool.{cases_lt}
 use Rattle.std.proofs.lemmas.List.{get_or_append_left, get_or-append_right, get_or-take, get_or-drop, map-append, append-nil, length-replicate}
 use Rattle.node_disk.specs.Images.{IsImage, Untouched}
 use Rattle.node_disk.specs.Disk.{put_at}
-use Rattle.node_disk.specs.Record.{Held, Written, Entry, Request, Write, Sync, range_of, moment_of, put_within, torn, put_torn, done_writes, effect, opened, step, run, empty_disk, held_after, outcome_at, decided, reopened_still}
+use Rattle.node_disk.specs.Record.{Held, Written, RecordedCall, Request, Write, Sync, range_of, moment_of, put_within, torn, put_torn, done_writes, effect, held_at_opening, held_past, held_past_all, empty_disk, held_after, outcome_at, decided, reopened_still}
 use Rattle.std.specs.Option.{is_none}
 use Rattle.node_disk.specs.Memory.{MemoryState, memory_state, is_none_listed, is_calm, Continues}
 use Rattle.node_disk.specs.declared.record.Stop.{Stop}
@@ -173,21 +173,23 @@ good_act held Sync (Stopped cut fill) good = record {
       ∙ good.same k lt out;
 }
 
-good_opened : (reopened : Bool) (held : Held) → IsGood held → IsGood (opened reopened held)
+good_opened : (reopened : Bool) (held : Held) → IsGood held → IsGood (held_at_opening reopened held)
 good_opened true held good = good_synced held.seen
 good_opened false held good = good
 
-good_run : (held : Held) (entries : List Entry) → IsGood held → IsGood (run held entries)
+good_run : (held : Held) (entries : List RecordedCall) → IsGood held
+    → IsGood (held_past_all held entries)
 good_run held [] good = good
 good_run held (e ∷ entries) good =
-    good_run (step held e) entries
-    (good_act (opened e.reopened held) e.request e.outcome (good_opened e.reopened held good))
+    good_run (held_past held e) entries
+    (good_act (held_at_opening e.reopened held) e.request e.outcome
+    (good_opened e.reopened held good))
 
 pub seen_is_image : (disk : MemoryState)
     → IsImage (memory_state disk).now (memory_state disk).now.seen
 unfolding held_after
 seen_is_image disk =
-    good_opened disk.reopened (run empty_disk disk.calls)
+    good_opened disk.reopened (held_past_all empty_disk disk.calls)
     (good_run empty_disk disk.calls (good_synced []))
 
 still_false : (requests : List Request) → reopened_still false requests ≡ false
@@ -214,9 +216,9 @@ decided-append : (stop : Option Stop) (failing : List ℕ) (made : ℕ) (reopene
 decided-append stop failing made reopened [] b =
     ap (λ (n : ℕ). decided stop failing n reopened b) (let e : made ≡ made + 0 = omega arith in e)
 decided-append stop failing made reopened (r ∷ a) b =
-    let first : Entry =
+    let first : RecordedCall =
     record { reopened = reopened; request = r; outcome = outcome_at stop failing made } in
-    ap (λ (l : List Entry). first ∷ l)
+    ap (λ (l : List RecordedCall). first ∷ l)
     (decided-append stop failing (made + 1) false a b
     ∙ ap
     (λ (still : Bool). decided stop failing (made + 1) false a
@@ -257,18 +259,18 @@ continues_on a b c x y =
       calls =
           y.calls
           ∙ ap
-          (λ (l : List Entry). l
+          (λ (l : List RecordedCall). l
           ++ decided b.stop b.failing (length b.calls) b.reopened y.requests)
           x.calls
           ∙ ap
-          (λ (l : List Entry).
+          (λ (l : List RecordedCall).
           (a.calls ++ decided a.stop a.failing (length a.calls) a.reopened x.requests)
           ++ l)
           second
           ∙ append_assoc a.calls (decided a.stop a.failing (length a.calls) a.reopened x.requests)
           (decided a.stop a.failing (length a.calls + length x.requests)
           (reopened_still a.reopened x.requests) y.requests)
-          ∙ ap (λ (l : List Entry). a.calls ++ l)
+          ∙ ap (λ (l : List RecordedCall). a.calls ++ l)
           (sym
           (decided-append a.stop a.failing (length a.calls) a.reopened x.requests
           y.requests));

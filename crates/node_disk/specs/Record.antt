@@ -18,7 +18,7 @@ pub data Request : Type 0 where
 
 -- a recorded device call: whether the disk was reopened since the one before, what it asked for,
 -- and how it went
-pub record Entry : Type 0 where
+pub record RecordedCall : Type 0 where
   pub reopened : Bool
   pub request : Request
   pub outcome : Outcome
@@ -29,8 +29,8 @@ request_of (action.Write place bytes) = Write place bytes.items
 request_of action.Sync = Sync
 
 -- the entry that a recorded call keeps
-abbrev pub entry_of : Call → Entry
-entry_of call =
+abbrev pub recorded_of : Call → RecordedCall
+recorded_of call =
     record { reopened = call.reopened; request = request_of call.action; outcome = call.outcome }
 
 -- a write since the last sync, and whether it was done
@@ -111,30 +111,30 @@ effect held Sync (Stopped cut fill) =
     }
 
 -- after a reopening all that a read gives is on the disk
-abbrev pub opened : Bool → Held → Held
-opened true held = record { seen = held.seen; synced = held.seen; writes = [] }
-opened false held = held
+abbrev pub held_at_opening : Bool → Held → Held
+held_at_opening true held = record { seen = held.seen; synced = held.seen; writes = [] }
+held_at_opening false held = held
 
 -- what a disk holds after a recorded call
-abbrev pub step : Held → Entry → Held
-step held entry = effect (opened entry.reopened held) entry.request entry.outcome
+abbrev pub held_past : Held → RecordedCall → Held
+held_past held entry = effect (held_at_opening entry.reopened held) entry.request entry.outcome
 
 -- what a disk holds after these calls, one after another
-abbrev pub run : Held → List Entry → Held
-run held [] = held
-run held (entry ∷ entries) = run (step held entry) entries
+abbrev pub held_past_all : Held → List RecordedCall → Held
+held_past_all held [] = held
+held_past_all held (entry ∷ entries) = held_past_all (held_past held entry) entries
 
 -- the moments before each of these calls
-abbrev pub moments : Held → List Entry → List Moment
+abbrev pub moments : Held → List RecordedCall → List Moment
 moments held [] = []
 moments held (entry ∷ entries) =
-    moment_of (opened entry.reopened held) ∷ moments (step held entry) entries
+    moment_of (held_at_opening entry.reopened held) ∷ moments (held_past held entry) entries
 
 -- a device call succeeded
-abbrev pub is_done : Outcome → Bool
-is_done Done = true
-is_done Failed = false
-is_done (Stopped cut fill) = false
+abbrev pub has_succeeded : Outcome → Bool
+has_succeeded Done = true
+has_succeeded Failed = false
+has_succeeded (Stopped cut fill) = false
 
 -- a request as the disk tells it, and whether it was done
 abbrev pub told_request : Request → Bool → DeviceCall
@@ -142,19 +142,19 @@ told_request (Write place bytes) done = Wrote place bytes done
 told_request Sync done = Synced done
 
 -- a recorded device call as the disk tells it
-abbrev pub told_entry : Entry → DeviceCall
-told_entry entry = told_request entry.request (is_done entry.outcome)
+abbrev pub told_entry : RecordedCall → DeviceCall
+told_entry entry = told_request entry.request (has_succeeded entry.outcome)
 
 -- what a disk holds after these calls from the first on, and then reopened or not
-unfoldable pub held_after : List Entry → Bool → Held
-held_after calls reopened = opened reopened (run empty_disk calls)
+unfoldable pub held_after : List RecordedCall → Bool → Held
+held_after calls reopened = held_at_opening reopened (held_past_all empty_disk calls)
 
 -- the moments before each of these calls, from the first on
-unfoldable pub past_of : List Entry → List Moment
+unfoldable pub past_of : List RecordedCall → List Moment
 past_of calls = moments empty_disk calls
 
 -- these recorded device calls as the disk tells them
-unfoldable pub told_calls : List Entry → List DeviceCall
+unfoldable pub told_calls : List RecordedCall → List DeviceCall
 told_calls calls = map told_entry calls
 
 -- the device call of this number, counted from 1, is a stop's or comes behind it
@@ -163,12 +163,12 @@ is_reached None number = false
 is_reached (Some stop) number = nat_le (stop.after + stop.call) number
 
 -- the number is one of those that fail
-abbrev pub is_listed : List ℕ → ℕ → Bool
-is_listed failing number = list_any (λ n. n == number) failing
+abbrev pub is_to_fail : List ℕ → ℕ → Bool
+is_to_fail failing number = list_any (λ n. n == number) failing
 
 -- how the next device call goes, after so many, by the numbers that fail
 abbrev pub by_number : List ℕ → ℕ → Outcome
-by_number failing made = if is_listed failing (made + 1) then Failed else Done
+by_number failing made = if is_to_fail failing (made + 1) then Failed else Done
 
 -- how the next device call goes: behind a stop it fails, at a stop it is stopped, and else the
 -- numbers that fail decide
@@ -180,7 +180,7 @@ outcome_at (Some stop) failing made =
     else by_number failing made)
 
 -- how these go, one after another, after so many
-abbrev pub decided : Option Stop → List ℕ → ℕ → Bool → List Request → List Entry
+abbrev pub decided : Option Stop → List ℕ → ℕ → Bool → List Request → List RecordedCall
 decided stop failing made reopened [] = []
 decided stop failing made reopened (request ∷ requests) =
     record { reopened = reopened; request = request; outcome = outcome_at stop failing made }

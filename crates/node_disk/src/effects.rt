@@ -6,8 +6,8 @@ ghost use Rattle.cw_base.specs.Causes.{Rose};
 ghost use Rattle.cw_base.specs.Memory.{counted};
 ghost use Rattle.node_disk.specs.Disk.{put_at};
 ghost use Rattle.node_disk.specs.Record.{Write, Sync, Held, put_within, torn, put_torn};
-ghost use Rattle.node_disk.specs.Record.{done_writes, write_of, effect, entry_of, is_listed};
-ghost use Rattle.node_disk.specs.Record.{by_number, outcome_at, is_done, request_of};
+ghost use Rattle.node_disk.specs.Record.{done_writes, write_of, effect, recorded_of, is_to_fail};
+ghost use Rattle.node_disk.specs.Record.{by_number, outcome_at, has_succeeded, request_of};
 
 use crate::DiskError;
 use crate::record::{Action, Call, Outcome, Pending, Stop};
@@ -185,7 +185,7 @@ pub(crate) fn change(
 }
 
 fn is_listed(failing: &[u64], number: u64) -> bool
-    ensures { result ≡ is_listed failing.now number }
+    ensures { result ≡ is_to_fail failing.now number }
 {
     failing.iter().any(|x| *x == number)
 }
@@ -228,7 +228,7 @@ pub(crate) fn outcome_of(stop: Option<Stop>, failing: &[u64], made: u64) -> Outc
 }
 
 pub(crate) fn is_done(outcome: Outcome) -> bool
-    ensures { result ≡ is_done outcome }
+    ensures { result ≡ has_succeeded outcome }
 {
     match outcome {
         Outcome::Done => true,

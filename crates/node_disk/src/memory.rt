@@ -3,7 +3,7 @@
 ghost use Rattle.std.specs.Prelude.{◌≡◌, ◌+◌, ◌≤◌, [], ◌∷◌, ◌++◌, length, map, true, false, Some};
 ghost use Rattle.std.specs.Prelude.{None, IfOk, OnOk, OnErr};
 ghost use Rattle.node_disk.specs.Images.{IsDurable};
-ghost use Rattle.node_disk.specs.Record.{Write, request_of, is_done};
+ghost use Rattle.node_disk.specs.Record.{Write, request_of, has_succeeded};
 ghost use Rattle.node_disk.specs.Memory.{memory_state, new_disk, reopened_disk, is_stopped};
 ghost use Rattle.node_disk.specs.Memory.{stop_from_now, HasCalled, next_outcome, HasCounted};
 ghost use Rattle.node_disk.specs.Memory.{answer_of};
@@ -43,13 +43,13 @@ pub struct MemoryDisk {
 
 impl Model for MemoryDisk {
     ghost use Rattle.std.specs.Prelude.{map};
-    ghost use Rattle.node_disk.specs.Record.{entry_of, write_of, held_after};
+    ghost use Rattle.node_disk.specs.Record.{recorded_of, write_of, held_after};
     ghost use Rattle.node_disk.specs.Memory.{MemoryState, IsHeldBy};
 
     ghost Value = { MemoryState };
 
     ghost view = { λ disk. record {
-      calls = map entry_of disk.calls.items;
+      calls = map recorded_of disk.calls.items;
       reopened = disk.reopened;
       stop = disk.stop;
       failing = disk.failing.items;
@@ -58,7 +58,7 @@ impl Model for MemoryDisk {
     } };
 
     ghost invariant = { λ disk.
-        IsHeldBy (held_after (map entry_of disk.calls.items) disk.reopened) disk.bytes.items
+        IsHeldBy (held_after (map recorded_of disk.calls.items) disk.reopened) disk.bytes.items
         (map write_of disk.pending.items) };
 }
 
@@ -172,7 +172,7 @@ impl MemoryDisk {
     // Answers whether it was done; refused for memory, it wasn't made.
     fn make(&mut self, action: Action) -> Result<bool, AllocError>
         ensures called { OnOk result (HasCalled (request_of action) self.old self.new) }
-        ensures done { IfOk result (λ done. done ≡ is_done (next_outcome self.old)) }
+        ensures done { IfOk result (λ done. done ≡ has_succeeded (next_outcome self.old)) }
         ensures err { OnErr result (self.new ≡ self.old) }
         ensures faults { self.new.faults ≡ self.old.faults }
         ensures tries { self.new.tries ≡ self.old.tries }
@@ -197,7 +197,7 @@ impl MemoryDisk {
     // The same of a write, whose bytes the record keeps.
     fn make_write(&mut self, place: u64, bytes: &[u8]) -> Result<bool, AllocError>
         ensures called { OnOk result (HasCalled (Write place bytes.now) self.old self.new) }
-        ensures done { IfOk result (λ done. done ≡ is_done (next_outcome self.old)) }
+        ensures done { IfOk result (λ done. done ≡ has_succeeded (next_outcome self.old)) }
         ensures err { OnErr result (self.new ≡ self.old) }
         ensures faults { self.new.faults ≡ self.old.faults }
         ensures tries { self.new.tries ≡ self.old.tries }

@@ -21,7 +21,7 @@ use Rattle.hail_world.specs.Reports.{IsReport, IsRun, shown_report}
 use Rattle.hail_report.specs.Text.{line}
 use Rattle.node.specs.declared.way.Chunked.{Chunked}
 use Rattle.hail_world.specs.declared.report.Report.{Report}
-use Rattle.shards.specs.Kept.{rules_of}
+use Rattle.shards.specs.Kept.{chunk_rules}
 
 -- the limit, where the one word is a number
 abbrev pub limit_of : List (List ℕ) → Option ℕ
@@ -53,7 +53,7 @@ filled hash limit r =
 abbrev pub is_given_back : (List ℕ → Digest32) → Epochs → Archived → Block → Bool
 is_given_back hash epochs a b =
     option_map_or (λ found. same_block found b)
-    (given_back hash (commit (rules_of hash epochs) b) a.kept) false
+    (given_back hash (commit (chunk_rules hash epochs) b) a.kept) false
 
 -- `archive H yes` or `archive H no`
 unfoldable pub answer_line : ℕ → Bool → List ℕ

@@ -4,7 +4,7 @@ ghost use Rattle.std.specs.Prelude.{◌++◌, ◌≡◌, IfOk, OnOk, drop, strin
 ghost use Rattle.std.specs.List.{flat_map};
 ghost use Rattle.cw_rules.specs.Rules.{commit};
 ghost use Rattle.run_archive.specs.Program as spec;
-ghost use Rattle.shards.specs.Kept.{rules_of};
+ghost use Rattle.shards.specs.Kept.{chunk_rules};
 
 use cw_archive::Archive;
 use cw_base::{Digest32, Hasher, NoMemory, Strategy};
@@ -97,7 +97,7 @@ fn commitment_of<H: Hasher<Digest = Digest32>, R: Threads + Sync, S: Strategy>(
     strategy: &S,
 ) -> Result<Commitment, NoMemory>
     ensures { IfOk result (λ commitment. commitment
-        ≡ commit (rules_of H.digest_of committees.now) link.now) }
+        ≡ commit (chunk_rules H.digest_of committees.now) link.now) }
 {
     let cut = cut_block::<H, R, S>(rt, alloc, committees, link, strategy)?;
     Ok(cut.0)

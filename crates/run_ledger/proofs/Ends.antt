@@ -12,8 +12,8 @@ use Rattle.cw_rules.specs.World.{Line, World, opening}
 use Rattle.cw_rules.proofs.Lists.{in_cases, in_left, in_right}
 use Rattle.node_disk.specs.Memory.{MemoryState}
 use Rattle.cw_ledger.specs.Ledger.{Ledger}
-use Rattle.run_ledger.specs.Giving.{given_all, payloads_of}
-use Rattle.run_ledger.specs.Ledgers.{AreLedgers, IsLedgerOf, handed_by, handed_in_entries, handed_to, is_of}
+use Rattle.run_ledger.specs.Giving.{given_all, replica_payloads}
+use Rattle.run_ledger.specs.Ledgers.{AreLedgers, IsLedgerOf, handed_by, handed_in_entries, handed_to, is_entry_of}
 use Rattle.run_ledger.proofs.Chains.{HasHeights, HasLinks, given_are}
 use Rattle.cw_rules.proofs.Reports.{chain_height}
 use Rattle.run_ledger.proofs.Orders.{reached_by}
@@ -43,7 +43,7 @@ in_entries i h (e ∷ es) there =
         → (y : Handed) × In y (flat_map (λ (x : Entry). x.handed) es) × (y.height ≡ h))
         → (y : Handed) × In y (flat_map (λ (x : Entry). x.handed) (e ∷ es)) × (y.height ≡ h)
     go (inl k) later =
-        let (y, at, is) = of_it (is_of i e) k in
+        let (y, at, is) = of_it (is_entry_of i e) k in
         (y, in_left y e.handed (flat_map (λ (x : Entry). x.handed) es) at, is)
     go (inr k) later =
         let (y, at, is) = later k in
@@ -86,7 +86,7 @@ module _ (r : Rules) (script : List Line) (w : World) (told : Reported)
       (link.link, ap (slice_get told.chain) (sym same) ∙ link.there)
 
   ledger_of : (i : ℕ) (m : Member) → slice_get w.members i ≡ Some (Some m)
-      → IsLedgerOf told.chain (handed_to told i) (payloads_of told i)
+      → IsLedgerOf told.chain (handed_to told i) (replica_payloads told i)
   ledger_of i m at =
       let ordered = run_in_order r script w (first_line r) ends i m at in
       one_ledger told.chain (handed_to told i) heights_are (links_are i)
@@ -97,7 +97,7 @@ module _ (r : Rules) (script : List Line) (w : World) (told : Reported)
   all_of : (n : ℕ) (before members : List (Option Member)) (ledgers : List (Ledger MemoryState))
       → w.members ≡ before ++ members → length before ≡ n
       → map (λ l. l.payloads) ledgers
-      ≡ map (payloads_of told)
+      ≡ map (replica_payloads told)
       (map (λ a. a.member) (filter_map acked_at (enumerate_from n members)))
       → AreLedgers told (map (λ a. a.member) (filter_map acked_at (enumerate_from n members)))
       ledgers
@@ -109,9 +109,9 @@ module _ (r : Rules) (script : List Line) (w : World) (told : Reported)
       (omega (arith, length-append before (None ∷ []), len)) e
   all_of n before (Some m ∷ ms) [] here len e = absurd (omega (arith, ap length e))
   all_of n before (Some m ∷ ms) (l ∷ ls) here len e =
-      let same : l.payloads ≡ payloads_of told n = cc in
+      let same : l.payloads ≡ replica_payloads told n = cc in
       let rest : map (λ (x : Ledger MemoryState). x.payloads) ls
-      ≡ map (payloads_of told)
+      ≡ map (replica_payloads told)
       (map (λ (a : Acked). a.member) (filter_map acked_at (enumerate_from (n + 1) ms))) =
       cc in (
         subst (IsLedgerOf told.chain (handed_to told n)) (sym same)
@@ -129,11 +129,11 @@ module _ (r : Rules) (script : List Line) (w : World) (told : Reported)
       at_end (x ∷ xs) (suc k) p ys e = at_end xs k p ys (omega arith)
 
   pub all_ledgers : (ledgers : List (Ledger MemoryState))
-      → map (λ l. l.payloads) ledgers ≡ map (payloads_of told) (map (λ a. a.member) told.acked)
+      → map (λ l. l.payloads) ledgers ≡ map (replica_payloads told) (map (λ a. a.member) told.acked)
       → AreLedgers told (map (λ a. a.member) told.acked) ledgers
   all_ledgers ledgers e =
       let acked : told.acked ≡ filter_map acked_at (enumerate_from 0 w.members) =
       ap (λ (t : Reported). t.acked) is in
       subst (λ ms. AreLedgers told (map (λ (a : Acked). a.member) ms) ledgers) (sym acked)
       (all_of 0 [] w.members ledgers refl refl
-      (e ∙ ap (λ ms. map (payloads_of told) (map (λ (a : Acked). a.member) ms)) acked))
+      (e ∙ ap (λ ms. map (replica_payloads told) (map (λ (a : Acked). a.member) ms)) acked))

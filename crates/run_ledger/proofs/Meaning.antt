@@ -9,10 +9,10 @@ use Rattle.cw_rules.specs.Report.{Acked}
 use Rattle.node.specs.declared.way.Chunked.{Chunked}
 use Rattle.cw_rules.specs.declared.travel.Travel.TheVariants as travel
 use Rattle.hail_world.specs.declared.report.Report.{Report}
-use Rattle.hail_world.specs.Places.{rules_of}
+use Rattle.hail_world.specs.Places.{script_rules}
 use Rattle.hail_world.specs.Reports.{IsReport, shown_report}
-use Rattle.run_ledger.specs.Giving.{payloads_of, payloads_of_all}
-use Rattle.run_ledger.specs.Ledgers.{AreDone, NeverFails, members_of}
+use Rattle.run_ledger.specs.Giving.{replica_payloads, payloads_of_all}
+use Rattle.run_ledger.specs.Ledgers.{AreDone, NeverFails, honest_members}
 use Rattle.run_ledger.specs.Text.{ledger_text}
 use Rattle.run_ledger.proofs.Ends.{all_ledgers}
 
@@ -32,7 +32,7 @@ module _ {H : Type 0} (report : Report H Chunked) (replicas : List (Ledger Memor
   as_many : length report.acked ≡ length replicas
   as_many =
       sym
-      (length-map (members_of (shown_report report)) (payloads_of (shown_report report))
+      (length-map (honest_members (shown_report report)) (replica_payloads (shown_report report))
       ∙ length-map report.acked (λ a. a.member))
       ∙ ap (λ (l : List (List (List ℕ))). length l) (sym given)
       ∙ length-map replicas (λ r. r.payloads)
@@ -54,7 +54,8 @@ module _ {H : Type 0} (report : Report H Chunked) (replicas : List (Ledger Memor
     is_done hash text due is works lines = record {
       report = is;
       ledgers =
-          all_ledgers (rules_of hash is.script) is.script.lines is.run.world (shown_report report)
+          all_ledgers (script_rules hash is.script) is.script.lines is.run.world
+          (shown_report report)
           is.run.told is.run.ends is.chain replicas given;
       whole = works;
       lines =

@@ -4,7 +4,7 @@ use Rattle.std.specs.Option.{option_map_or}
 use Rattle.cw_types.specs.Block.{Block}
 use Rattle.cw_rules.specs.Report.{Report as Reported}
 use Rattle.cw_ledger.specs.Ledger.{applied}
-use Rattle.run_ledger.specs.Ledgers.{handed_to, members_of}
+use Rattle.run_ledger.specs.Ledgers.{handed_to, honest_members}
 
 -- the payloads once the link of a height was given
 abbrev pub given_one : List Block → List (List ℕ) → ℕ → List (List ℕ)
@@ -14,8 +14,8 @@ abbrev pub given_all : List Block → List (List ℕ) → List ℕ → List (Lis
 given_all chain payloads heights = fold (given_one chain) payloads heights
 
 -- the payloads of a member's replica
-abbrev pub payloads_of : Reported → ℕ → List (List ℕ)
-payloads_of r member = given_all r.chain [] (handed_to r member)
+abbrev pub replica_payloads : Reported → ℕ → List (List ℕ)
+replica_payloads r member = given_all r.chain [] (handed_to r member)
 
 abbrev pub payloads_of_all : Reported → List (List (List ℕ))
-payloads_of_all r = map (payloads_of r) (members_of r)
+payloads_of_all r = map (replica_payloads r) (honest_members r)

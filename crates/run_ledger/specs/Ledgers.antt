@@ -15,12 +15,12 @@ use Rattle.hail_world.specs.Reports.{IsReport, shown_report}
 use Rattle.run_ledger.specs.Text.{ledger_text}
 
 -- the entry is of the member
-abbrev pub is_of : ℕ → Entry → Bool
-is_of member e = option_map_or (λ m. m == member) e.member false
+abbrev pub is_entry_of : ℕ → Entry → Bool
+is_entry_of member e = option_map_or (λ m. m == member) e.member false
 
 -- the heights that an entry hands out to a member
 abbrev pub handed_by : ℕ → Entry → List ℕ
-handed_by member e = if is_of member e then map (λ h. h.height) e.handed else []
+handed_by member e = if is_entry_of member e then map (λ h. h.height) e.handed else []
 
 abbrev pub handed_in_entries : ℕ → List Entry → List ℕ
 handed_in_entries member entries = flat_map (handed_by member) entries
@@ -45,8 +45,8 @@ AreLedgers r (member ∷ members) (ledger ∷ ledgers) =
 AreLedgers r _ _ = ⊥
 
 -- the numbers of the honest members
-abbrev pub members_of : Reported → List ℕ
-members_of r = map (λ a. a.member) r.acked
+abbrev pub honest_members : Reported → List ℕ
+honest_members r = map (λ a. a.member) r.acked
 
 -- no call of the replica is refused but for memory: no earlier call left its disk in doubt, and no
 -- call of the disk fails
@@ -58,6 +58,7 @@ NeverFails r = (r.failed ≡ false) × (is_calm r.disk ≡ true)
 pub record AreDone {H : Type 0} (hash : List ℕ → Digest32) (text : List ℕ)
     (done : Report H Chunked × List (Ledger MemoryState)) (due : List ℕ) : Type 0 where
   pub report : IsReport travel.Chunked hash text done.0
-  pub ledgers : AreLedgers (shown_report done.0) (members_of (shown_report done.0)) done.1
+  pub ledgers : AreLedgers (shown_report done.0) (honest_members (shown_report done.0)) done.1
   pub whole : AllByRecursion NeverFails done.1
-  pub lines : due ≡ ledger_text (members_of (shown_report done.0)) (map (λ r. r.payloads) done.1)
+  pub lines : due
+      ≡ ledger_text (honest_members (shown_report done.0)) (map (λ r. r.payloads) done.1)

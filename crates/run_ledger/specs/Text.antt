@@ -2,7 +2,7 @@
 use Rattle.std.specs.Prelude.{ℕ, List, [], ◌∷◌, ◌++◌, length, codes, Option, Some, None}
 use Rattle.std.specs.List.{flat_map}
 use Rattle.std.specs.Fmt.{decimal}
-use Rattle.cw_ledger.specs.Ledger.{last_height}
+use Rattle.cw_ledger.specs.Ledger.{last_applied}
 use Rattle.cw_ledger.specs.Transfers.{balances, holdings}
 use Rattle.cw_ledger.specs.declared.balances.Holding.{Holding}
 use Rattle.hail_report.specs.Text.{line}
@@ -23,7 +23,7 @@ balance_line member h =
 -- a member's replica that applied these payloads
 abbrev pub replica_text : ℕ → List (List ℕ) → List ℕ
 replica_text member payloads =
-    height_line member (last_height (length payloads))
+    height_line member (last_applied (length payloads))
     ++ flat_map (balance_line member) (holdings (balances payloads))
 
 -- those of all members, one behind the other

@@ -2,7 +2,7 @@
 
 ghost use Rattle.std.specs.Prelude.{◌≡◌, [], IfOk, OnOk, map};
 ghost use Rattle.std.specs.List.{AllByRecursion};
-ghost use Rattle.run_ledger.specs.Giving.{given_all, given_one, payloads_of, payloads_of_all};
+ghost use Rattle.run_ledger.specs.Giving.{given_all, given_one, replica_payloads, payloads_of_all};
 ghost use Rattle.run_ledger.specs.Ledgers.{NeverFails, handed_in_entries};
 ghost use Rattle.hail_world.specs.Reports.{shown_report};
 
@@ -40,7 +40,7 @@ fn replica_of<H: Hasher<Digest = Digest32>>(
     member: u16,
 ) -> Result<Replica<MemoryDisk>, NoMemory>
     ensures given { IfOk result (λ replica. replica.payloads
-        ≡ payloads_of (shown_report report.now) member) }
+        ≡ replica_payloads (shown_report report.now) member) }
     ensures works { IfOk result (λ replica. NeverFails replica) }
 {
     let chain = report.chain.as_slice();

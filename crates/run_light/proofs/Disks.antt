@@ -6,7 +6,7 @@ use Rattle.cw_rules.specs.Rules.{Rules}
 use Rattle.cw_rules.specs.Step.{Member, member_notes}
 use Rattle.marshal.specs.Stored.{joined_notes, read_notes}
 use Rattle.hail_world.specs.Reports.{HoldNotes}
-use Rattle.run_light.specs.Finding.{found_at}
+use Rattle.run_light.specs.Finding.{first_shown}
 use Rattle.run_light.specs.declared.search.Shown.{Shown}
 
 -- the member of a disk
@@ -32,9 +32,9 @@ as_many (m ∷ ms) (d ∷ ds) h = ap suc (as_many ms ds h.1)
 pub at_member : (r : Rules) (sign : ℕ → Vote → Bool) (height : ℕ) (m : Member) (disk bytes : List ℕ)
     (notes slice : List Note) (found : Option Shown)
     → read_notes disk ≡ Ok (member_notes m) → bytes ≡ disk → read_notes bytes ≡ Ok notes
-    → slice ≡ notes → found ≡ found_at r sign height slice
-    → found_at r sign height (member_notes m) ≡ found
+    → slice ≡ notes → found ≡ first_shown r sign height slice
+    → first_shown r sign height (member_notes m) ≡ found
 at_member r sign height m disk bytes notes slice found holds b reads s f =
     let e : Ok notes ≡ Ok (member_notes m) = sym reads ∙ (ap read_notes b ∙ holds) in
     let same : notes ≡ member_notes m = cc in
-    sym (f ∙ ap (found_at r sign height) (s ∙ same))
+    sym (f ∙ ap (first_shown r sign height) (s ∙ same))

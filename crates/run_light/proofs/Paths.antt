@@ -17,7 +17,7 @@ use Rattle.cw_rules.specs.Held.{greatest_prune, held, noted_block_of, parent_of}
 use Rattle.cw_rules.specs.Rules.{Rules, genesis, genesis_commitment}
 use Rattle.cw_rules.proofs.Lists.{and_then_some}
 use Rattle.cw_light.specs.declared.check.Answer.TheVariants.{Yes}
-use Rattle.run_light.specs.Finding.{path_to, path_within, shown_by}
+use Rattle.run_light.specs.Finding.{path_to, path_within, shown_by_note}
 use Rattle.run_light.specs.declared.search.Shown.{Shown}
 
 module _ (r : Rules) (notes : List Note) (height : ℕ) where
@@ -206,9 +206,9 @@ pub shown_is : (r : Rules) (sign : ℕ → Vote → Bool) (height : ℕ) (notes 
     (s : Cert) (p : Proposal) (o : Option (List Block))
     → note ≡ Note.Cert s → s.vote ≡ Finalize p → is_valid r sign s ≡ true
     → o ≡ path_to r notes height p.payload
-    → shown_by r sign height notes note ≡ option_map (pair s) o
+    → shown_by_note r sign height notes note ≡ option_map (pair s) o
 shown_is r sign height notes note s p o is final valid e =
-    ap (shown_by r sign height notes) is
+    ap (shown_by_note r sign height notes) is
     ∙ (cond-true (is_valid r sign s)
     (option_map (pair s)
     (option_and_then (λ (q : Proposal). path_to r notes height q.payload)

@@ -29,13 +29,13 @@ use Rattle.cw_rules.proofs.Runs.{IsClearRun, clear_reached, handed_by, opening_h
 use Rattle.cw_types.proofs.Same.{same_block_self, same_commitment_self}
 use Rattle.cw_rules.proofs.Worlds.{kept_keep}
 use Rattle.cw_light.specs.Believing.{IsLinkAt}
-use Rattle.cw_light.specs.Checking.{answer, broken_at, broken_below, is_named_by, is_parent_of, path_answer}
+use Rattle.cw_light.specs.Checking.{light_answer, broken_at, broken_below, is_named_by, is_parent_of, path_answer}
 use Rattle.cw_light.specs.declared.check.Answer.{Answer}
 use Rattle.cw_light.specs.declared.check.Answer.TheVariants.{BadSigners, Broken, EmptyPath, NotFinal, Yes}
 use Rattle.cw_light.proofs.Believed.{AreTwo, believed, known_under}
 use Rattle.cw_rules.proofs.Blocks.{first_in}
 use Rattle.hail_world.specs.Reports.{honest}
-use Rattle.run_light.specs.Finding.{found_at, found_in, path_to, path_within, shown_by, shown_of}
+use Rattle.run_light.specs.Finding.{first_shown, found_in, path_to, path_within, shown_by_note, shown_of}
 use Rattle.run_light.specs.declared.search.Shown.{Shown}
 use Rattle.run_light.proofs.Paths.{parent_low}
 use Rattle.run_light.proofs.Searching.{found_by}
@@ -187,7 +187,7 @@ module _ (r : Rules) (script : List Line) (w : World) (c : IsCluster r script)
     -- a valid finalization with the path of its held payload
     record Passes (s : Cert) (path : List Block) : Type 0 where
       block : Block
-      yes : answer r (signed w) s path ≡ Yes height (digest r block)
+      yes : light_answer r (signed w) s path ≡ Yes height (digest r block)
       known : (x : Block) → In x path → IsKnown r w x
 
     formed : (s : Cert) → is_valid r (signed w) s ≡ true → well_formed s.vote ≡ true
@@ -261,7 +261,8 @@ module _ (r : Rules) (script : List Line) (w : World) (c : IsCluster r script)
             subst (λ (y : Shown). Passes y.cert y.path) g (passes s p path t f q)
         go (inr n) = cc (cond-false (is_valid r (signed w) s) (option_map pair paths) None n)
 
-    of_note : (note : Note) (shown : Shown) → shown_by r (signed w) height notes note ≡ Some shown
+    of_note : (note : Note) (shown : Shown) → shown_by_note r (signed w) height notes note
+        ≡ Some shown
         → Passes shown.cert shown.path
     of_note (Note.Cert s) shown h = of_shown s shown h
     of_note (Note.Block d b) shown h = cc
@@ -274,7 +275,7 @@ module _ (r : Rules) (script : List Line) (w : World) (c : IsCluster r script)
     of_note (Note.Epoch e d) shown h = cc
 
     told_link : (shown : Shown) → Passes shown.cert shown.path
-        → (d : Digest32) × (answer r (signed w) shown.cert shown.path ≡ Yes height d)
+        → (d : Digest32) × (light_answer r (signed w) shown.cert shown.path ≡ Yes height d)
         × IsLinkAt r (report_of r script w).chain shown.path height d
     told_link shown x = (
       digest r x.block,
@@ -295,13 +296,13 @@ module _ (r : Rules) (script : List Line) (w : World) (c : IsCluster r script)
   -- what is found on a disk of an honest member passes, and ends in the link
   pub found_told : (height : ℕ) (shown : Shown)
       → found_in r (signed w) height (honest w) ≡ Some shown
-      → (d : Digest32) × (answer r (signed w) shown.cert shown.path ≡ Yes height d)
+      → (d : Digest32) × (light_answer r (signed w) shown.cert shown.path ≡ Yes height d)
       × IsLinkAt r (report_of r script w).chain shown.path height d
   found_told height shown h =
       let (m, there, e) =
-      found_by (λ (m : Member). found_at r (signed w) height (member_notes m)) (honest w) shown
+      found_by (λ (m : Member). first_shown r (signed w) height (member_notes m)) (honest w) shown
       h in
       let (i, at) = honest_at w.members m there in
       let (note, among, g) =
-      found_by (shown_by r (signed w) height (member_notes m)) (member_notes m) shown e in
+      found_by (shown_by_note r (signed w) height (member_notes m)) (member_notes m) shown e in
       told_link i m at height shown (of_note i m at height note shown g)

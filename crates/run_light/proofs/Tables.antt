@@ -8,11 +8,11 @@ use Rattle.cw_rules.specs.Report.{Entry, Report as Reported, entries_from, entry
 use Rattle.cw_rules.specs.Rules.{Rules}
 use Rattle.cw_rules.specs.Step.{Member, Stepped, start}
 use Rattle.cw_rules.specs.World.{Cut, Do, Faulty, Line, Restart, Sent, World, done_by, faults, happens, opening, run, sent_now, signed, with_done}
-use Rattle.hail_script.specs.Grammar.{is_faulty_in, marks}
+use Rattle.hail_script.specs.Grammar.{is_faulty_in, faulty_marks}
 use Rattle.hail_script.specs.Scenario.{Scenario}
 use Rattle.node.specs.declared.way.Chunked.{Chunked}
 use Rattle.hail_world.specs.declared.report.Report.{Report}
-use Rattle.hail_world.specs.Places.{rules_of, table}
+use Rattle.hail_world.specs.Places.{script_rules, table}
 use Rattle.hail_report.specs.Pool.{sent_in}
 use Rattle.hail_world.specs.Reports.{IsRun}
 use Rattle.cw_rules.proofs.Changes.{flags_kept}
@@ -59,7 +59,7 @@ run_flags r w (line ∷ lines) = run_flags r (happens r w line) lines ∙ flags_
 
 -- at first the marked members are the faulty ones
 flags_open : (r : Rules) (lines : List Line) (total : ℕ) → r.epochs.total ≡ total
-    → marks lines total ≡ map is_none (opening r lines).members
+    → faulty_marks lines total ≡ map is_none (opening r lines).members
 flags_open r lines total e =
     all (range_with_len 0 total) ∙ ap (λ n. map is_none (map seat (range_with_len 0 n))) (sym e)
   where
@@ -81,13 +81,13 @@ flags_open r lines total e =
 
 pub table_is : {H : Type 0} (hash : List ℕ → Digest32) (s : Scenario) (report : Report H Chunked)
     (x : IsRun hash s report) (faulty : List Bool)
-    → faulty ≡ marks s.lines s.committees.total
+    → faulty ≡ faulty_marks s.lines s.committees.total
     → table faulty (sent_in report.steps) ≡ signed x.world
 table_is hash s report x faulty e =
     ap (table faulty) pool ∙ flags_signed faulty x.world flags
   where
     r : Rules
-    r = rules_of hash s
+    r = script_rules hash s
 
     first : World
     first = opening r s.lines

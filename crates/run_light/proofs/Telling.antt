@@ -7,16 +7,16 @@ use Rattle.cw_rules.specs.Reached.{IsCluster}
 use Rattle.cw_rules.specs.Report.{Entry, Report as Reported}
 use Rattle.cw_rules.specs.World.{signed}
 use Rattle.cw_light.specs.Believing.{IsLinkAt}
-use Rattle.cw_light.specs.Checking.{answer}
+use Rattle.cw_light.specs.Checking.{light_answer}
 use Rattle.cw_light.specs.declared.check.Answer.TheVariants.{Yes}
 use Rattle.cw_rules_coded.specs.Coded.{coded, ruled}
 use Rattle.cw_rules.specs.declared.travel.Travel.TheVariants as travel
-use Rattle.hail_script.specs.Grammar.{marks}
+use Rattle.hail_script.specs.Grammar.{faulty_marks}
 use Rattle.hail_script.specs.Scenario.{Scenario}
 use Rattle.hail_world.specs.declared.report.Ran.{Ran}
 use Rattle.node.specs.declared.way.Chunked.{Chunked}
 use Rattle.hail_world.specs.declared.report.Report.{Report}
-use Rattle.hail_world.specs.Places.{rules_of, table}
+use Rattle.hail_world.specs.Places.{script_rules, table}
 use Rattle.hail_report.specs.Pool.{sent_in}
 use Rattle.hail_world.specs.Programs.{WasRun}
 use Rattle.hail_world.specs.Reports.{IsRun, honest}
@@ -28,43 +28,43 @@ use Rattle.run_light.proofs.Tables.{table_is}
 
 module _ {H : Type 0} (hash : List ℕ → Digest32) (height : ℕ) (s : Scenario)
     (report : Report H Chunked) (x : IsRun hash s report)
-    (cluster : IsCluster (rules_of hash s) s.lines) where
+    (cluster : IsCluster (script_rules hash s) s.lines) where
   abbrev found : Option Shown
-  found = found_in (rules_of hash s) (signed x.world) height (honest x.world)
+  found = found_in (script_rules hash s) (signed x.world) height (honest x.world)
 
   pub tells_none : (due : List ℕ) → found ≡ None → due ≡ none_line
       → TellsOf hash height s report x due
   tells_none due e h =
-      subst (λ (o : Option Shown). Tells (rules_of hash s) report.chain height o due) (sym e) h
+      subst (λ (o : Option Shown). Tells (script_rules hash s) report.chain height o due) (sym e) h
 
   -- what a light client is told of it
   pub told_yes : (shown : Shown) → found ≡ Some shown
       → (d : Digest32)
-      × (answer (rules_of hash s) (signed x.world) shown.cert shown.path ≡ Yes height d)
-      × IsLinkAt (rules_of hash s) report.chain shown.path height d
+      × (light_answer (script_rules hash s) (signed x.world) shown.cert shown.path ≡ Yes height d)
+      × IsLinkAt (script_rules hash s) report.chain shown.path height d
   told_yes shown e =
       let (d, told, link) =
-      found_told (rules_of hash s) s.lines x.world cluster x.ends height shown e in (
+      found_told (script_rules hash s) s.lines x.world cluster x.ends height shown e in (
         d,
         told,
-        subst (λ (links : List Block). IsLinkAt (rules_of hash s) links shown.path height d)
+        subst (λ (links : List Block). IsLinkAt (script_rules hash s) links shown.path height d)
             (sym (ap (λ (y : Reported). y.chain) x.told)) link,
       )
 
   pub tells_some : (shown : Shown) (due : List ℕ) → found ≡ Some shown
       → ((d : Digest32)
-      → answer (rules_of hash s) (signed x.world) shown.cert shown.path ≡ Yes height d
+      → light_answer (script_rules hash s) (signed x.world) shown.cert shown.path ≡ Yes height d
       → due ≡ yes_line height d)
       → TellsOf hash height s report x due
   tells_some shown due e h =
       let (d, told, link) = told_yes shown e in
-      subst (λ (o : Option Shown). Tells (rules_of hash s) report.chain height o due) (sym e)
+      subst (λ (o : Option Shown). Tells (script_rules hash s) report.chain height o due) (sym e)
       (d, h d told, link)
 
   -- the same, by what the program has of the committees, the marks and the entries
   module _ (committees : Epochs) (faulty : List Bool) (steps : List Entry)
       (way : travel.Chunked ≡ s.travel) (ec : committees ≡ s.committees)
-      (ef : faulty ≡ marks s.lines s.committees.total) (es : steps ≡ report.steps) where
+      (ef : faulty ≡ faulty_marks s.lines s.committees.total) (es : steps ≡ report.steps) where
     sign : table faulty (sent_in steps) ≡ signed x.world
     sign = ap (λ (l : List Entry). table faulty (sent_in l)) es ∙ table_is hash s report x faulty ef
 
@@ -76,11 +76,13 @@ module _ {H : Type 0} (hash : List ℕ → Digest32) (height : ℕ) (s : Scenari
         (honest x.world)
 
     pub answer_is : (shown : Shown)
-        → answer (coded hash committees s.backlog (λ b a. true)) (table faulty (sent_in steps))
+        → light_answer (coded hash committees s.backlog (λ b a. true))
+        (table faulty (sent_in steps))
         shown.cert shown.path
-        ≡ answer (rules_of hash s) (signed x.world) shown.cert shown.path
+        ≡ light_answer (script_rules hash s) (signed x.world) shown.cert shown.path
     answer_is shown =
-        λ i. answer (ruled (way i) hash (ec i) s.backlog (λ b a. true)) (sign i) shown.cert shown.path
+        λ i. light_answer (ruled (way i) hash (ec i) s.backlog (λ b a. true)) (sign i) shown.cert
+        shown.path
 
 -- so for a text that was read
 pub told_run : {H : Type 0} (hash : List ℕ → Digest32) (height : ℕ) (text : List ℕ)

@@ -35,15 +35,15 @@ shown_of r signed height notes s =
     else None
 
 -- what a note shows of that height
-abbrev pub shown_by : Rules → (ℕ → Vote → Bool) → ℕ → List Note → Note → Option Shown
-shown_by r signed height notes (Note.Cert s) = shown_of r signed height notes s
-shown_by r signed height notes _ = None
+abbrev pub shown_by_note : Rules → (ℕ → Vote → Bool) → ℕ → List Note → Note → Option Shown
+shown_by_note r signed height notes (Note.Cert s) = shown_of r signed height notes s
+shown_by_note r signed height notes _ = None
 
 -- the first that a member's notes show
-abbrev pub found_at : Rules → (ℕ → Vote → Bool) → ℕ → List Note → Option Shown
-found_at r signed height notes = first_some (shown_by r signed height notes) notes
+abbrev pub first_shown : Rules → (ℕ → Vote → Bool) → ℕ → List Note → Option Shown
+first_shown r signed height notes = first_some (shown_by_note r signed height notes) notes
 
 -- the first that some members show, one after another
 abbrev pub found_in : Rules → (ℕ → Vote → Bool) → ℕ → List Member → Option Shown
 found_in r signed height members =
-    first_some (λ m. found_at r signed height (member_notes m)) members
+    first_some (λ m. first_shown r signed height (member_notes m)) members

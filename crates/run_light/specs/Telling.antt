@@ -11,7 +11,7 @@ use Rattle.hail_script.specs.Pieces.{number}
 use Rattle.hail_script.specs.Scenario.{Scenario}
 use Rattle.node.specs.declared.way.Chunked.{Chunked}
 use Rattle.hail_world.specs.declared.report.Report.{Report}
-use Rattle.hail_world.specs.Places.{rules_of}
+use Rattle.hail_world.specs.Places.{script_rules}
 use Rattle.hail_world.specs.Reports.{IsReport, IsRun, honest}
 use Rattle.hail_report.specs.Text.{digest_text, line}
 use Rattle.run_light.specs.Finding.{found_in}
@@ -47,8 +47,8 @@ abbrev pub TellsOf : {H : Type 0} (hash : List ℕ → Digest32) (height : ℕ) 
     (report : Report H Chunked)
     → IsRun hash s report → List ℕ → Type 0
 TellsOf hash height s report run due =
-    Tells (rules_of hash s) report.chain height
-    (found_in (rules_of hash s) (signed run.world) height (honest run.world)) due
+    Tells (script_rules hash s) report.chain height
+    (found_in (script_rules hash s) (signed run.world) height (honest run.world)) due
 
 -- the text spells a script that is run, this is the report of its run, and that line is due
 pub record IsToldRun {H : Type 0} (hash : List ℕ → Digest32) (height : ℕ) (text : List ℕ)

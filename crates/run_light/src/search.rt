@@ -75,7 +75,7 @@ fn found_at<H: Hasher<Digest = Digest32>, V: Verifier>(
 ) -> Result<Option<Shown>, NoMemory>
     ensures { (backlog : ℕ) (accepts : Block → Block → Bool)
         → IfOk result (λ found. found
-        ≡ spec.found_at (coded H.digest_of committees.now backlog accepts) (V.signs verifier.now)
+        ≡ spec.first_shown (coded H.digest_of committees.now backlog accepts) (V.signs verifier.now)
         height notes.now) }
 {
     for note in notes {
@@ -97,7 +97,8 @@ fn shown_by<H: Hasher<Digest = Digest32>, V: Verifier>(
 ) -> Result<Option<Shown>, NoMemory>
     ensures { (backlog : ℕ) (accepts : Block → Block → Bool)
         → IfOk result (λ shown. shown
-        ≡ spec.shown_by (coded H.digest_of committees.now backlog accepts) (V.signs verifier.now)
+        ≡ spec.shown_by_note (coded H.digest_of committees.now backlog accepts)
+        (V.signs verifier.now)
         height notes.now note.now) }
 {
     let Note::Cert(cert) = note else {

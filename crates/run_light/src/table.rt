@@ -3,7 +3,7 @@
 ghost use Rattle.std.specs.Prelude.{◌≡◌};
 ghost use Rattle.std.specs.List.{list_any};
 ghost use Rattle.cw_rules.specs.World as rule;
-ghost use Rattle.hail_world.specs.Places.{marked, table};
+ghost use Rattle.hail_world.specs.Places.{is_faulty_member, table};
 ghost use Rattle.hail_report.specs.Pool.{sent_in};
 
 use cw_types::{Message, Verifier, Vote};
@@ -28,7 +28,7 @@ impl Verifier for Table<'_> {
 }
 
 fn is_faulty(faulty: &[bool], member: u16) -> bool
-    ensures { result ≡ marked faulty.now member }
+    ensures { result ≡ is_faulty_member faulty.now member }
 {
     match faulty.get(usize::from(member)) {
         Some(faulty) => *faulty,

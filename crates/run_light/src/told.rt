@@ -2,7 +2,7 @@
 
 ghost use Rattle.std.specs.Prelude.{◌≡◌, Bool, ℕ, IfOk};
 ghost use Rattle.cw_base.specs.declared.hash.Digest32.{Digest32 as DigestValue};
-ghost use Rattle.cw_light.specs.Checking.{answer};
+ghost use Rattle.cw_light.specs.Checking.{light_answer};
 ghost use Rattle.cw_rules_coded.specs.Coded.{coded};
 ghost use Rattle.cw_types.specs.Block.{Block};
 
@@ -23,10 +23,10 @@ pub(crate) fn told_of<H: Hasher<Digest = Digest32>, R: Threads + Sync, V: Verifi
     strategy: &S,
 ) -> Result<(u64, Digest32), NoMemory>
     requires { (backlog : ℕ) × (accepts : Block → Block → Bool) × (height : ℕ) × (d : DigestValue)
-        × (answer (coded H.digest_of committees.now backlog accepts) (V.signs verifier.now)
+        × (light_answer (coded H.digest_of committees.now backlog accepts) (V.signs verifier.now)
         shown.now.cert shown.now.path ≡ Answer.Yes height d) }
     ensures { (backlog : ℕ) (accepts : Block → Block → Bool) (height : ℕ) (d : DigestValue)
-        → answer (coded H.digest_of committees.now backlog accepts) (V.signs verifier.now)
+        → light_answer (coded H.digest_of committees.now backlog accepts) (V.signs verifier.now)
         shown.now.cert shown.now.path ≡ Answer.Yes height d
         → IfOk result (λ told. told ≡ (height, d)) }
 {

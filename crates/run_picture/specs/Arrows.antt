@@ -7,8 +7,8 @@ use Rattle.std.specs.Option.{option_map_or}
 use Rattle.cw_rules.specs.World.{line_member}
 use Rattle.run_picture.specs.Elements.{arrow_of, bow, straight}
 use Rattle.run_picture.specs.Frame.{x_of, y_of}
-use Rattle.run_picture.specs.Lines.{asks, number_in}
-use Rattle.run_picture.specs.Steps.{Step, after, brought, is_marked}
+use Rattle.run_picture.specs.Lines.{ask_of_line, number_in}
+use Rattle.run_picture.specs.Steps.{Step, live_after, brought, is_marked}
 use Rattle.run_picture.specs.Told.{class_of, letters}
 use Rattle.run_picture.specs.declared.flights.Flight.{Flight}
 
@@ -48,14 +48,14 @@ abbrev pub arrows_from : List Bool → List Flight → ℕ → List Bool → Lis
 arrows_from faulty flights row live [] = []
 arrows_from faulty flights row live (s ∷ more) =
     arrow_at faulty flights row live s
-    ++ arrows_from faulty flights (row + 1) (after flights row live s) more
+    ++ arrows_from faulty flights (row + 1) (live_after flights row live s) more
 
 -- ---- messages that no line names
 
 -- the line names the message
 abbrev pub names : ℕ → Step → Bool
 names number s =
-    option_map_or (λ n. n == number) (option_and_then number_in (asks s.line)) false
+    option_map_or (λ n. n == number) (option_and_then number_in (ask_of_line s.line)) false
 
 -- who sent it
 unfoldable pub lost_text : Flight → List ℕ

@@ -4,7 +4,7 @@ use Rattle.std.specs.Fmt.{decimal}
 use Rattle.cw_rules.specs.World.{line_member}
 use Rattle.run_picture.specs.Elements.{down, path_of, text_at}
 use Rattle.run_picture.specs.Frame.{above, x_of, y_of}
-use Rattle.run_picture.specs.Steps.{Step, after, stops}
+use Rattle.run_picture.specs.Steps.{Step, live_after, stops}
 use Rattle.run_picture.specs.declared.flights.Flight.{Flight}
 
 -- the class of a lane
@@ -50,4 +50,4 @@ abbrev pub gaps_from : ℕ → List Flight → ℕ → List Bool → List Step �
 gaps_from total flights row live [] = []
 gaps_from total flights row live (s ∷ more) =
     gap_at total row s more (stops flights row live s.line)
-    ++ gaps_from total flights (row + 1) (after flights row live s) more
+    ++ gaps_from total flights (row + 1) (live_after flights row live s) more

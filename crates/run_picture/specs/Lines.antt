@@ -42,11 +42,11 @@ line_text (Faulty member fault) =
     codes "faulty " ++ decimal member ++ codes " " ++ fault_text fault
 
 -- what a line asks of a member
-abbrev pub asks : Line → Option Ask
-asks (Do member ask) = Some ask
-asks (Cut call cut fill member ask) = Some ask
-asks (Restart member) = None
-asks (Faulty member fault) = None
+abbrev pub ask_of_line : Line → Option Ask
+ask_of_line (Do member ask) = Some ask
+ask_of_line (Cut call cut fill member ask) = Some ask
+ask_of_line (Restart member) = None
+ask_of_line (Faulty member fault) = None
 
 -- the number of the message that is asked for
 abbrev pub number_in : Ask → Option ℕ

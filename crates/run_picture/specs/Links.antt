@@ -26,5 +26,5 @@ links_from y first at (digest ∷ more) =
     link_text (14 + 70 * at) y (first + at) digest ++ links_from y first (at + 1) more
 
 -- the last twelve links of a chain
-abbrev pub chain_text : ℕ → List Digest32 → List ℕ
-chain_text y chain = links_from y (length chain - 12) 0 (drop (length chain - 12) chain)
+abbrev pub links_text : ℕ → List Digest32 → List ℕ
+links_text y chain = links_from y (length chain - 12) 0 (drop (length chain - 12) chain)

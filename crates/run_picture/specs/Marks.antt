@@ -2,10 +2,10 @@
 use Rattle.std.specs.Prelude.{ℕ, ◌+◌, ◌-◌, ◌==◌, ◌||◌, ◌++◌, List, [], ◌∷◌, codes, Bool, true, false, if◌then◌else◌, Option, Some, None, is_some, length, bytes_eq, slice_get}
 use Rattle.std.specs.Fmt.{decimal}
 use Rattle.cw_rules.specs.World.{Ack, Ask, Cut, Deliver, Do, Faulty, Floor, Hint, Line, Propose, Prune, Restart, Timeout, line_member}
-use Rattle.run_picture.specs.Elements.{joined, line, mark_of}
+use Rattle.run_picture.specs.Elements.{in_one_text, lined, mark_of}
 use Rattle.run_picture.specs.Frame.{x_of, y_of}
 use Rattle.run_picture.specs.Lines.{is_faulty_line, line_text}
-use Rattle.run_picture.specs.Steps.{Step, acts, after, brought, can_be, stops}
+use Rattle.run_picture.specs.Steps.{Step, acts, live_after, brought, can_be, stops}
 use Rattle.run_picture.specs.Told.{class_of, letters}
 use Rattle.run_picture.specs.declared.flights.Flight.{Flight}
 use Rattle.run_picture.specs.declared.told.Said.{Said}
@@ -66,14 +66,14 @@ mark_class flights row live s =
 
 -- what is told of a line
 unfoldable pub title_text : Step → List ℕ
-title_text s = codes "line " ++ decimal s.number ++ codes ", " ++ line_text s.line
+title_text s = codes "lined " ++ decimal s.number ++ codes ", " ++ line_text s.line
 
 -- ---- labels
 
 -- a part of a label, in the colour of its class
 unfoldable pub part_text : List ℕ → List ℕ → List ℕ
 part_text class text =
-    joined (codes "<tspan class='t" ∷ class ∷ codes "'>" ∷ text ∷ codes "</tspan> " ∷ [])
+    in_one_text (codes "<tspan class='t" ∷ class ∷ codes "'>" ∷ text ∷ codes "</tspan> " ∷ [])
 
 -- heights from one to another
 unfoldable pub heights_text : ℕ → ℕ → List ℕ
@@ -89,9 +89,9 @@ abbrev pub badge_text : List ℕ → List ℕ
 badge_text handed = badge_of (slice_get handed 0) (slice_get handed (length handed - 1))
 
 -- the member stops
-abbrev pub cut_text : Bool → List ℕ
-cut_text false = []
-cut_text true = part_text (codes "bad") (codes "cut")
+abbrev pub cut_mark : Bool → List ℕ
+cut_mark false = []
+cut_mark true = part_text (codes "bad") (codes "cut")
 
 -- how many notes a restart found
 abbrev pub found_text : Option ℕ → List ℕ
@@ -112,17 +112,17 @@ sent_text before (said ∷ more) = said_text before said ++ sent_text (letters s
 -- all parts of a label
 abbrev pub parts_text : Bool → Step → List ℕ
 parts_text is_stop s =
-    badge_text s.handed ++ cut_text is_stop ++ found_text s.found ++ sent_text [] s.sent
+    badge_text s.handed ++ cut_mark is_stop ++ found_text s.found ++ sent_text [] s.sent
 
 -- where a label begins, beside x and y, and where it ends
 unfoldable pub label_begin : ℕ → ℕ → List ℕ
 label_begin x y =
-    joined
+    in_one_text
     (codes "<text x='" ∷ decimal (x + 14) ∷ codes "' y='" ∷ decimal (y + 4)
     ∷ codes "' class='label'>" ∷ [])
 
 unfoldable pub label_end : List ℕ
-label_end = line (codes "</text>" ∷ [])
+label_end = lined (codes "</text>" ∷ [])
 
 abbrev pub label_text : ℕ → ℕ → List ℕ → List ℕ
 label_text x y parts = label_begin x y ++ parts ++ label_end
@@ -141,4 +141,4 @@ abbrev pub marks_from : ℕ → List Flight → ℕ → List Bool → List Step 
 marks_from total flights row live [] = []
 marks_from total flights row live (s ∷ more) =
     mark_at total flights row live s
-    ++ marks_from total flights (row + 1) (after flights row live s) more
+    ++ marks_from total flights (row + 1) (live_after flights row live s) more

@@ -3,10 +3,10 @@ use Rattle.std.specs.Prelude.{ℕ, ◌+◌, ◌++◌, List, [], ◌∷◌, codes
 use Rattle.std.specs.Fmt.{decimal}
 use Rattle.cw_base.specs.declared.hash.Digest32.{Digest32}
 use Rattle.run_picture.specs.Arrows.{arrows_from, stubs_from}
-use Rattle.run_picture.specs.Elements.{joined, line, text_at}
+use Rattle.run_picture.specs.Elements.{in_one_text, lined, text_at}
 use Rattle.run_picture.specs.Frame.{height, most_rows, width, y_of}
 use Rattle.run_picture.specs.Lanes.{gaps_from, lanes_from}
-use Rattle.run_picture.specs.Links.{chain_text}
+use Rattle.run_picture.specs.Links.{links_text}
 use Rattle.run_picture.specs.Marks.{marks_from}
 use Rattle.run_picture.specs.Rows.{rows_from}
 use Rattle.run_picture.specs.Steps.{Step, flights_from}
@@ -16,14 +16,14 @@ use Rattle.run_picture.specs.declared.flights.Flight.{Flight}
 -- a page of that size
 unfoldable pub svg_text : ℕ → ℕ → List ℕ
 svg_text width height =
-    line
+    lined
     (codes "<svg xmlns='http://www.w3.org/2000/svg' width='" ∷ decimal width ∷ codes "' height='"
     ∷ decimal height ∷ codes "' viewBox='0 0 " ∷ decimal width ∷ codes " " ∷ decimal height
     ∷ codes "'>" ∷ [])
 
 unfoldable pub page_text : ℕ → ℕ → List ℕ
 page_text width height =
-    line
+    lined
     (codes "<rect width='" ∷ decimal width ∷ codes "' height='" ∷ decimal height
     ∷ codes "' class='page'/>" ∷ [])
 
@@ -31,19 +31,19 @@ page_text width height =
 unfoldable pub lines_words : ℕ → ℕ → List ℕ
 lines_words lines drawn =
     if nat_lt drawn lines
-    then joined (decimal drawn ∷ codes " of " ∷ decimal lines ∷ codes " lines" ∷ [])
-    else joined (decimal lines ∷ codes " lines" ∷ [])
+    then in_one_text (decimal drawn ∷ codes " of " ∷ decimal lines ∷ codes " lines" ∷ [])
+    else in_one_text (decimal lines ∷ codes " lines" ∷ [])
 
 -- how many members, lines, messages and blocks there are
 unfoldable pub title_words : ℕ → ℕ → ℕ → ℕ → ℕ → List ℕ
 title_words total lines drawn messages blocks =
-    joined
+    in_one_text
     (codes "cluster of " ∷ decimal total ∷ codes ", " ∷ lines_words lines drawn ∷ codes ", "
     ∷ decimal messages ∷ codes " messages, a chain of " ∷ decimal blocks
     ∷ codes " with genesis" ∷ [])
 
 unfoldable pub end : List ℕ
-end = line (codes "</svg>" ∷ [])
+end = lined (codes "</svg>" ∷ [])
 
 -- all that is drawn of steps and their messages
 abbrev pub drawing : List Bool → List Flight → List Step → List ℕ
@@ -72,7 +72,7 @@ heading total lines drawn messages blocks =
 -- the chain below so many rows, and the end
 abbrev pub foot : ℕ → List Digest32 → List ℕ
 foot rows chain =
-    text_at 14 (y_of rows + 50) (codes "big") (codes "chain") ++ chain_text (y_of rows + 62) chain
+    text_at 14 (y_of rows + 50) (codes "big") (codes "chain") ++ links_text (y_of rows + 62) chain
     ++ end
 
 -- of a script with so many lines those that are drawn

@@ -2,7 +2,7 @@
 use Rattle.std.specs.Prelude.{ℕ, ◌+◌, ◌&&◌, ◌++◌, ◌∷◌, [], List, map, Bool, true, false, if◌then◌else◌, is_some, nat_lt, Option, Some, None, option_and_then, slice_get, slice_set, slice_index_or}
 use Rattle.std.specs.Option.{option_map_or}
 use Rattle.cw_rules.specs.World.{Ask, Floor, Line, is_to, line_member}
-use Rattle.run_picture.specs.Lines.{asks, is_cut, number_in}
+use Rattle.run_picture.specs.Lines.{ask_of_line, is_cut, number_in}
 use Rattle.run_picture.specs.Told.{is_finalization}
 use Rattle.run_picture.specs.declared.flights.Flight.{Flight}
 use Rattle.run_picture.specs.declared.told.Said.{Said}
@@ -43,15 +43,16 @@ abbrev pub if_reaches : ℕ → ℕ → Ask → Flight → Option Flight
 if_reaches row member ask f = if reaches row member ask f then Some f else None
 
 -- the message that is asked for, where it reaches the member
-abbrev pub taken : List Flight → ℕ → ℕ → Ask → Option Flight
-taken flights row member ask =
+abbrev pub taken_flight : List Flight → ℕ → ℕ → Ask → Option Flight
+taken_flight flights row member ask =
     option_and_then
     (λ number. option_and_then (if_reaches row member ask) (slice_get flights number))
     (number_in ask)
 
 -- the message that a line brings
 abbrev pub brought : List Flight → ℕ → Line → Option Flight
-brought flights row line = option_and_then (taken flights row (line_member line)) (asks line)
+brought flights row line = option_and_then (taken_flight flights row (line_member line))
+    (ask_of_line line)
 
 -- ---- members
 
@@ -62,11 +63,11 @@ is_marked marks member = slice_index_or marks member false
 -- what is asked for is there
 abbrev pub is_there : List Flight → ℕ → ℕ → Ask → Bool
 is_there flights row member ask =
-    if is_some (number_in ask) then is_some (taken flights row member ask) else true
+    if is_some (number_in ask) then is_some (taken_flight flights row member ask) else true
 
 abbrev pub can_be : List Flight → ℕ → Line → Bool
 can_be flights row line =
-    option_map_or (is_there flights row (line_member line)) (asks line) false
+    option_map_or (is_there flights row (line_member line)) (ask_of_line line) false
 
 -- the line asks a live member for what is there
 abbrev pub acts : List Flight → ℕ → List Bool → Line → Bool
@@ -77,7 +78,7 @@ abbrev pub stops : List Flight → ℕ → List Bool → Line → Bool
 stops flights row live line = is_cut line && acts flights row live line
 
 -- the live members behind a line
-abbrev pub after : List Flight → ℕ → List Bool → Step → List Bool
-after flights row live s =
+abbrev pub live_after : List Flight → ℕ → List Bool → Step → List Bool
+live_after flights row live s =
     if stops flights row live s.line then slice_set live (line_member s.line) false
     else if is_some s.found then slice_set live (line_member s.line) true else live

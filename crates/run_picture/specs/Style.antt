@@ -1,43 +1,45 @@
 -- What is the same in every picture: colours, shapes, and what they mean.
 use Rattle.std.specs.Prelude.{ℕ, ◌+◌, ◌++◌, List, [], ◌∷◌, codes}
-use Rattle.run_picture.specs.Elements.{across, arrow_of, line, mark_of, text_at}
+use Rattle.run_picture.specs.Elements.{across, arrow_of, lined, mark_of, text_at}
 use Rattle.run_picture.specs.Marks.{label_begin, label_end, part_text}
 
 -- sizes and places of texts
 unfoldable pub text_styles : List ℕ
 text_styles =
-    line (codes "text{font:11px ui-monospace,Menlo,Consolas,'DejaVu Sans Mono',monospace}" ∷ [])
-    ++ line (codes "text{fill:#1d2127}.end{text-anchor:end}.mid{text-anchor:middle}" ∷ [])
-    ++ line (codes ".big,.head{font-weight:bold}.big{font-size:13px}.head{font-size:14px}" ∷ [])
-    ++ line (codes ".full,tspan.c{font-weight:bold}.small{font-size:10px}.tiny{font-size:9px}" ∷ [])
-    ++ line (codes ".dim,.tiny{fill:#6a717c}.bad,.tbad{fill:#c2371c}" ∷ [])
-    ++ line (codes ".label tspan{paint-order:stroke;stroke:#fff;stroke-width:3}" ∷ [])
-    ++ line (codes ".label .tbadge{font-weight:bold;fill:#fff;stroke:#1d2127;stroke-width:9}" ∷ [])
-    ++ line (codes "tspan{stroke-linejoin:round}" ∷ [])
+    lined (codes "text{font:11px ui-monospace,Menlo,Consolas,'DejaVu Sans Mono',monospace}" ∷ [])
+    ++ lined (codes "text{fill:#1d2127}.end{text-anchor:end}.mid{text-anchor:middle}" ∷ [])
+    ++ lined (codes ".big,.head{font-weight:bold}.big{font-size:13px}.head{font-size:14px}" ∷ [])
+    ++ lined (codes ".full,tspan.c{font-weight:bold}.small{font-size:10px}.tiny{font-size:9px}"
+    ∷ [])
+    ++ lined (codes ".dim,.tiny{fill:#6a717c}.bad,.tbad{fill:#c2371c}" ∷ [])
+    ++ lined (codes ".label tspan{paint-order:stroke;stroke:#fff;stroke-width:3}" ∷ [])
+    ++ lined (codes ".label .tbadge{font-weight:bold;fill:#fff;stroke:#1d2127;stroke-width:9}" ∷ [])
+    ++ lined (codes "tspan{stroke-linejoin:round}" ∷ [])
 
 -- lines and boxes
 unfoldable pub line_styles : List ℕ
 line_styles =
-    line (codes "path{fill:none}.page{fill:#fff}.guide{stroke:#d0d5dc;stroke-dasharray:1 3}" ∷ [])
-    ++ line (codes ".lane{stroke:#c3cfe2;stroke-width:6}.gap{stroke:#fff;stroke-width:8}" ∷ [])
-    ++ line (codes ".lane.bad{stroke:#c2371c;stroke-width:2;stroke-dasharray:6 4}" ∷ [])
-    ++ line (codes ".stopped{stroke:#c2371c;stroke-width:2;stroke-dasharray:2 4}" ∷ [])
-    ++ line (codes ".link,.block{stroke:#1d2127}.link{stroke-width:2}.block{fill:#eef2f8}" ∷ [])
-    ++ line (codes ".mark,.arrow{stroke-width:1.4}.arrow.c{stroke-width:2.8}" ∷ [])
-    ++ line (codes ".arrow.z{stroke-dasharray:6 3}.arrow.arrow.stub{marker-end:url(#end)}" ∷ [])
-    ++ line (codes ".mark.ink{stroke:#1d2127;fill:#1d2127}.mark.bad{stroke:#c2371c;fill:#fff}" ∷ [])
+    lined (codes "path{fill:none}.page{fill:#fff}.guide{stroke:#d0d5dc;stroke-dasharray:1 3}" ∷ [])
+    ++ lined (codes ".lane{stroke:#c3cfe2;stroke-width:6}.gap{stroke:#fff;stroke-width:8}" ∷ [])
+    ++ lined (codes ".lane.bad{stroke:#c2371c;stroke-width:2;stroke-dasharray:6 4}" ∷ [])
+    ++ lined (codes ".stopped{stroke:#c2371c;stroke-width:2;stroke-dasharray:2 4}" ∷ [])
+    ++ lined (codes ".link,.block{stroke:#1d2127}.link{stroke-width:2}.block{fill:#eef2f8}" ∷ [])
+    ++ lined (codes ".mark,.arrow{stroke-width:1.4}.arrow.c{stroke-width:2.8}" ∷ [])
+    ++ lined (codes ".arrow.z{stroke-dasharray:6 3}.arrow.arrow.stub{marker-end:url(#end)}" ∷ [])
+    ++ lined (codes ".mark.ink{stroke:#1d2127;fill:#1d2127}.mark.bad{stroke:#c2371c;fill:#fff}"
+    ∷ [])
 
 -- a class of messages has one colour
 unfoldable pub colour_text : List ℕ → List ℕ → List ℕ
 colour_text class colour =
-    line
+    lined
     (codes ".arrow." ∷ class ∷ codes ",.mark." ∷ class ∷ codes "{stroke:" ∷ colour ∷ codes "}.mark."
     ∷ class ∷ codes ",.t" ∷ class ∷ codes "{fill:" ∷ colour ∷ codes "}" ∷ [])
 
 -- its arrows have a head
 unfoldable pub head_text : List ℕ → List ℕ
 head_text class =
-    line (codes ".arrow." ∷ class ∷ codes "{marker-end:url(#m" ∷ class ∷ codes ")}" ∷ [])
+    lined (codes ".arrow." ∷ class ∷ codes "{marker-end:url(#m" ∷ class ∷ codes ")}" ∷ [])
 
 abbrev pub class_text : List ℕ → List ℕ → List ℕ
 class_text class colour = colour_text class colour ++ head_text class
@@ -52,7 +54,7 @@ colours =
 -- the head of an arrow
 unfoldable pub tip_text : List ℕ → List ℕ
 tip_text class =
-    line
+    lined
     (codes "<marker id='m" ∷ class ∷ codes "' viewBox='0 0 10 10' refX='13' refY='5' "
     ∷ codes "markerWidth='8' markerHeight='8' markerUnits='userSpaceOnUse' orient='auto'>"
     ∷ codes "<path d='M0 1L10 5L0 9z' class='mark " ∷ class ∷ codes "'/></marker>" ∷ [])
@@ -65,25 +67,25 @@ tips =
 -- marks, and the end of a stub
 unfoldable pub shapes : List ℕ
 shapes =
-    line (codes "<marker id='end' viewBox='0 0 6 6' refX='3' refY='3' markerWidth='6'" ∷ [])
-    ++ line (codes "markerHeight='6' markerUnits='userSpaceOnUse'>" ∷ [])
-    ++ line (codes "<circle cx='3' cy='3' r='2' class='mark g'/></marker>" ∷ [])
-    ++ line (codes "<circle id='dot' r='4'/><circle id='ring' r='4' fill-opacity='0'/>" ∷ [])
-    ++ line (codes "<rect id='box' x='-5' y='-5' width='10' height='10'/>" ∷ [])
-    ++ line (codes "<path id='gem' d='M0 -6L6 0L0 6L-6 0z' style='fill:inherit'/>" ∷ [])
-    ++ line (codes "<path id='tri' d='M-5 4L5 4L0 -5z' style='fill:inherit'/>" ∷ [])
-    ++ line (codes "<path id='cross' d='M-6 -6L6 6M-6 6L6 -6' stroke-width='3'/>" ∷ [])
-    ++ line (codes "<path id='void' d='M-3 -3L3 3M-3 3L3 -3'/>" ∷ [])
+    lined (codes "<marker id='end' viewBox='0 0 6 6' refX='3' refY='3' markerWidth='6'" ∷ [])
+    ++ lined (codes "markerHeight='6' markerUnits='userSpaceOnUse'>" ∷ [])
+    ++ lined (codes "<circle cx='3' cy='3' r='2' class='mark g'/></marker>" ∷ [])
+    ++ lined (codes "<circle id='dot' r='4'/><circle id='ring' r='4' fill-opacity='0'/>" ∷ [])
+    ++ lined (codes "<rect id='box' x='-5' y='-5' width='10' height='10'/>" ∷ [])
+    ++ lined (codes "<path id='gem' d='M0 -6L6 0L0 6L-6 0z' style='fill:inherit'/>" ∷ [])
+    ++ lined (codes "<path id='tri' d='M-5 4L5 4L0 -5z' style='fill:inherit'/>" ∷ [])
+    ++ lined (codes "<path id='cross' d='M-6 -6L6 6M-6 6L6 -6' stroke-width='3'/>" ∷ [])
+    ++ lined (codes "<path id='void' d='M-3 -3L3 3M-3 3L3 -3'/>" ∷ [])
 
 -- where styles and shapes begin and end
 unfoldable pub begin : List ℕ
-begin = line (codes "<style>" ∷ [])
+begin = lined (codes "<style>" ∷ [])
 
 unfoldable pub middle : List ℕ
-middle = line (codes "</style><defs>" ∷ [])
+middle = lined (codes "</style><defs>" ∷ [])
 
 unfoldable pub end : List ℕ
-end = line (codes "</defs>" ∷ [])
+end = lined (codes "</defs>" ∷ [])
 
 -- all of them
 unfoldable pub style : List ℕ

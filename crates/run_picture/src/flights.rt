@@ -63,7 +63,7 @@ pub(crate) fn brought<'a>(flights: &'a [Flight], row: u16, line: &EventLine) -> 
 
 // The message that is asked for, where it reaches the member.
 fn taken<'a>(flights: &'a [Flight], row: u16, member: u64, ask: &Ask) -> Option<&'a Flight>
-    ensures { option_map (λ f. f.now) result ≡ spec.taken flights.now row member ask.now }
+    ensures { option_map (λ f. f.now) result ≡ spec.taken_flight flights.now row member ask.now }
 {
     match number_in(ask) {
         Some(number) => reaching(flights, row, member, ask, number),

@@ -86,7 +86,7 @@ fn heights_text(alloc: Global, first: u64, last: u64) -> Result<String, NoMemory
 }
 
 fn put_cut(out: &mut String, is_stop: bool) -> Result<(), NoMemory>
-    ensures { OnOk result (string_bytes out.new ≡ string_bytes out.old ++ spec.cut_text is_stop) }
+    ensures { OnOk result (string_bytes out.new ≡ string_bytes out.old ++ spec.cut_mark is_stop) }
 {
     if is_stop {
         return put_part(out, "bad", "cut");

@@ -129,7 +129,7 @@ pub(crate) fn member_of(line: &EventLine) -> u64
 
 /// What a line asks of a member.
 pub(crate) fn asks(line: &EventLine) -> Option<&Ask>
-    ensures { option_map (λ ask. ask.now) result ≡ spec.asks line.now }
+    ensures { option_map (λ ask. ask.now) result ≡ spec.ask_of_line line.now }
 {
     match line.kind() {
         LineKind::Do(_, ask) => Some(ask),

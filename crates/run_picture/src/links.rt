@@ -16,7 +16,7 @@ pub(crate) fn put_chain(
 ) -> Result<(), NoMemory>
     requires { y < 2 ^ 33 }
     ensures { OnOk result
-        (string_bytes out.new ≡ string_bytes out.old ++ spec.chain_text y chain.now) }
+        (string_bytes out.new ≡ string_bytes out.old ++ spec.links_text y chain.now) }
 {
     let first = chain.len().saturating_sub(12);
     put_links(alloc, out, y, first as u64, &chain[first..])

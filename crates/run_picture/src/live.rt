@@ -45,7 +45,7 @@ pub(crate) fn stops(flights: &[Flight], row: u16, live: &[bool], line: &EventLin
 
 /// The live members behind a line.
 pub(crate) fn pass(live: &mut Vec<bool>, flights: &[Flight], row: u16, step: &Step)
-    ensures { live.new.items ≡ spec.after flights.now row live.old.items step.now }
+    ensures { live.new.items ≡ spec.live_after flights.now row live.old.items step.now }
 {
     let member = member_of(step.line);
     if stops(flights, row, live, step.line) {

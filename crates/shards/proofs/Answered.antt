@@ -15,7 +15,7 @@ use Rattle.cw_coding.specs.Totals.{total_of}
 use Rattle.cw_types.specs.Numbers.{config_for}
 use Rattle.shards.specs.Enough.{AreEnough, AreUnder}
 use Rattle.cw_rules.specs.declared.travel.Travel.TheVariants.{Chunked}
-use Rattle.shards.specs.Kept.{AreTakenOnce, chunks_of, is_known, rules_of, with_chunk}
+use Rattle.shards.specs.Kept.{AreTakenOnce, chunks_of, is_kept_chunk, chunk_rules, with_chunk}
 use Rattle.shards.specs.Verdicts.{kept_verdict, of_shown, verdict}
 use Rattle.shards.specs.declared.pieces.KeptChunk.{KeptChunk}
 use Rattle.shards.specs.declared.verdict.Verdict.{Verdict}
@@ -31,31 +31,32 @@ chunks_with c kept x =
     ∙ ap (λ b. chunks_of c kept ++ (if b then x ∷ [] else [])) (same_commitment_self c)
 
 all_under : (hash : List ℕ → Digest32) (epochs : Epochs) (c : Commitment) (xs : List Chunk)
-    → AllByRecursion (λ x. IsTrue (is_chunk_of (rules_of hash epochs) c x)) xs → AreUnder hash c xs
+    → AllByRecursion (λ x. IsTrue (is_chunk_of (chunk_rules hash epochs) c x)) xs
+    → AreUnder hash c xs
 all_under hash epochs c [] a = tt
 all_under hash epochs c (x ∷ xs) a = (
   (and_parts
       (list_any (λ (list : List ℕ). same_counts c.config (config_for (length list))) epochs.lists)
-      (is_under (rules_of hash epochs) c x) a.0).1,
+      (is_under (chunk_rules hash epochs) c x) a.0).1,
   all_under hash epochs c xs a.1,
 )
 
 -- k chunks that are kept are enough
 pub enough_kept : (hash : List ℕ → Digest32) (epochs : Epochs) (kept : List KeptChunk)
     (c : Commitment) (x : Chunk)
-    → AreTakenOnce (rules_of hash epochs) kept → is_known kept c x ≡ false
-    → is_chunk_of (rules_of hash epochs) c x ≡ true → 2 ≤ c.config.minimum
+    → AreTakenOnce (chunk_rules hash epochs) kept → is_kept_chunk kept c x ≡ false
+    → is_chunk_of (chunk_rules hash epochs) c x ≡ true → 2 ≤ c.config.minimum
     → total_of c.config ≤ 65535 → length (chunks_of c kept) ≡ c.config.minimum - 1
     → AreEnough hash c (chunks_of c kept ++ x ∷ [])
 enough_kept hash epochs kept c x are new taken some few n =
-    let more = keep_more (rules_of hash epochs) kept c x are new taken in
+    let more = keep_more (chunk_rules hash epochs) kept c x are new taken in
     record {
       some = some;
       few = few;
       enough = omega (arith, length-append (chunks_of c kept) (x ∷ []));
       under =
           all_under hash epochs c (chunks_of c kept ++ x ∷ [])
-          (subst (AllByRecursion (λ y. IsTrue (is_chunk_of (rules_of hash epochs) c y)))
+          (subst (AllByRecursion (λ y. IsTrue (is_chunk_of (chunk_rules hash epochs) c y)))
           (chunks_with c kept x) (more.taken c));
       apart = rw (← chunks_with c kept x) (more.apart c);
     }
@@ -81,11 +82,11 @@ verdict_shown r cut kept c x block some n is =
 
 -- the verdict on a chunk that isn't known and that the rules take
 pub verdict_taken : (r : Rules) (kept : List KeptChunk) (c : Commitment) (x : Chunk) (v : Verdict)
-    → is_known kept c x ≡ false → is_chunk_of r c x ≡ true → v ≡ kept_verdict r kept c x
+    → is_kept_chunk kept c x ≡ false → is_chunk_of r c x ≡ true → v ≡ kept_verdict r kept c x
     → v ≡ verdict r kept c x
 verdict_taken r kept c x v new taken is =
     is
     ∙ (sym (cond-true (is_chunk_of r c x) (kept_verdict r kept c x) Foreign taken)
     ∙ sym
-    (cond-false (is_known kept c x) Known
+    (cond-false (is_kept_chunk kept c x) Known
     (if is_chunk_of r c x then kept_verdict r kept c x else Foreign) new))

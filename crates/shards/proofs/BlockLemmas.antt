@@ -11,7 +11,7 @@ use Rattle.std.proofs.lemmas.List.{map-append}
 use Rattle.std.proofs.lemmas.List.Elements.{filter_map-append}
 use Rattle.std.proofs.lemmas.List.Folds.{find-append}
 use Rattle.cw_rules.specs.Rules.{Chunk}
-use Rattle.shards.specs.Index.{AreIndexed, chunks_at, with_index}
+use Rattle.shards.specs.Index.{AreChunksIndexed, chunks_at, with_index}
 
 -- ---- what is found
 
@@ -113,7 +113,7 @@ module _ (old new : List (ℕ × Chunk)) (x : Chunk) (sets : SetsIndex x.index x
       (set_at i ∙ ap (λ b. cond b (Some x) (lookup (nat_eq i) old)) a.0)
       ∙ ap (λ (xs : List Chunk). cons_option (lookup (nat_eq i) old) xs) (stay is a.1)
 
-  module _ (came : List ℕ) (are : AreIndexed old came)
+  module _ (came : List ℕ) (are : AreChunksIndexed old came)
       (none : with_index x.index (chunks_at old came) ≡ None) where
     others : AllByRecursion (λ (j : ℕ). (x.index == j) ≡ false) came
     others =
@@ -131,7 +131,7 @@ module _ (old new : List (ℕ × Chunk)) (x : Chunk) (sets : SetsIndex x.index x
         ∙ (ap (λ (xs : List Chunk). xs ++ chunks_at new (x.index ∷ [])) (stay came others)
         ∙ ap (λ (o : Option Chunk). chunks_at old came ++ cons_option o []) here)
 
-    pub indexed_pushed : AreIndexed new (came ++ x.index ∷ [])
+    pub indexed_pushed : AreChunksIndexed new (came ++ x.index ∷ [])
     indexed_pushed = record {
       own =
           ap (map (λ (y : Chunk). y.index)) chunks_pushed

@@ -23,7 +23,7 @@ use Rattle.cw_rules.specs.Coding.{AreApart, AreByteChunks, AreBytes, IsCoder}
 use Rattle.cw_rules.specs.Rules.{Chunk}
 use Rattle.cw_rules_coded.specs.Coded.{code_rows, digest_bytes}
 use Rattle.shards.specs.Enough.{AreEnough, AreOfText, AreUnder, checked_of}
-use Rattle.shards.specs.Kept.{rules_of}
+use Rattle.shards.specs.Kept.{chunk_rules}
 use Rattle.cw_types.proofs.Cutting.{codable}
 use Rattle.shards.proofs.Standing.{stands_under}
 use Rattle.cw_rules_coded.proofs.RealCoder.{listed_at, byte_at}
@@ -124,7 +124,7 @@ module _ (hash : List ℕ → Digest32) (epochs : Epochs) (c : Commitment) where
       )
 
   -- chunks that are decoded to a text are rows of its codeword
-  pub of_text : (chunks : List Chunk) (text : List ℕ) → IsCoder (rules_of hash epochs)
+  pub of_text : (chunks : List Chunk) (text : List ℕ) → IsCoder (chunk_rules hash epochs)
       → AreEnough hash c chunks → AreByteChunks chunks
       → IsDecoding hash digest_bytes c.config c.root (map (checked_of hash c) chunks) text
       → AreOfText hash c chunks text
@@ -182,7 +182,7 @@ module _ (hash : List ℕ → Digest32) (epochs : Epochs) (c : Commitment) where
       (stands.within, λ h. elsewhere x.index xs a.0 h.0 h.1 h.2, sound_indices xs few u.1 a.1)
 
   -- chunks that are refused, and not for want of memory, are of no text
-  pub of_no_text : (chunks : List Chunk) (e : ReedSolomonError) → IsCoder (rules_of hash epochs)
+  pub of_no_text : (chunks : List Chunk) (e : ReedSolomonError) → IsCoder (chunk_rules hash epochs)
       → AnyEnoughDecode hash digest_bytes → AreEnough hash c chunks
       → IsDecodeRefusal hash digest_bytes c.config c.root (map (checked_of hash c) chunks) e
       → e ≢ NoMemory → (text : List ℕ) → AreOfText hash c chunks text → ⊥

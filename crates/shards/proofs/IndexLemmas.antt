@@ -16,7 +16,7 @@ use Rattle.cw_types.specs.declared.commitment.Commitment.{Commitment}
 use Rattle.cw_types.proofs.Ordered.{found_same}
 use Rattle.cw_types.proofs.Same.{same_commitment-true, same_commitment_self}
 use Rattle.shards.specs.Index.{AreGathered, ByCommitment, HasAdded, HasStayed, IsNewChunk, chunks_by, all_gathered, gathered_by, with_index}
-use Rattle.shards.specs.Kept.{chunks_of, is_known, with_chunk}
+use Rattle.shards.specs.Kept.{chunks_of, is_kept_chunk, with_chunk}
 use Rattle.cw_rules.specs.Rules.{Chunk}
 use Rattle.shards.specs.declared.pieces.KeptChunk.{KeptChunk}
 use Rattle.shards.specs.declared.index.ChunkKey.{ChunkKey}
@@ -34,14 +34,14 @@ chunks_found bs order c o are e =
 
 -- a chunk is known where there is one of its index
 pub known_found : (kept : List KeptChunk) (c : Commitment) (x : Chunk)
-    → is_known kept c x ≡ is_some (with_index x.index (chunks_of c kept))
+    → is_kept_chunk kept c x ≡ is_some (with_index x.index (chunks_of c kept))
 known_found [] c x = refl
 known_found (k ∷ ks) c x =
     go (same_commitment c k.commitment) (k.chunk.index == x.index) refl (known_found ks c x)
   where
     go : (s t : Bool) → (k.chunk.index == x.index) ≡ t
-        → is_known ks c x ≡ is_some (with_index x.index (chunks_of c ks))
-        → ((s && (x.index == k.chunk.index)) || is_known ks c x)
+        → is_kept_chunk ks c x ≡ is_some (with_index x.index (chunks_of c ks))
+        → ((s && (x.index == k.chunk.index)) || is_kept_chunk ks c x)
         ≡ is_some
         (find (λ (y : Chunk). y.index == x.index)
         (map (λ (e : KeptChunk). e.chunk)
@@ -57,7 +57,7 @@ none_some (Some x) h = cc h
 
 -- a chunk that isn't known is new
 pub new_unknown : (bs : ByCommitment) (order : List ChunkKey) (c : Commitment) (x : Chunk)
-    → AreGathered bs order → is_known (all_gathered bs order) c x ≡ false → IsNewChunk bs c x
+    → AreGathered bs order → is_kept_chunk (all_gathered bs order) c x ≡ false → IsNewChunk bs c x
 new_unknown bs order c x are new =
     none_some (with_index x.index (chunks_by bs c))
     (ap (λ (xs : List Chunk). is_some (with_index x.index xs)) (are.found c)

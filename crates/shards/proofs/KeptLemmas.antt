@@ -11,7 +11,7 @@ use Rattle.cw_rules.specs.Coding.{AreApart}
 use Rattle.cw_rules.specs.Held.{if_committed, row_of, shown, shown_by, shown_by_rows, whole_of}
 use Rattle.cw_rules.specs.Rules.{Chunk, Rules, block_of}
 use Rattle.cw_rules.specs.declared.travel.Travel.TheVariants.{Chunked}
-use Rattle.shards.specs.Kept.{AreTakenOnce, came_of, chunks_of, is_known, part_of, with_chunk}
+use Rattle.shards.specs.Kept.{AreTakenOnce, kept_came, chunks_of, is_kept_chunk, part_of, with_chunk}
 use Rattle.shards.specs.declared.pieces.KeptChunk.{KeptChunk}
 use Rattle.cw_types.proofs.Same.{same_commitment-true}
 use Rattle.cw_rules.proofs.Lists.{all_both}
@@ -37,11 +37,11 @@ none_whole r c (k ∷ ks) = none_whole r c ks
 -- what k kept chunks show
 pub shown_kept : (r : Rules) → r.travel ≡ Chunked → (c : Commitment) (kept : List KeptChunk)
     → length (chunks_of c kept) ≡ c.config.minimum →
-    shown r (came_of kept) c
+    shown r (kept_came kept) c
     ≡ option_and_then (if_committed r c) (block_of r c.config (chunks_of c kept))
 shown_kept r cut c kept enough =
-    ap (λ t. shown_by t r (came_of kept) c) cut
-    ∙ (ap (λ o. option_or o (shown_by_rows r (came_of kept) c)) (none_whole r c kept)
+    ap (λ t. shown_by t r (kept_came kept) c) cut
+    ∙ (ap (λ o. option_or o (shown_by_rows r (kept_came kept) c)) (none_whole r c kept)
     ∙ ap (λ xs. option_and_then (if_committed r c) (block_of r c.config xs))
     (ap (take c.config.minimum) (rows_kept c kept)
     ∙ take_all c.config.minimum (chunks_of c kept) (omega (arith, enough))))
@@ -68,33 +68,34 @@ chunks_more c (k ∷ ks) d x = go (same_commitment c k.commitment) refl (chunks_
     go false e more = rw e more
 
 -- a chunk that isn't known has another index than those kept of its commitment
-pub unknown_apart : (c : Commitment) (x : Chunk) (kept : List KeptChunk) → is_known kept c x ≡ false
+pub unknown_apart : (c : Commitment) (x : Chunk) (kept : List KeptChunk) → is_kept_chunk kept c x
+    ≡ false
     → AllByRecursion (λ (y : Chunk). y.index ≢ x.index) (chunks_of c kept)
 unknown_apart c x [] h = tt
 unknown_apart c x (k ∷ ks) h = go (same_commitment c k.commitment) refl h (unknown_apart c x ks)
   where
     go : (b : Bool) → same_commitment c k.commitment ≡ b
-        → ((same_commitment c k.commitment && (x.index == k.chunk.index)) || is_known ks c x)
+        → ((same_commitment c k.commitment && (x.index == k.chunk.index)) || is_kept_chunk ks c x)
         ≡ false
-        → (is_known ks c x ≡ false
+        → (is_kept_chunk ks c x ≡ false
         → AllByRecursion (λ (y : Chunk). y.index ≢ x.index) (chunks_of c ks))
         → AllByRecursion (λ (y : Chunk). y.index ≢ x.index) (chunks_of c (k ∷ ks))
     go false e n more = rw e (more (rw e at n))
     go true e n more = rw e (here (x.index == k.chunk.index) refl (rw e at n))
       where
         here : (b : Bool) → (x.index == k.chunk.index) ≡ b
-            → ((x.index == k.chunk.index) || is_known ks c x) ≡ false
+            → ((x.index == k.chunk.index) || is_kept_chunk ks c x) ≡ false
             → (k.chunk.index ≢ x.index)
             × AllByRecursion (λ (y : Chunk). y.index ≢ x.index) (chunks_of c ks)
-        here true t m = cc (ap (λ b. b || is_known ks c x) t)
+        here true t m = cc (ap (λ b. b || is_kept_chunk ks c x) t)
         here false f m = (
           λ same. cc (eq-eqb x.index k.chunk.index (sym same)),
-          more (ap (λ b. b || is_known ks c x) (sym f) ∙ m),
+          more (ap (λ b. b || is_kept_chunk ks c x) (sym f) ∙ m),
         )
 
 -- what is kept stays lawful
 pub keep_more : (r : Rules) (kept : List KeptChunk) (c : Commitment) (x : Chunk)
-    → AreTakenOnce r kept → is_known kept c x ≡ false → is_chunk_of r c x ≡ true
+    → AreTakenOnce r kept → is_kept_chunk kept c x ≡ false → is_chunk_of r c x ≡ true
     → AreTakenOnce r (with_chunk kept c x)
 keep_more r kept c x are new taken =
     record {

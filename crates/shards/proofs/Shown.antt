@@ -21,14 +21,14 @@ use Rattle.cw_rules.specs.Held.{if_committed}
 use Rattle.cw_rules.specs.Rules.{Chunk, block_of, commit, config}
 use Rattle.cw_rules_coded.specs.Coded.{code_rows, decoded, digest_bytes, root_over}
 use Rattle.shards.specs.Enough.{AreOfText}
-use Rattle.shards.specs.Kept.{rules_of}
+use Rattle.shards.specs.Kept.{chunk_rules}
 use Rattle.cw_types.specs.Reading.{block_in}
 use Rattle.cw_rules_coded.proofs.RealCoder.{listed_at, get-mapped}
 use Rattle.cw_types.proofs.Same.{same_commitment-true, same_digest-true, same_digest_self, same_counts-true}
 
 module _ (hash : List ℕ → Digest32) (epochs : Epochs) where
   -- the root over the rows of a text
-  pub root_there : (x : Counts) (text : List ℕ) → IsCoder (rules_of hash epochs) → 0 < x.minimum
+  pub root_there : (x : Counts) (text : List ℕ) → IsCoder (chunk_rules hash epochs) → 0 < x.minimum
       → root_of hash digest_bytes (row_digests hash x.minimum x.extra text)
       ≡ Some (root_over hash (map hash (code_rows text x.minimum x.extra)))
   root_there x text coder pos =
@@ -84,25 +84,26 @@ module _ (hash : List ℕ → Digest32) (epochs : Epochs) where
   -- chunks of a text show what the text is read as
   pub shows_text : (c : Commitment) (chunks : List Chunk) (text : List ℕ)
       → AreOfText hash c chunks text
-      → option_and_then (if_committed (rules_of hash epochs) c)
-      (block_of (rules_of hash epochs) c.config chunks)
-      ≡ option_and_then (if_committed (rules_of hash epochs) c) (block_in text)
+      → option_and_then (if_committed (chunk_rules hash epochs) c)
+      (block_of (chunk_rules hash epochs) c.config chunks)
+      ≡ option_and_then (if_committed (chunk_rules hash epochs) c) (block_in text)
   shows_text c chunks text of =
-      ap (λ o. option_and_then (if_committed (rules_of hash epochs) c) (option_and_then block_in o))
+      ap (λ o. option_and_then (if_committed (chunk_rules hash epochs) c)
+      (option_and_then block_in o))
       of.decodes
 
   -- a block that is committed to so has that root
-  committed_root : (c : Commitment) (b : Block) → IsCoder (rules_of hash epochs)
-      → 0 < c.config.minimum → commit (rules_of hash epochs) b ≡ c
+  committed_root : (c : Commitment) (b : Block) → IsCoder (chunk_rules hash epochs)
+      → 0 < c.config.minimum → commit (chunk_rules hash epochs) b ≡ c
       → root_of hash digest_bytes (row_digests hash c.config.minimum c.config.extra (block_bytes b))
       ≡ Some c.root
   committed_root c b coder pos e =
-      let configs : config (rules_of hash epochs) b.context.epoch ≡ c.config =
+      let configs : config (chunk_rules hash epochs) b.context.epoch ≡ c.config =
       ap (λ (d : Commitment). d.config) e in
       let roots : root_over hash
       (map hash
-      (code_rows (block_bytes b) (config (rules_of hash epochs) b.context.epoch).minimum
-      (config (rules_of hash epochs) b.context.epoch).extra))
+      (code_rows (block_bytes b) (config (chunk_rules hash epochs) b.context.epoch).minimum
+      (config (chunk_rules hash epochs) b.context.epoch).extra))
       ≡ c.root =
       ap (λ (d : Commitment). d.root) e in
       root_there c.config (block_bytes b) coder pos
@@ -114,33 +115,33 @@ module _ (hash : List ℕ → Digest32) (epochs : Epochs) where
       ∙ roots)
 
   -- chunks of no text show nothing
-  pub shows_none : (c : Commitment) (chunks : List Chunk) → IsCoder (rules_of hash epochs)
+  pub shows_none : (c : Commitment) (chunks : List Chunk) → IsCoder (chunk_rules hash epochs)
       → 0 < c.config.minimum → ((text : List ℕ) → AreOfText hash c chunks text → ⊥)
-      → option_and_then (if_committed (rules_of hash epochs) c)
-      (block_of (rules_of hash epochs) c.config chunks)
+      → option_and_then (if_committed (chunk_rules hash epochs) c)
+      (block_of (chunk_rules hash epochs) c.config chunks)
       ≡ None
   shows_none c chunks coder pos none = go (decoded c.config chunks) refl
     where
       go : (o : Option (List ℕ)) → decoded c.config chunks ≡ o
-          → option_and_then (if_committed (rules_of hash epochs) c)
+          → option_and_then (if_committed (chunk_rules hash epochs) c)
           (option_and_then block_in (decoded c.config chunks))
           ≡ None
       go None e = rw e refl
       go (Some text) e = rw e (by_block (block_in text) refl)
         where
           by_block : (o : Option Block) → block_in text ≡ o
-              → option_and_then (if_committed (rules_of hash epochs) c) (block_in text) ≡ None
+              → option_and_then (if_committed (chunk_rules hash epochs) c) (block_in text) ≡ None
           by_block None f = rw f refl
           by_block (Some b) f =
-              rw f (by_test (same_commitment (commit (rules_of hash epochs) b) c) refl)
+              rw f (by_test (same_commitment (commit (chunk_rules hash epochs) b) c) refl)
             where
-              by_test : (t : Bool) → same_commitment (commit (rules_of hash epochs) b) c ≡ t
-                  → if_committed (rules_of hash epochs) c b ≡ None
+              by_test : (t : Bool) → same_commitment (commit (chunk_rules hash epochs) b) c ≡ t
+                  → if_committed (chunk_rules hash epochs) c b ≡ None
               by_test false g = rw g refl
               by_test true g =
                   let is =
                   committed_root c b coder pos
-                  (same_commitment-true (commit (rules_of hash epochs) b) c g) in
+                  (same_commitment-true (commit (chunk_rules hash epochs) b) c g) in
                   let back : block_bytes b ≡ text =
                   coder.reads text b (coder.sound c.config chunks text e).1 f in
                   absurd (none text (record {
@@ -155,20 +156,21 @@ module _ (hash : List ℕ → Digest32) (epochs : Epochs) where
 
   -- a block whose bytes have that root is committed to so where the digests and the config are
   -- those
-  pub committed_by : (c : Commitment) (b : Block) (text : List ℕ) → IsCoder (rules_of hash epochs)
+  pub committed_by : (c : Commitment) (b : Block) (text : List ℕ)
+      → IsCoder (chunk_rules hash epochs)
       → 0 < c.config.minimum → block_bytes b ≡ text
       → root_of hash digest_bytes (row_digests hash c.config.minimum c.config.extra text)
       ≡ Some c.root
       → (same_digest (hash text) c.block
       && (same_digest (hash (context_bytes b.context)) c.context
-      && same_counts (config (rules_of hash epochs) b.context.epoch) c.config))
-      ≡ same_commitment (commit (rules_of hash epochs) b) c
+      && same_counts (config (chunk_rules hash epochs) b.context.epoch) c.config))
+      ≡ same_commitment (commit (chunk_rules hash epochs) b) c
   unfolding same_commitment
   committed_by c b text coder pos is rooted =
-      go (cases_Bool (same_counts (config (rules_of hash epochs) b.context.epoch) c.config))
+      go (cases_Bool (same_counts (config (chunk_rules hash epochs) b.context.epoch) c.config))
     where
       own : Counts
-      own = config (rules_of hash epochs) b.context.epoch
+      own = config (chunk_rules hash epochs) b.context.epoch
 
       root : Digest32
       root = root_over hash (map hash (code_rows (block_bytes b) own.minimum own.extra))
@@ -224,13 +226,13 @@ module _ (hash : List ℕ → Digest32) (epochs : Epochs) where
 
   -- the same, of values that are equal to those
   pub committed_with : (c : Commitment) (b : Block) (text : List ℕ) (d e : Digest32) (x : Counts)
-      → IsCoder (rules_of hash epochs) → 0 < c.config.minimum → block_bytes b ≡ text
+      → IsCoder (chunk_rules hash epochs) → 0 < c.config.minimum → block_bytes b ≡ text
       → root_of hash digest_bytes (row_digests hash c.config.minimum c.config.extra text)
       ≡ Some c.root
       → d ≡ hash text → e ≡ hash (context_bytes b.context)
-      → x ≡ config (rules_of hash epochs) b.context.epoch
+      → x ≡ config (chunk_rules hash epochs) b.context.epoch
       → (same_digest d c.block && (same_digest e c.context && same_counts x c.config))
-      ≡ same_commitment (commit (rules_of hash epochs) b) c
+      ≡ same_commitment (commit (chunk_rules hash epochs) b) c
   committed_with c b text d e x coder pos is rooted isd ise isx =
       ap (λ y. same_digest y c.block && (same_digest e c.context && same_counts x c.config)) isd
       ∙ (ap

@@ -14,7 +14,7 @@ use Rattle.cw_types.specs.Same.{same_digest}
 use Rattle.cw_types.specs.declared.commitment.Commitment.{Commitment}
 use Rattle.cw_rules.specs.Rules.{Chunk, is_under}
 use Rattle.cw_rules_coded.specs.Coded.{digest_bytes, leads_up}
-use Rattle.shards.specs.Kept.{rules_of}
+use Rattle.shards.specs.Kept.{chunk_rules}
 use Rattle.cw_types.proofs.Same.{same_digest-true, same_digest_self}
 
 module _ (hash : List ℕ → Digest32) (epochs : Epochs) (c : Commitment) (x : Chunk) where
@@ -23,7 +23,7 @@ module _ (hash : List ℕ → Digest32) (epochs : Epochs) (c : Commitment) (x : 
 
   -- what stands is under the commitment
   pub under_stands : IsUnder hash digest_bytes c.config c.root x.index x
-      → is_under (rules_of hash epochs) c x ≡ true
+      → is_under (chunk_rules hash epochs) c x ≡ true
   under_stands u =
       let led : option_map_or (same_digest c.root)
       (root_by hash digest_bytes x.leaf_count x.siblings x.index (hash x.shard)) false
@@ -40,7 +40,7 @@ module _ (hash : List ℕ → Digest32) (epochs : Epochs) (c : Commitment) (x : 
       led
 
   -- and the other way round
-  pub stands_under : total_of c.config ≤ 65535 → is_under (rules_of hash epochs) c x ≡ true
+  pub stands_under : total_of c.config ≤ 65535 → is_under (chunk_rules hash epochs) c x ≡ true
       → IsUnder hash digest_bytes c.config c.root x.index x
   stands_under few h =
       let a =
@@ -104,16 +104,16 @@ module _ (hash : List ℕ → Digest32) (epochs : Epochs) (c : Commitment) (x : 
   -- what is refused, and not for want of memory, isn't under the commitment
   pub refused_under : (e : ReedSolomonError) → total_of c.config ≤ 65535 → e ≢ NoMemory
       → IsCheckRefusal hash digest_bytes c.config c.root x.index x e
-      → is_under (rules_of hash epochs) c x ≡ false
-  refused_under e few ne r = go (cases_Bool (is_under (rules_of hash epochs) c x))
+      → is_under (chunk_rules hash epochs) c x ≡ false
+  refused_under e few ne r = go (cases_Bool (is_under (chunk_rules hash epochs) c x))
     where
-      go : (is_under (rules_of hash epochs) c x ≡ true)
-          ⊎ (is_under (rules_of hash epochs) c x ≡ false)
-          → is_under (rules_of hash epochs) c x ≡ false
+      go : (is_under (chunk_rules hash epochs) c x ≡ true)
+          ⊎ (is_under (chunk_rules hash epochs) c x ≡ false)
+          → is_under (chunk_rules hash epochs) c x ≡ false
       go (inl t) = absurd (refuses e ne (stands_under few t) r)
       go (inr f) = f
 
   pub refused_never : (e : ReedSolomonError) → total_of c.config ≤ 65535
-      → is_under (rules_of hash epochs) c x ≡ true
+      → is_under (chunk_rules hash epochs) c x ≡ true
       → IsCheckRefusal hash digest_bytes c.config c.root x.index x e → e ≢ NoMemory → ⊥
   refused_never e few t r ne = refuses e ne (stands_under few t) r

@@ -18,9 +18,9 @@ use Rattle.cw_rules.specs.Held.{shown}
 use Rattle.cw_rules.specs.Rules.{Chunk, Rules}
 use Rattle.cw_rules.specs.Step.{nothing_came, taken_came}
 use Rattle.cw_rules_coded.specs.Coded.{coded}
-use Rattle.shards.specs.Kept.{Gathered, came_of, chunks_of, is_known, rules_of, with_chunk}
+use Rattle.shards.specs.Kept.{Gathered, kept_came, chunks_of, is_kept_chunk, chunk_rules, with_chunk}
 use Rattle.shards.specs.Standing.{StandsFor, after_event, kept_of}
-use Rattle.shards.specs.Verdicts.{after, kept_verdict, of_shown, verdict}
+use Rattle.shards.specs.Verdicts.{gathered_after, kept_verdict, of_shown, verdict}
 use Rattle.shards.specs.declared.pieces.KeptChunk.{KeptChunk}
 use Rattle.shards.specs.declared.verdict.Verdict.{Verdict}
 use Rattle.shards.specs.declared.verdict.Verdict.TheVariants.{Foreign, Kept, Known}
@@ -35,7 +35,7 @@ stands_first hash epochs backlog accepts = record { rules = refl; rows = refl }
 -- ---- a chunk that came
 
 came_is_known : (c : Commitment) (x : Chunk) (parts : List Part)
-    → list_any (same_part (Row c x)) parts ≡ is_known (filter_map kept_of parts) c x
+    → list_any (same_part (Row c x)) parts ≡ is_kept_chunk (filter_map kept_of parts) c x
 came_is_known c x [] = refl
 came_is_known c x (Row d y ∷ parts) =
     ap (λ b. (same_commitment c d && (x.index == y.index)) || b) (came_is_known c x parts)
@@ -55,8 +55,8 @@ not_known : (r : Rules) (kept : List KeptChunk) (c : Commitment) (x : Chunk)
 not_known r kept c x = go (length (chunks_of c kept) + 1 == c.config.minimum)
   where
     go : (b : Bool)
-        → (if b then of_shown (shown r (came_of (with_chunk kept c x)) c) else Kept) ≡ Known → ⊥
-    go true e = shown_not_known (shown r (came_of (with_chunk kept c x)) c) e
+        → (if b then of_shown (shown r (kept_came (with_chunk kept c x)) c) else Kept) ≡ Known → ⊥
+    go true e = shown_not_known (shown r (kept_came (with_chunk kept c x)) c) e
     go false e = cc
 
 not_foreign : (r : Rules) (kept : List KeptChunk) (c : Commitment) (x : Chunk)
@@ -64,8 +64,8 @@ not_foreign : (r : Rules) (kept : List KeptChunk) (c : Commitment) (x : Chunk)
 not_foreign r kept c x = go (length (chunks_of c kept) + 1 == c.config.minimum)
   where
     go : (b : Bool)
-        → (if b then of_shown (shown r (came_of (with_chunk kept c x)) c) else Kept) ≡ Foreign → ⊥
-    go true e = shown_not_foreign (shown r (came_of (with_chunk kept c x)) c) e
+        → (if b then of_shown (shown r (kept_came (with_chunk kept c x)) c) else Kept) ≡ Foreign → ⊥
+    go true e = shown_not_foreign (shown r (kept_came (with_chunk kept c x)) c) e
     go false e = cc
 
 is_known_by : (known taken : Bool) (v : Verdict) → (v ≡ Known → ⊥)
@@ -85,31 +85,31 @@ module _ (hash : List ℕ → Digest32) (t : Gathered) (r : Rules) (came : Came)
     (stands : StandsFor hash t r came) where
   -- what came already is what is known, and what the rules take is what those of the committees do
   came_known : (c : Commitment) (x : Chunk)
-      → list_any (same_part (Row c x)) came.parts ≡ is_known t.kept c x
-  came_known c x = came_is_known c x came.parts ∙ ap (λ ks. is_known ks c x) stands.rows
+      → list_any (same_part (Row c x)) came.parts ≡ is_kept_chunk t.kept c x
+  came_known c x = came_is_known c x came.parts ∙ ap (λ ks. is_kept_chunk ks c x) stands.rows
 
   same_taken : (c : Commitment) (x : Chunk)
-      → is_chunk_of r c x ≡ is_chunk_of (rules_of hash t.epochs) c x
+      → is_chunk_of r c x ≡ is_chunk_of (chunk_rules hash t.epochs) c x
   same_taken c x = ap (λ (q : Rules). is_chunk_of q c x) stands.rules
 
   pub known_exactly : (c : Commitment) (x : Chunk)
-      → (verdict (rules_of hash t.epochs) t.kept c x ≡ Known) ↔ IsTrue
+      → (verdict (chunk_rules hash t.epochs) t.kept c x ≡ Known) ↔ IsTrue
       (list_any (same_part (Row c x)) came.parts)
   known_exactly c x =
       rw (came_known c x)
-      (is_known_by (is_known t.kept c x) (is_chunk_of (rules_of hash t.epochs) c x)
-      (kept_verdict (rules_of hash t.epochs) t.kept c x)
-      (not_known (rules_of hash t.epochs) t.kept c x))
+      (is_known_by (is_kept_chunk t.kept c x) (is_chunk_of (chunk_rules hash t.epochs) c x)
+      (kept_verdict (chunk_rules hash t.epochs) t.kept c x)
+      (not_known (chunk_rules hash t.epochs) t.kept c x))
 
   pub foreign_exactly : (c : Commitment) (x : Chunk)
-      → (verdict (rules_of hash t.epochs) t.kept c x ≡ Foreign) ↔
+      → (verdict (chunk_rules hash t.epochs) t.kept c x ≡ Foreign) ↔
       (IsFalse (list_any (same_part (Row c x)) came.parts) × IsFalse (is_chunk_of r c x))
   foreign_exactly c x =
       rw (came_known c x)
       (rw (same_taken c x)
-      (is_foreign_by (is_known t.kept c x) (is_chunk_of (rules_of hash t.epochs) c x)
-      (kept_verdict (rules_of hash t.epochs) t.kept c x)
-      (not_foreign (rules_of hash t.epochs) t.kept c x)))
+      (is_foreign_by (is_kept_chunk t.kept c x) (is_chunk_of (chunk_rules hash t.epochs) c x)
+      (kept_verdict (chunk_rules hash t.epochs) t.kept c x)
+      (not_foreign (chunk_rules hash t.epochs) t.kept c x)))
 
   -- ---- what is kept then
 
@@ -129,7 +129,7 @@ module _ (hash : List ℕ → Digest32) (t : Gathered) (r : Rules) (came : Came)
 
   -- the member took the chunk
   pub stands_taken : (c : Commitment) (x : Chunk)
-      → StandsFor hash (after (rules_of hash t.epochs) t c x) r
+      → StandsFor hash (gathered_after (chunk_rules hash t.epochs) t c x) r
       (take_part came (is_chunk_of r c x) (Row c x))
   stands_taken c x = record {
     rules = stands.rules;
@@ -141,10 +141,10 @@ module _ (hash : List ℕ → Digest32) (t : Gathered) (r : Rules) (came : Came)
         (same_taken c x)
         ∙ (ap
         (λ b. filter_map kept_of
-        (if is_chunk_of (rules_of hash t.epochs) c x && not b then with_part (Row c x)
+        (if is_chunk_of (chunk_rules hash t.epochs) c x && not b then with_part (Row c x)
         else came).parts)
         (came_known c x)
-        ∙ kept_by c x (is_known t.kept c x) (is_chunk_of (rules_of hash t.epochs) c x));
+        ∙ kept_by c x (is_kept_chunk t.kept c x) (is_chunk_of (chunk_rules hash t.epochs) c x));
   }
 
   -- a whole block came
@@ -179,11 +179,11 @@ module _ (hash : List ℕ → Digest32) (t : Gathered) (r : Rules) (came : Came)
 
   -- what a member accepts from an event
   pub stands_event : (signed : ℕ → Vote → Bool) (e : Event)
-      → StandsFor hash (after_event (rules_of hash t.epochs) t e) r (taken_came r signed came e)
+      → StandsFor hash (after_event (chunk_rules hash t.epochs) t e) r (taken_came r signed came e)
   stands_event signed (Event.Deliver m) = by_message m
     where
       by_message : (m : Message)
-          → StandsFor hash (after_event (rules_of hash t.epochs) t (Event.Deliver m)) r
+          → StandsFor hash (after_event (chunk_rules hash t.epochs) t (Event.Deliver m)) r
           (accepted r signed came m)
       by_message (Message.Shard c x) = stands_taken c x
       by_message (Message.Vote i v) =

@@ -13,7 +13,7 @@ use Rattle.cw_rules.specs.Coding.{IsCoder}
 use Rattle.cw_rules.specs.Held.{if_committed, row_of, shown, shown_by, shown_by_rows, whole_of}
 use Rattle.cw_rules.specs.Rules.{Chunk, Rules, block_of}
 use Rattle.cw_rules.specs.declared.travel.Travel.TheVariants.{Chunked}
-use Rattle.shards.specs.Kept.{Gathered, came_of, chunks_of, is_known, rules_of, with_chunk}
+use Rattle.shards.specs.Kept.{Gathered, kept_came, chunks_of, is_kept_chunk, chunk_rules, with_chunk}
 use Rattle.shards.specs.Standing.{StandsFor, kept_of}
 use Rattle.shards.specs.Verdicts.{kept_after, of_shown, verdict}
 use Rattle.shards.specs.declared.pieces.KeptChunk.{KeptChunk}
@@ -25,12 +25,12 @@ use Rattle.cw_types.proofs.Same.{same_commitment-true}
 
 -- what the first k chunks that are kept of a commitment show
 pub shown_first : (r : Rules) → r.travel ≡ Chunked → (kept : List KeptChunk) (c : Commitment)
-    → shown r (came_of kept) c
+    → shown r (kept_came kept) c
     ≡ option_and_then (if_committed r c)
     (block_of r c.config (take c.config.minimum (chunks_of c kept)))
 shown_first r cut kept c =
-    ap (λ t. shown_by t r (came_of kept) c) cut
-    ∙ (ap (λ o. option_or o (shown_by_rows r (came_of kept) c)) (none_whole r c kept)
+    ap (λ t. shown_by t r (kept_came kept) c) cut
+    ∙ (ap (λ o. option_or o (shown_by_rows r (kept_came kept) c)) (none_whole r c kept)
     ∙ ap (λ xs. option_and_then (if_committed r c) (block_of r c.config (take c.config.minimum xs)))
     (rows_kept c kept))
 
@@ -55,7 +55,7 @@ module _ (hash : List ℕ → Digest32) (t : Gathered) (r : Rules) (came : Came)
   member_rows c = came_rows c came.parts ∙ ap (chunks_of c) stands.rows
 
   pub member_shown : (c : Commitment) → first_some (whole_of r c) came.parts ≡ None
-      → shown r came c ≡ shown (rules_of hash t.epochs) (came_of t.kept) c
+      → shown r came c ≡ shown (chunk_rules hash t.epochs) (kept_came t.kept) c
   member_shown c none =
       ap (λ (q : Rules). shown_by q.travel r came c) stands.rules
       ∙ (ap (λ o. option_or o (shown_by_rows r came c)) none
@@ -67,7 +67,7 @@ module _ (hash : List ℕ → Digest32) (t : Gathered) (r : Rules) (came : Came)
       (λ (q : Rules). option_and_then (if_committed q c)
       (block_of q c.config (take c.config.minimum (chunks_of c t.kept))))
       stands.rules
-      ∙ sym (shown_first (rules_of hash t.epochs) refl t.kept c))))
+      ∙ sym (shown_first (chunk_rules hash t.epochs) refl t.kept c))))
 
 -- ---- of enough chunks
 
@@ -89,7 +89,7 @@ take_first (suc n) (x ∷ xs) ys h = ap (λ zs. x ∷ zs) (take_first n xs ys (o
 
 pub enough_stay : (r : Rules) → r.travel ≡ Chunked → (kept more : List KeptChunk) (c : Commitment)
     → c.config.minimum ≤ length (chunks_of c kept)
-    → shown r (came_of (kept ++ more)) c ≡ shown r (came_of kept) c
+    → shown r (kept_came (kept ++ more)) c ≡ shown r (kept_came kept) c
 enough_stay r cut kept more c enough =
     shown_first r cut (kept ++ more) c
     ∙ (ap (λ xs. option_and_then (if_committed r c) (block_of r c.config xs))
@@ -111,8 +111,8 @@ module _ (r : Rules) (cut : r.travel ≡ Chunked) (kept more : List KeptChunk) (
     (x : Chunk) where
   -- the k-th chunk and what is kept behind it
   kth_stays : (length (chunks_of c kept) + 1 == c.config.minimum) ≡ true
-      → shown r (came_of (with_chunk kept c x ++ more)) c
-      ≡ shown r (came_of (with_chunk kept c x)) c
+      → shown r (kept_came (with_chunk kept c x ++ more)) c
+      ≡ shown r (kept_came (with_chunk kept c x)) c
   kth_stays last =
       let e = eqb-true (length (chunks_of c kept) + 1) c.config.minimum last in
       enough_stay r cut (with_chunk kept c x) more c
@@ -128,30 +128,30 @@ module _ (r : Rules) (cut : r.travel ≡ Chunked) (kept more : List KeptChunk) (
       → ((p : Option Block) → of_shown p ≡ v → p ≡ o)
       → (known taken last : Bool) → (length (chunks_of c kept) + 1 == c.config.minimum) ≡ last
       → (if known then Known else if taken
-      then (if last then of_shown (shown r (came_of (with_chunk kept c x)) c) else Kept)
+      then (if last then of_shown (shown r (kept_came (with_chunk kept c x)) c) else Kept)
       else Foreign)
       ≡ v
       → shown r
-      (came_of ((if known then kept else if taken then with_chunk kept c x else kept) ++ more))
+      (kept_came ((if known then kept else if taken then with_chunk kept c x else kept) ++ more))
       c
       ≡ o
   shows v o a b d by true taken last is e = absurd (a e)
   shows v o a b d by false false last is e = absurd (b e)
   shows v o a b d by false true false is e = absurd (d e)
   shows v o a b d by false true true is e =
-      kth_stays is ∙ by (shown r (came_of (with_chunk kept c x)) c) e
+      kth_stays is ∙ by (shown r (kept_came (with_chunk kept c x)) c) e
 
   pub held_stays : (b : Block) → verdict r kept c x ≡ Held b
-      → shown r (came_of (kept_after r kept c x ++ more)) c ≡ Some b
+      → shown r (kept_came (kept_after r kept c x ++ more)) c ≡ Some b
   held_stays b =
       shows (Held b) (Some b) (λ e. cc) (λ e. cc) (λ e. cc) (λ p e. shown_held p b e)
-      (is_known kept c x) (is_chunk_of r c x)
+      (is_kept_chunk kept c x) (is_chunk_of r c x)
       (length (chunks_of c kept) + 1 == c.config.minimum) refl
 
   pub garbage_stays : verdict r kept c x ≡ Garbage
-      → shown r (came_of (kept_after r kept c x ++ more)) c ≡ None
+      → shown r (kept_came (kept_after r kept c x ++ more)) c ≡ None
   garbage_stays =
-      shows Garbage None (λ e. cc) (λ e. cc) (λ e. cc) shown_garbage (is_known kept c x)
+      shows Garbage None (λ e. cc) (λ e. cc) (λ e. cc) shown_garbage (is_kept_chunk kept c x)
       (is_chunk_of r c x) (length (chunks_of c kept) + 1 == c.config.minimum) refl
 
 -- ---- of a chunk that shows no block
@@ -168,7 +168,7 @@ few_are_none r coder x chunks few = go (r.text_of x chunks) refl
 
 few_show_none : (r : Rules) → r.travel ≡ Chunked → IsCoder r
     → (kept : List KeptChunk) (c : Commitment) → length (chunks_of c kept) < c.config.minimum
-    → shown r (came_of kept) c ≡ None
+    → shown r (kept_came kept) c ≡ None
 few_show_none r cut coder kept c few =
     shown_first r cut kept c
     ∙ (ap (λ xs. option_and_then (if_committed r c) (block_of r c.config xs))
@@ -184,12 +184,13 @@ none_held (Some b) unheld = absurd (unheld b refl)
 pub others_stay : (r : Rules) → r.travel ≡ Chunked → (kept : List KeptChunk) (c d : Commitment)
     (x : Chunk)
     → same_commitment d c ≡ false
-    → shown r (came_of (kept_after r kept c x)) d ≡ shown r (came_of kept) d
-others_stay r cut kept c d x other = go (is_known kept c x) (is_chunk_of r c x)
+    → shown r (kept_came (kept_after r kept c x)) d ≡ shown r (kept_came kept) d
+others_stay r cut kept c d x other = go (is_kept_chunk kept c x) (is_chunk_of r c x)
   where
     go : (known taken : Bool)
-        → shown r (came_of (if known then kept else if taken then with_chunk kept c x else kept)) d
-        ≡ shown r (came_of kept) d
+        → shown r (kept_came (if known then kept else if taken then with_chunk kept c x else kept))
+        d
+        ≡ shown r (kept_came kept) d
     go true taken = refl
     go false false = refl
     go false true =
@@ -206,7 +207,7 @@ module _ (r : Rules) (cut : r.travel ≡ Chunked) (coder : IsCoder r) (kept : Li
     (c : Commitment) (x : Chunk) where
   -- what is kept before the last of k chunks, and after more, shows the same
   not_last : (length (chunks_of c kept) + 1 == c.config.minimum) ≡ false
-      → shown r (came_of (with_chunk kept c x)) c ≡ shown r (came_of kept) c
+      → shown r (kept_came (with_chunk kept c x)) c ≡ shown r (kept_came kept) c
   not_last is = go (cases_lt (length (chunks_of c kept)) c.config.minimum)
     where
       other : length (chunks_of c kept) + 1 ≡ c.config.minimum → ⊥
@@ -217,13 +218,13 @@ module _ (r : Rules) (cut : r.travel ≡ Chunked) (coder : IsCoder r) (kept : Li
 
       go : (length (chunks_of c kept) < c.config.minimum)
           ⊎ (c.config.minimum ≤ length (chunks_of c kept))
-          → shown r (came_of (with_chunk kept c x)) c ≡ shown r (came_of kept) c
+          → shown r (kept_came (with_chunk kept c x)) c ≡ shown r (kept_came kept) c
       go (inr more) = enough_stay r cut kept (record { commitment = c; chunk = x } ∷ []) c more
       go (inl less) = by_next (cases_lt (length (chunks_of c kept) + 1) c.config.minimum)
         where
           by_next : (length (chunks_of c kept) + 1 < c.config.minimum)
               ⊎ (c.config.minimum ≤ length (chunks_of c kept) + 1)
-              → shown r (came_of (with_chunk kept c x)) c ≡ shown r (came_of kept) c
+              → shown r (kept_came (with_chunk kept c x)) c ≡ shown r (kept_came kept) c
           by_next (inl few) =
               few_show_none r cut coder (with_chunk kept c x) c (omega (arith, few, long))
               ∙ sym (few_show_none r cut coder kept c less)
@@ -232,30 +233,30 @@ module _ (r : Rules) (cut : r.travel ≡ Chunked) (coder : IsCoder r) (kept : Li
   own_stays : (known taken last : Bool) → (length (chunks_of c kept) + 1 == c.config.minimum) ≡ last
       → ((b : Block)
       → (if known then Known else if taken
-      then (if last then of_shown (shown r (came_of (with_chunk kept c x)) c) else Kept)
+      then (if last then of_shown (shown r (kept_came (with_chunk kept c x)) c) else Kept)
       else Foreign)
       ≡ Held b
       → ⊥)
-      → shown r (came_of (if known then kept else if taken then with_chunk kept c x else kept)) c
-      ≡ shown r (came_of kept) c
+      → shown r (kept_came (if known then kept else if taken then with_chunk kept c x else kept)) c
+      ≡ shown r (kept_came kept) c
   own_stays true taken last is unheld = refl
   own_stays false false last is unheld = refl
   own_stays false true false is unheld = not_last is
   own_stays false true true is unheld =
       let e = eqb-true (length (chunks_of c kept) + 1) c.config.minimum is in
-      none_held (shown r (came_of (with_chunk kept c x)) c) unheld
+      none_held (shown r (kept_came (with_chunk kept c x)) c) unheld
       ∙ sym (few_show_none r cut coder kept c (omega (arith, e)))
 
   -- a chunk that shows no block leaves what is shown
   pub unheld_stays : (d : Commitment) → ((b : Block) → verdict r kept c x ≡ Held b → ⊥)
-      → shown r (came_of (kept_after r kept c x)) d ≡ shown r (came_of kept) d
+      → shown r (kept_came (kept_after r kept c x)) d ≡ shown r (kept_came kept) d
   unheld_stays d unheld = go (cases_Bool (same_commitment d c))
     where
       go : (same_commitment d c ≡ true) ⊎ (same_commitment d c ≡ false)
-          → shown r (came_of (kept_after r kept c x)) d ≡ shown r (came_of kept) d
+          → shown r (kept_came (kept_after r kept c x)) d ≡ shown r (kept_came kept) d
       go (inl t) =
-          subst (λ e. shown r (came_of (kept_after r kept c x)) e ≡ shown r (came_of kept) e)
+          subst (λ e. shown r (kept_came (kept_after r kept c x)) e ≡ shown r (kept_came kept) e)
           (sym (same_commitment-true d c t))
-          (own_stays (is_known kept c x) (is_chunk_of r c x)
+          (own_stays (is_kept_chunk kept c x) (is_chunk_of r c x)
           (length (chunks_of c kept) + 1 == c.config.minimum) refl unheld)
       go (inr f) = others_stay r cut kept c d x f

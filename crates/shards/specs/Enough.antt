@@ -11,7 +11,7 @@ use Rattle.cw_rules.specs.Coding.{AreApart}
 use Rattle.cw_rules.specs.Rules.{Chunk, is_under}
 use Rattle.cw_coding.specs.Totals.{total_of}
 use Rattle.cw_rules_coded.specs.Coded.{decoded, digest_bytes}
-use Rattle.shards.specs.Kept.{rules_of}
+use Rattle.shards.specs.Kept.{chunk_rules}
 
 -- a chunk that was checked under a commitment
 abbrev pub checked_of : (List ℕ → Digest32) → Commitment → Chunk → Checked Digest32
@@ -28,7 +28,7 @@ no_committees = record { total = 0; span = None; lists = [] }
 
 -- the chunk stands under the commitment, whatever the committees
 abbrev pub is_under_root : (List ℕ → Digest32) → Commitment → Chunk → Bool
-is_under_root hash c x = is_under (rules_of hash no_committees) c x
+is_under_root hash c x = is_under (chunk_rules hash no_committees) c x
 
 -- each chunk stands under the commitment
 abbrev pub AreUnder : (List ℕ → Digest32) → Commitment → List Chunk → Type 0

@@ -21,7 +21,7 @@ abbrev pub chunks_at : List (ℕ × Chunk) → List ℕ → List Chunk
 chunks_at entries came = filter_map (λ i. lookup (nat_eq i) entries) came
 
 -- each index that came is that of its chunk, and a look-up finds what a search of the chunks does
-pub record AreIndexed (entries : List (ℕ × Chunk)) (came : List ℕ) : Type 0 where
+pub record AreChunksIndexed (entries : List (ℕ × Chunk)) (came : List ℕ) : Type 0 where
   pub own : map (λ x. x.index) (chunks_at entries came) ≡ came
   pub found : (i : ℕ) → lookup (nat_eq i) entries ≡ with_index i (chunks_at entries came)
 

@@ -17,16 +17,16 @@ pub record Gathered : Type 0 where
   pub kept : List KeptChunk
 
 -- the rules of these committees and of this hash. No chunk asks for the backlog or the application
-abbrev pub rules_of : (List ℕ → Digest32) → Epochs → Rules
-rules_of hash epochs = coded hash epochs 0 (λ b a. true)
+abbrev pub chunk_rules : (List ℕ → Digest32) → Epochs → Rules
+chunk_rules hash epochs = coded hash epochs 0 (λ b a. true)
 
 -- a kept chunk, as a part that came
 abbrev pub part_of : KeptChunk → Part
 part_of k = Row k.commitment k.chunk
 
 -- what came, where nothing but these chunks did
-abbrev pub came_of : List KeptChunk → Came
-came_of kept = record { ballots = []; parts = map part_of kept; wishes = [] }
+abbrev pub kept_came : List KeptChunk → Came
+kept_came kept = record { ballots = []; parts = map part_of kept; wishes = [] }
 
 -- one more chunk
 abbrev pub with_chunk : List KeptChunk → Commitment → Chunk → List KeptChunk
@@ -37,8 +37,8 @@ abbrev pub chunks_of : Commitment → List KeptChunk → List Chunk
 chunks_of c kept = map (λ k. k.chunk) (filter (λ k. same_commitment c k.commitment) kept)
 
 -- a chunk of that commitment and index was kept
-abbrev pub is_known : List KeptChunk → Commitment → Chunk → Bool
-is_known kept c x = list_any (λ k. same_part (Row c x) (part_of k)) kept
+abbrev pub is_kept_chunk : List KeptChunk → Commitment → Chunk → Bool
+is_kept_chunk kept c x = list_any (λ k. same_part (Row c x) (part_of k)) kept
 
 -- the rules take each kept chunk, and no two of one commitment have one index
 pub record AreTakenOnce (r : Rules) (kept : List KeptChunk) : Type 0 where

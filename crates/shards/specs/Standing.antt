@@ -7,7 +7,7 @@ use Rattle.cw_rules.specs.Accepted.{Came, Part, Row, Whole}
 use Rattle.cw_rules.specs.Rules.{Rules}
 use Rattle.cw_rules_coded.specs.Coded.{coded}
 use Rattle.shards.specs.Kept.{Gathered}
-use Rattle.shards.specs.Verdicts.{after}
+use Rattle.shards.specs.Verdicts.{gathered_after}
 use Rattle.shards.specs.declared.pieces.KeptChunk.{KeptChunk}
 
 -- a chunk that came, as one that is kept. A whole block is none
@@ -25,5 +25,5 @@ pub record StandsFor (hash : List ℕ → Digest32) (t : Gathered) (r : Rules)
 -- what is kept after an event: a chunk that is delivered is taken, and nothing else changes what is
 -- kept
 abbrev pub after_event : Rules → Gathered → Event → Gathered
-after_event r t (Event.Deliver (Message.Shard c x)) = after r t c x
+after_event r t (Event.Deliver (Message.Shard c x)) = gathered_after r t c x
 after_event r t _ = t

@@ -5,7 +5,7 @@ use Rattle.cw_types.specs.declared.commitment.Commitment.{Commitment}
 use Rattle.cw_rules.specs.Accepted.{is_chunk_of}
 use Rattle.cw_rules.specs.Held.{shown}
 use Rattle.cw_rules.specs.Rules.{Chunk, Rules}
-use Rattle.shards.specs.Kept.{Gathered, came_of, chunks_of, is_known, with_chunk}
+use Rattle.shards.specs.Kept.{Gathered, kept_came, chunks_of, is_kept_chunk, with_chunk}
 use Rattle.shards.specs.declared.pieces.KeptChunk.{KeptChunk}
 use Rattle.shards.specs.declared.verdict.Verdict.{Verdict}
 use Rattle.shards.specs.declared.verdict.Verdict.TheVariants.{Foreign, Garbage, Held, Kept, Known}
@@ -20,21 +20,21 @@ of_shown None = Garbage
 abbrev pub kept_verdict : Rules → List KeptChunk → Commitment → Chunk → Verdict
 kept_verdict r kept c x =
     if length (chunks_of c kept) + 1 == c.config.minimum
-    then of_shown (shown r (came_of (with_chunk kept c x)) c)
+    then of_shown (shown r (kept_came (with_chunk kept c x)) c)
     else Kept
 
 -- the verdict on a chunk: the first that holds
 abbrev pub verdict : Rules → List KeptChunk → Commitment → Chunk → Verdict
 verdict r kept c x =
-    if is_known kept c x then Known
+    if is_kept_chunk kept c x then Known
     else if is_chunk_of r c x then kept_verdict r kept c x else Foreign
 
 -- what is kept after a chunk: with it, where it wasn't known and the rules take it
 abbrev pub kept_after : Rules → List KeptChunk → Commitment → Chunk → List KeptChunk
 kept_after r kept c x =
-    if is_known kept c x then kept
+    if is_kept_chunk kept c x then kept
     else if is_chunk_of r c x then with_chunk kept c x else kept
 
 -- the same, with the committees
-abbrev pub after : Rules → Gathered → Commitment → Chunk → Gathered
-after r t c x = record { epochs = t.epochs; kept = kept_after r t.kept c x }
+abbrev pub gathered_after : Rules → Gathered → Commitment → Chunk → Gathered
+gathered_after r t c x = record { epochs = t.epochs; kept = kept_after r t.kept c x }

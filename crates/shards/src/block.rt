@@ -22,13 +22,13 @@ pub(crate) struct BlockChunks {
 impl Model for BlockChunks {
     ghost use Rattle.std.specs.Prelude.{List};
     ghost use Rattle.cw_rules.specs.Rules.{Chunk};
-    ghost use Rattle.shards.specs.Index.{AreIndexed, chunks_at};
+    ghost use Rattle.shards.specs.Index.{AreChunksIndexed, chunks_at};
 
     ghost Value = { List Chunk };
 
     ghost view = { λ b. chunks_at b.chunks.entries b.came.items };
 
-    ghost invariant = { λ b. AreIndexed b.chunks.entries b.came.items };
+    ghost invariant = { λ b. AreChunksIndexed b.chunks.entries b.came.items };
 }
 
 impl BlockChunks {

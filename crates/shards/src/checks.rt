@@ -6,7 +6,7 @@ ghost use Rattle.cw_rules.specs.Coding.{AreBytes, AreByteChunks};
 ghost use Rattle.cw_coding.specs.Totals.{total_of};
 ghost use Rattle.cw_rules_coded.specs.Coded.{leads_up};
 ghost use Rattle.shards.specs.Enough.{AreUnder, checked_of, is_under_root};
-ghost use Rattle.shards.specs.Kept.{rules_of};
+ghost use Rattle.shards.specs.Kept.{chunk_rules};
 
 use crate::configs::has_config;
 use cw_base::{Digest32, Hasher, NoMemory, Strategy};
@@ -22,7 +22,7 @@ pub(crate) fn is_chunk_of<H: Hasher<Digest = Digest32>>(
     chunk: &Chunk<Digest32>,
 ) -> bool
     ensures value { result
-        ≡ is_chunk_of (rules_of H.digest_of committees.now) commitment.now chunk.now }
+        ≡ is_chunk_of (chunk_rules H.digest_of committees.now) commitment.now chunk.now }
     ensures some { IsTrue result → 2 ≤ commitment.now.config.minimum }
     ensures few { IsTrue result → total_of commitment.now.config ≤ 65535 }
 {

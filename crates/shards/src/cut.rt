@@ -2,7 +2,7 @@
 
 ghost use Rattle.std.specs.Prelude.{◌≡◌, IfOk};
 ghost use Rattle.cw_rules.specs.Rules.{chunks, commit};
-ghost use Rattle.shards.specs.Kept.{rules_of};
+ghost use Rattle.shards.specs.Kept.{chunk_rules};
 
 use cw_base::{Digest32, Hasher, NoMemory, Strategy};
 use cw_coding::Chunk;
@@ -21,9 +21,9 @@ pub fn cut_block<H: Hasher<Digest = Digest32>, R: Threads + Sync, S: Strategy>(
     strategy: &S,
 ) -> Result<(Commitment, Vec<Chunk<Digest32>>), NoMemory>
     ensures commitment { IfOk result (λ cut.
-        cut.0 ≡ commit (rules_of H.digest_of committees.now) block.now) }
+        cut.0 ≡ commit (chunk_rules H.digest_of committees.now) block.now) }
     ensures chunks { IfOk result (λ cut.
-        cut.1.items ≡ chunks (rules_of H.digest_of committees.now) block.now) }
+        cut.1.items ≡ chunks (chunk_rules H.digest_of committees.now) block.now) }
 {
     commits_by_rules();
     let n = committees.size(block.context().epoch);

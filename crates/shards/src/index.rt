@@ -5,7 +5,7 @@ ghost use Rattle.std.specs.Map.{lookup};
 ghost use Rattle.std.specs.Prelude.{◌≡◌, ◌<◌, ◌==◌, ◌++◌, ◌∷◌, [], IfNone, IfOk, IfSome, IsFalse};
 ghost use Rattle.std.specs.Prelude.{OnErr, OnOk, ℕ, find, length, map, nat_eq};
 ghost use Rattle.shards.specs.Index.{HasAdded, HasStayed, IsNewChunk};
-ghost use Rattle.shards.specs.Kept.{chunks_of, is_known, with_chunk};
+ghost use Rattle.shards.specs.Kept.{chunks_of, is_kept_chunk, with_chunk};
 
 use crate::block::BlockChunks;
 use cw_base::{Digest32, NoMemory};
@@ -72,7 +72,7 @@ impl KeptChunks {
 
     /// Whether there is a chunk of that commitment and index.
     pub(crate) fn has(&self, commitment: &Commitment, chunk: &Chunk<Digest32>) -> bool
-        ensures { result ≡ is_known self.now commitment.now chunk.now }
+        ensures { result ≡ is_kept_chunk self.now commitment.now chunk.now }
     {
         match self.chunks.get(commitment) {
             Some(block) => block.has(chunk.index()),
@@ -127,7 +127,7 @@ impl KeptChunks {
         commitment: &Commitment,
         chunk: Chunk<Digest32>,
     ) -> Result<(), NoMemory>
-        requires { IsFalse (is_known self.old commitment.now chunk) }
+        requires { IsFalse (is_kept_chunk self.old commitment.now chunk) }
         ensures ok { OnOk result (self.new ≡ with_chunk self.old commitment.now chunk) }
         ensures err { OnErr result (self.new ≡ self.old) }
     {

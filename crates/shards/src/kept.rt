@@ -5,8 +5,8 @@ ghost use Rattle.std.specs.Map.{lookup};
 ghost use Rattle.std.specs.Prelude.{◌≡◌, ◌<◌, ◌==◌, [], IfErr, IfNone, IfOk, IfSome, IsFalse};
 ghost use Rattle.std.specs.Prelude.{IsTrue, OnErr, OnOk, ℕ, find, nat_eq};
 ghost use Rattle.cw_rules.specs.Accepted.{is_chunk_of};
-ghost use Rattle.shards.specs.Kept.{chunks_of, is_known, rules_of, with_chunk};
-ghost use Rattle.shards.specs.Verdicts.{after, verdict};
+ghost use Rattle.shards.specs.Kept.{chunks_of, is_kept_chunk, chunk_rules, with_chunk};
+ghost use Rattle.shards.specs.Verdicts.{gathered_after, verdict};
 
 use crate::checks::is_chunk_of;
 use crate::index::KeptChunks;
@@ -44,13 +44,13 @@ pub struct Shards<H: Hasher<Digest = Digest32>> {
 }
 
 impl<H: Hasher<Digest = Digest32>> Model for Shards<H> {
-    ghost use Rattle.shards.specs.Kept.{AreTakenOnce, Gathered, rules_of};
+    ghost use Rattle.shards.specs.Kept.{AreTakenOnce, Gathered, chunk_rules};
 
     ghost Value = { Gathered };
 
     ghost view = { λ s. record { epochs = s.committees; kept = s.kept } };
 
-    ghost invariant = { λ s. AreTakenOnce (rules_of H.digest_of s.committees) s.kept };
+    ghost invariant = { λ s. AreTakenOnce (chunk_rules H.digest_of s.committees) s.kept };
 }
 
 impl<H: Hasher<Digest = Digest32>> Shards<H> {
@@ -91,15 +91,17 @@ impl<H: Hasher<Digest = Digest32>> Shards<H> {
         strategy: &S,
     ) -> Result<Verdict, NoMemory>
         ensures verdict { IfOk result
-            (λ v. v ≡ verdict (rules_of H.digest_of self.old.epochs) self.old.kept commitment.now
+            (λ v. v ≡ verdict (chunk_rules H.digest_of self.old.epochs) self.old.kept commitment.now
             chunk) }
         ensures ok { OnOk result
-            (self.new ≡ after (rules_of H.digest_of self.old.epochs) self.old commitment.now
+            (self.new
+            ≡ gathered_after (chunk_rules H.digest_of self.old.epochs) self.old commitment.now
             chunk) }
         ensures err { OnErr result (self.new ≡ self.old) }
-        ensures new { IfErr result (λ _. IsFalse (is_known self.old.kept commitment.now chunk)) }
+        ensures new
+            { IfErr result (λ _. IsFalse (is_kept_chunk self.old.kept commitment.now chunk)) }
         ensures taken { IfErr result
-            (λ _. IsTrue (is_chunk_of (rules_of H.digest_of self.old.epochs) commitment.now
+            (λ _. IsTrue (is_chunk_of (chunk_rules H.digest_of self.old.epochs) commitment.now
             chunk)) }
     {
         if self.kept.has(commitment, &chunk) {
@@ -131,7 +133,7 @@ fn keep(
     chunk: Chunk<Digest32>,
     verdict: Verdict,
 ) -> Result<Verdict, NoMemory>
-    requires { IsFalse (is_known kept.old commitment.now chunk) }
+    requires { IsFalse (is_kept_chunk kept.old commitment.now chunk) }
     ensures ok { OnOk result (kept.new ≡ with_chunk kept.old commitment.now chunk) }
     ensures same { IfOk result (λ v. v ≡ verdict) }
     ensures err { OnErr result (kept.new ≡ kept.old) }

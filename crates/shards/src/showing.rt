@@ -11,7 +11,7 @@ ghost use Rattle.cw_types.specs.Encoding.{block_bytes};
 ghost use Rattle.cw_types.specs.Reading.{block_in};
 ghost use Rattle.cw_types.specs.Same.{same_commitment, same_digest};
 ghost use Rattle.shards.specs.Enough.{AreEnough, AreOfText, IsRooted};
-ghost use Rattle.shards.specs.Kept.{AreTakenOnce, chunks_of, is_known, rules_of};
+ghost use Rattle.shards.specs.Kept.{AreTakenOnce, chunks_of, is_kept_chunk, chunk_rules};
 ghost use Rattle.shards.specs.Verdicts.{kept_verdict};
 
 use crate::checks::checked_all;
@@ -79,7 +79,8 @@ fn is_committed<H: Hasher<Digest = Digest32>>(
     requires bytes { block_bytes block.now ≡ text.now }
     requires rooted { IsRooted H.digest_of commitment.now text.now }
     ensures { result
-        ≡ same_commitment (commit (rules_of H.digest_of committees.now) block.now) commitment.now }
+        ≡ same_commitment (commit (chunk_rules H.digest_of committees.now) block.now) commitment.now
+        }
 {
     coder_laws();
     let config = committees.config(block.context().epoch);
@@ -109,7 +110,7 @@ fn block_of<H: Hasher<Digest = Digest32>>(
     requires some { 1 ≤ commitment.now.config.minimum }
     requires rooted { IsRooted H.digest_of commitment.now text.now }
     ensures { IfOk result (λ block. block
-        ≡ option_and_then (if_committed (rules_of H.digest_of committees.now) commitment.now)
+        ≡ option_and_then (if_committed (chunk_rules H.digest_of committees.now) commitment.now)
         (block_in text.now)) }
 {
     match ChainBlock::of_shared(alloc, text)? {
@@ -136,8 +137,8 @@ pub(crate) fn shown<H: Hasher<Digest = Digest32>, R: Threads + Sync, S: Strategy
 ) -> Result<Option<ChainBlock>, NoMemory>
     requires { AreEnough H.digest_of commitment.now (map (λ chunk. chunk.now) chunks.now) }
     ensures { IfOk result (λ block. block
-        ≡ option_and_then (if_committed (rules_of H.digest_of committees.now) commitment.now)
-        (block_of (rules_of H.digest_of committees.now) commitment.now.config
+        ≡ option_and_then (if_committed (chunk_rules H.digest_of committees.now) commitment.now)
+        (block_of (chunk_rules H.digest_of committees.now) commitment.now.config
         (map (λ chunk. chunk.now) chunks.now))) }
 {
     coder_laws();
@@ -159,12 +160,12 @@ pub(crate) fn kept_verdict<H: Hasher<Digest = Digest32>, R: Threads + Sync, S: S
 ) -> Result<Verdict, NoMemory>
     requires some { 2 ≤ commitment.now.config.minimum }
     requires few { total_of commitment.now.config ≤ 65535 }
-    requires kept { AreTakenOnce (rules_of H.digest_of committees.now) kept.now }
-    requires new { is_known kept.now commitment.now chunk.now ≡ false }
-    requires taken { is_chunk_of (rules_of H.digest_of committees.now) commitment.now chunk.now
+    requires kept { AreTakenOnce (chunk_rules H.digest_of committees.now) kept.now }
+    requires new { is_kept_chunk kept.now commitment.now chunk.now ≡ false }
+    requires taken { is_chunk_of (chunk_rules H.digest_of committees.now) commitment.now chunk.now
         ≡ true }
     ensures { IfOk result (λ verdict. verdict
-        ≡ kept_verdict (rules_of H.digest_of committees.now) kept.now commitment.now chunk.now) }
+        ≡ kept_verdict (chunk_rules H.digest_of committees.now) kept.now commitment.now chunk.now) }
 {
     if !lack_one(kept, commitment) {
         return Ok(Verdict::Kept);

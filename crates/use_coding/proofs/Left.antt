@@ -10,12 +10,12 @@ use Rattle.cw_coding.specs.Encoding.{IsEncoding, piece_of}
 use Rattle.cw_coding.specs.Laws.{IsChunkOf}
 use Rattle.cw_coding.specs.Totals.{total_of}
 use Rattle.cw_coding.proofs.CheckingLaws.{listed_at}
-use Rattle.use_coding.specs.Checked.{checked_of, hash}
+use Rattle.use_coding.specs.Checked.{checked_under, hash}
 
 one_left : (c : Counts) (text : List ℕ) (root : Digest32) (pieces : List (Piece Digest32))
     → IsEncoding hash (λ d. d.0) c text root pieces → (n i : ℕ) (d : Piece Digest32)
     → i < length (drop n pieces)
-    → IsChunkOf c text root (checked_of root (get_or (drop n pieces) i d))
+    → IsChunkOf c text root (checked_under root (get_or (drop n pieces) i d))
 one_left c text root pieces e n i d l =
     let piece : ℕ → Piece Digest32 = piece_of hash (λ d. d.0) c text in
     let long : length pieces ≡ total_of c = ap length e.each ∙ length-listed (total_of c) piece in
@@ -24,14 +24,14 @@ one_left c text root pieces e n i d l =
     get_or-drop n pieces i d
     ∙ (ap (λ (xs : List (Piece Digest32)). get_or xs (n + i) d) e.each
     ∙ listed_at (total_of c) piece (n + i) d within) in
-    let it : IsChunkOf c text root (checked_of root (piece (n + i))) =
+    let it : IsChunkOf c text root (checked_under root (piece (n + i))) =
     record { rooted = refl; within = within; row = refl } in
-    subst (λ (p : Piece Digest32). IsChunkOf c text root (checked_of root p)) (sym is) it
+    subst (λ (p : Piece Digest32). IsChunkOf c text root (checked_under root p)) (sym is) it
 
 -- the chunks from an index on are chunks of the text, once they are checked
 pub all_left : (c : Counts) (text : List ℕ) (root : Digest32) (pieces : List (Piece Digest32))
     → IsEncoding hash (λ d. d.0) c text root pieces → (n : ℕ)
-    → All (IsChunkOf c text root) (map (checked_of root) (drop n pieces))
+    → All (IsChunkOf c text root) (map (checked_under root) (drop n pieces))
 all_left c text root pieces e n =
-    All-map (IsChunkOf c text root) (checked_of root) (drop n pieces)
+    All-map (IsChunkOf c text root) (checked_under root) (drop n pieces)
     (λ i d l. one_left c text root pieces e n i d l)

@@ -10,6 +10,6 @@ abbrev pub hash : List ℕ → Digest32
 hash bytes = record { 0 = sha256 bytes }
 
 -- a chunk that was checked under a root at its own index
-abbrev pub checked_of : Digest32 → Piece Digest32 → Checked Digest32
-checked_of root p =
+abbrev pub checked_under : Digest32 → Piece Digest32 → Checked Digest32
+checked_under root p =
     record { root = root; shard = p.shard; index = p.index; digest = hash p.shard }

@@ -3,7 +3,7 @@
 #![tactic(auto)]
 
 ghost use Rattle.std.specs.Prelude.{◌≡◌, IfOk, map};
-ghost use Rattle.use_coding.specs.Checked.{checked_of};
+ghost use Rattle.use_coding.specs.Checked.{checked_under};
 
 use anyhow::{Context, Result, ensure};
 use cw_base::{Config, Digest32, Sequential, Sha256};
@@ -22,7 +22,7 @@ fn all_checked(
     root: &Digest32,
     chunks: &[Chunk<Digest32>],
 ) -> Result<Vec<CheckedChunk<Sha256>>>
-    ensures { IfOk result (λ all. all.items ≡ map (checked_of root.now) chunks.now) }
+    ensures { IfOk result (λ all. all.items ≡ map (checked_under root.now) chunks.now) }
 {
     let mut all = Vec::new(alloc);
     for chunk in chunks {

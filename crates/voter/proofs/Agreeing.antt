@@ -24,7 +24,7 @@ use Rattle.cw_rules.specs.Rules.{Rules, genesis_commitment}
 use Rattle.cw_rules.specs.declared.travel.Travel.{Travel}
 use Rattle.cw_rules.specs.declared.travel.Travel.TheVariants.{Chunked}
 use Rattle.cw_rules.proofs.Lists.{same_first}
-use Rattle.voter.specs.Known.{Known, is_own_at, vote_rules, state_of}
+use Rattle.voter.specs.Known.{Known, is_own_at, vote_rules, known_state}
 use Rattle.voter.specs.Owing as owing
 use Rattle.voter.specs.Standing.{IsTallyOf, best_from}
 use Rattle.voter.proofs.Candidates.{certified_found, first_when, firsts}
@@ -95,7 +95,7 @@ votables x id notes ballots =
 
 module _ (hash : List ℕ → Digest32) (t : Known) (r : Rules) (s : State)
     (stands : IsTallyOf hash t r s) where
-  pub cert_agrees : first_some (cert_owed r t.id s) (named_votes s) ≡ owing.cert_owed hash t
+  pub cert_agrees : first_some (cert_owed r t.id s) (named_votes s) ≡ owing.first_cert_owed hash t
   cert_agrees =
       λ i. first_some
       (cert_owed (rules_with Chunked (stands.epochs i) hash block_bytes context_bytes) t.id
@@ -103,7 +103,7 @@ module _ (hash : List ℕ → Digest32) (t : Known) (r : Rules) (s : State)
       (named_votes (state_with (stands.notes i) (stands.ballots i)))
 
   pub finalize_agrees : first_some (finalize_owed r t.id s) (named_proposals s)
-      ≡ owing.finalize_owed hash t
+      ≡ owing.first_finalize_owed hash t
   finalize_agrees =
       λ i. first_some
       (finalize_owed (rules_with Chunked (stands.epochs i) hash block_bytes context_bytes) t.id
@@ -135,7 +135,7 @@ module _ (hash : List ℕ → Digest32) (t : Known) (r : Rules) (s : State)
       (votables (stands.epochs i) t.id (stands.notes i) (stands.ballots i)))))
 
   own_row : (p : Proposal)
-      → has_own_row r t.id s p ≡ has_own_row (vote_rules hash t.epochs) t.id (state_of t) p
+      → has_own_row r t.id s p ≡ has_own_row (vote_rules hash t.epochs) t.id (known_state t) p
   own_row p =
       ap
       (λ (x : Epochs). option_map_or (λ at. list_any (is_row_at at p.payload) s.came.parts)
@@ -153,7 +153,7 @@ module _ (hash : List ℕ → Digest32) (t : Known) (r : Rules) (s : State)
       at (Some n) e = rw e (stands.own p.epoch n p.payload e)
 
   notarize_same : r.travel ≡ Chunked → (p : Proposal)
-      → notarize_owed r t.id s p ≡ notarize_owed (vote_rules hash t.epochs) t.id (state_of t) p
+      → notarize_owed r t.id s p ≡ notarize_owed (vote_rules hash t.epochs) t.id (known_state t) p
   notarize_same cut p =
       λ i. notarize_with
       (rules_with (cut i) (stands.epochs i) (stands.hash_same i) (stands.blocks i)
@@ -162,12 +162,12 @@ module _ (hash : List ℕ → Digest32) (t : Known) (r : Rules) (s : State)
       (((λ j. has_part_by (cut j) r t.id s p) ∙ own_row p) i) p
 
   pub notarize_agrees : r.travel ≡ Chunked
-      → first_some (notarize_owed r t.id s) (named_proposals s) ≡ owing.notarize_owed hash t
+      → first_some (notarize_owed r t.id s) (named_proposals s) ≡ owing.first_notarize_owed hash t
   notarize_agrees cut =
       same_first (notarize_owed r t.id s)
-      (notarize_owed (vote_rules hash t.epochs) t.id (state_of t)) (notarize_same cut)
+      (notarize_owed (vote_rules hash t.epochs) t.id (known_state t)) (notarize_same cut)
       (named_proposals s)
-      ∙ (λ i. first_some (notarize_owed (vote_rules hash t.epochs) t.id (state_of t))
+      ∙ (λ i. first_some (notarize_owed (vote_rules hash t.epochs) t.id (known_state t))
       (named_proposals (state_with (stands.notes i) (stands.ballots i))))
 
   pub certified_agrees : first_some (certified_owed r s) (named_proposals s)

@@ -13,7 +13,7 @@ use Rattle.cw_rules.specs.Notes.{has_cert, has_certified}
 use Rattle.cw_rules.specs.Owed.{certified_owed, named_proposals, when}
 use Rattle.cw_rules.specs.Rules.{Rules}
 use Rattle.cw_types.proofs.Same.{same_proposal-true}
-use Rattle.voter.specs.Known.{Known, state_of}
+use Rattle.voter.specs.Known.{Known, known_state}
 use Rattle.voter.specs.Owing as owing
 use Rattle.voter.specs.Owing.{is_candidate}
 
@@ -98,19 +98,19 @@ grouped false b c = refl
 
 -- the note that is owed of the first proposal that can be certified, by those that a tally gives
 pub certified_found : (r : Rules) (t : Known)
-    → first_some (certified_owed r (state_of t)) (named_proposals (state_of t))
+    → first_some (certified_owed r (known_state t)) (named_proposals (known_state t))
     ≡ option_map Note.Certified (find (block_fits r t.notes) (owing.uncertified t))
 unfolding is_candidate
 certified_found r t =
-    first_when (certified_owed r (state_of t))
+    first_when (certified_owed r (known_state t))
     (both same_proposal same_proposal-true (owing.is_uncertified t.notes) (block_fits r t.notes)
-    (named_proposals (state_of t)))
+    (named_proposals (known_state t)))
     Note.Certified
     (λ p. ap (λ b. when b (Note.Certified p))
     (grouped (has_cert t.notes (Notarize p)) (not (has_certified t.notes p))
     (block_fits r t.notes p)))
-    (named_proposals (state_of t))
+    (named_proposals (known_state t))
     ∙ ap (option_map Note.Certified)
     (firsts same_proposal same_proposal-true (owing.is_uncertified t.notes)
-    (block_fits r t.notes) (named_proposals (state_of t)) 0 []
-    (named_proposals (state_of t)) refl refl refl)
+    (block_fits r t.notes) (named_proposals (known_state t)) 0 []
+    (named_proposals (known_state t)) refl refl refl)

@@ -14,7 +14,7 @@ use Rattle.cw_rules.specs.Accepted.{Ballot, first_some}
 use Rattle.cw_rules.specs.Notes.{has_cert}
 use Rattle.cw_rules.specs.Owed.{ballot_vote, cert_owed, finalize_owed, named_proposals, named_votes, note_proposal, note_vote, notarize_owed, signers_of, when}
 use Rattle.note_scans.specs.Countable.{is_countable}
-use Rattle.voter.specs.Known.{Known, vote_rules, state_of}
+use Rattle.voter.specs.Known.{Known, vote_rules, known_state}
 use Rattle.voter.specs.Owing as owing
 use Rattle.voter.specs.Standing.{is_formed}
 
@@ -138,13 +138,13 @@ formed_ballots (x ∷ xs) a =
 
 module _ (t : Known) (notes : list_all is_countable t.notes ≡ true)
     (ballots : list_all is_formed t.ballots ≡ true) where
-  pub votes_formed : list_all well_formed (named_votes (state_of t)) ≡ true
+  pub votes_formed : list_all well_formed (named_votes (known_state t)) ≡ true
   votes_formed =
       all_more well_formed (map ballot_vote t.ballots) (filter_map note_vote t.notes)
       (formed_ballots t.ballots ballots)
       (all_found well_formed note_vote is_countable note_formed t.notes notes)
 
-  proposals_ordered : list_all is_ordered (named_proposals (state_of t)) ≡ true
+  proposals_ordered : list_all is_ordered (named_proposals (known_state t)) ≡ true
   proposals_ordered =
       all_more is_ordered (filter_map (λ x. proposal_of (ballot_vote x)) t.ballots)
       (filter_map note_proposal t.notes)
@@ -153,14 +153,14 @@ module _ (t : Known) (notes : list_all is_countable t.notes ≡ true)
       (all_found is_ordered note_proposal is_countable note_ordered t.notes notes)
 
   -- a vote that is found among those that are named may be counted
-  pub found_formed : (p : Vote → Bool) (v : Vote) → find p (named_votes (state_of t)) ≡ Some v
+  pub found_formed : (p : Vote → Bool) (v : Vote) → find p (named_votes (known_state t)) ≡ Some v
       → well_formed v ≡ true
-  found_formed p v e = found_one well_formed p (named_votes (state_of t)) v votes_formed e
+  found_formed p v e = found_one well_formed p (named_votes (known_state t)) v votes_formed e
 
   candidates_ordered : (passes : Proposal → Bool)
       → list_all is_ordered (owing.candidates t passes) ≡ true
   candidates_ordered passes =
-      picked_pass is_ordered (owing.is_candidate t passes) 0 (named_proposals (state_of t))
+      picked_pass is_ordered (owing.is_candidate t passes) 0 (named_proposals (known_state t))
       proposals_ordered
 
   -- a proposal that isn't certified may be noted so
@@ -188,9 +188,9 @@ module _ (t : Known) (notes : list_all is_countable t.notes ≡ true)
 module _ (hash : List ℕ → Digest32) (t : Known) (notes : list_all is_countable t.notes ≡ true)
     (ballots : list_all is_formed t.ballots ≡ true) where
   cert_counts : (v : Vote) (n : Note) → well_formed v ≡ true
-      → cert_owed (vote_rules hash t.epochs) t.id (state_of t) v ≡ Some n → is_countable n ≡ true
+      → cert_owed (vote_rules hash t.epochs) t.id (known_state t) v ≡ Some n → is_countable n ≡ true
   cert_counts v n h e =
-      go (has_cert t.notes v) (signers_of (vote_rules hash t.epochs) t.id (state_of t) v) e
+      go (has_cert t.notes v) (signers_of (vote_rules hash t.epochs) t.id (known_state t) v) e
     where
       go : (b : Bool) (o : Option (List ℕ))
           → (if b then None else option_map (λ signers. Note.Cert (record {
@@ -205,10 +205,10 @@ module _ (hash : List ℕ → Digest32) (t : Known) (notes : list_all is_countab
           let same : Note.Cert (record { vote = v; signers = signers }) ≡ n = cc in
           subst (λ m. is_countable m ≡ true) same h
 
-  pub cert_countable : (n : Note) → owing.cert_owed hash t ≡ Some n → is_countable n ≡ true
+  pub cert_countable : (n : Note) → owing.first_cert_owed hash t ≡ Some n → is_countable n ≡ true
   cert_countable n e =
-      first_passes well_formed (cert_owed (vote_rules hash t.epochs) t.id (state_of t)) n
-      (is_countable n ≡ true) (λ v h k. cert_counts v n h k) (named_votes (state_of t))
+      first_passes well_formed (cert_owed (vote_rules hash t.epochs) t.id (known_state t)) n
+      (is_countable n ≡ true) (λ v h k. cert_counts v n h k) (named_votes (known_state t))
       (votes_formed t notes ballots) e
 
   when_counts : (b : Bool) (m n : Note) → is_countable m ≡ true → when b m ≡ Some n
@@ -216,29 +216,31 @@ module _ (hash : List ℕ → Digest32) (t : Known) (notes : list_all is_countab
   when_counts true m n h k = let same : m ≡ n = cc in subst (λ x. is_countable x ≡ true) same h
   when_counts false m n h k = cc
 
-  finalize_countable : (n : Note) → owing.finalize_owed hash t ≡ Some n → is_countable n ≡ true
+  finalize_countable : (n : Note) → owing.first_finalize_owed hash t ≡ Some n → is_countable n
+      ≡ true
   finalize_countable n e =
-      first_passes is_ordered (finalize_owed (vote_rules hash t.epochs) t.id (state_of t)) n
+      first_passes is_ordered (finalize_owed (vote_rules hash t.epochs) t.id (known_state t)) n
       (is_countable n ≡ true) (λ p h m. when_counts _ (Note.Vote (Finalize p)) n h m)
-      (named_proposals (state_of t)) (proposals_ordered t notes ballots) e
+      (named_proposals (known_state t)) (proposals_ordered t notes ballots) e
 
   pub vote_countable : (n : Note) → owing.vote_owed hash t ≡ Some n → is_countable n ≡ true
-  vote_countable n e = go (owing.notarize_owed hash t) refl e
+  vote_countable n e = go (owing.first_notarize_owed hash t) refl e
     where
-      notarize : owing.notarize_owed hash t ≡ Some n → is_countable n ≡ true
+      notarize : owing.first_notarize_owed hash t ≡ Some n → is_countable n ≡ true
       notarize k =
-          first_passes is_ordered (notarize_owed (vote_rules hash t.epochs) t.id (state_of t)) n
+          first_passes is_ordered (notarize_owed (vote_rules hash t.epochs) t.id (known_state t)) n
           (is_countable n ≡ true) (λ p h m. when_counts _ (Note.Vote (Notarize p)) n h m)
-          (named_proposals (state_of t)) (proposals_ordered t notes ballots) k
+          (named_proposals (known_state t)) (proposals_ordered t notes ballots) k
 
-      go : (o : Option Note) → owing.notarize_owed hash t ≡ o
-          → option_or (owing.notarize_owed hash t) (owing.finalize_owed hash t) ≡ Some n
+      go : (o : Option Note) → owing.first_notarize_owed hash t ≡ o
+          → option_or (owing.first_notarize_owed hash t) (owing.first_finalize_owed hash t) ≡ Some n
           → is_countable n ≡ true
       go (Some m) f k = notarize (f ∙ (rw f at k))
       go None f k = finalize_countable n (rw f at k)
 
   -- so the vote to finalize alone may be noted
-  pub final_countable : (o : Option Vote) → option_map Note.Vote o ≡ owing.finalize_owed hash t
+  pub final_countable : (o : Option Vote) → option_map Note.Vote o
+      ≡ owing.first_finalize_owed hash t
       → IfSome o (λ v. IsTrue (is_countable (Note.Vote v)))
   final_countable None e = tt
   final_countable (Some v) e = finalize_countable (Note.Vote v) (sym e)
@@ -250,7 +252,7 @@ module _ (hash : List ℕ → Digest32) (t : Known) (notes : list_all is_countab
   given_countable (Some v) e = vote_countable (Note.Vote v) (sym e)
 
   -- so may the vote that is found
-  pub found_counts : (p : Vote → Bool) (o : Option Vote) → o ≡ find p (named_votes (state_of t))
+  pub found_counts : (p : Vote → Bool) (o : Option Vote) → o ≡ find p (named_votes (known_state t))
       → IfSome o (λ v. IsTrue (well_formed v))
   found_counts p None e = tt
   found_counts p (Some v) e = found_formed t notes ballots p v (sym e)

@@ -1,7 +1,7 @@
 -- Runs of numbers that pass, and how a number that passes too joins them.
 use Rattle.std.proofs.Common.{◌≡◌, ◌⊎◌, inl, inr, ℕ, zero, suc, ◌+◌, ◌-◌, ◌<◌, ◌≤◌, Bool, true, false, if◌then◌else◌, refl, sym, ◌∙◌, ap, subst, arith}
 use Rattle.std.proofs.lemmas.Bool.{cases_eq, cases_lt}
-use Rattle.voter.specs.Runs.{AreEnds, IsRun, pass_from}
+use Rattle.voter.specs.Runs.{AreEnds, IsWholeRun, pass_from}
 use Rattle.voter.specs.declared.runs.Run.{Run}
 
 pub from_le : (p : ℕ → Bool) (n : ℕ) → pass_from p n ≤ n
@@ -147,7 +147,7 @@ module _ (p q : ℕ → Bool) (old new : ℕ → Run) (v first last : ℕ) (are 
   behind : q (suc last) ≡ false
   behind = let h = join.side.high in join.others (suc last) (omega arith) ∙ join.side.ended
 
-  whole : IsRun q first last
+  whole : IsWholeRun q first last
   whole = record {
     ordered = let a = low_le in let b = join.side.high in omega arith;
     within =
@@ -222,7 +222,7 @@ module _ (p q : ℕ → Bool) (old new : ℕ → Run) (v first last : ℕ) (are 
       clash (q u) (within u (omega arith) (omega arith)) (from_stop q (suc u) u from)
 
   -- a run below the new one stays
-  run_below : (w n : ℕ) → w < first → IsRun p w n → IsRun q w n
+  run_below : (w n : ℕ) → w < first → IsWholeRun p w n → IsWholeRun q w n
   run_below w n a run = record {
     ordered = run.ordered;
     within = from_like q p (suc n) (λ u b. under_same u (omega (arith, under))) ∙ run.within;
@@ -249,7 +249,7 @@ module _ (p q : ℕ → Bool) (old new : ℕ → Run) (v first last : ℕ) (are 
                   let l = join.low in
                   absurd (clash (p (suc n)) (from_all p v (suc n) (omega arith) (omega arith)) run.ended)
 
-  run_above : (w n : ℕ) → last < w → IsRun p w n → IsRun q w n
+  run_above : (w n : ℕ) → last < w → IsWholeRun p w n → IsWholeRun q w n
   run_above w n a run = record {
     ordered = run.ordered;
     within =
@@ -270,10 +270,10 @@ module _ (p q : ℕ → Bool) (old new : ℕ → Run) (v first last : ℕ) (are 
           at (inr s) = over_same u (omega arith) ∙ from_stop p (suc n) u (run.within ∙ e)
 
   last_of : (w : ℕ) → q w ≡ true → pass_from q w ≡ w → (w ≡ first) ⊎ (w ≡ first → ⊥)
-      → (w < first) ⊎ (first ≤ w) → (last < w) ⊎ (w ≤ last) → IsRun q w (new w).last
+      → (w < first) ⊎ (first ≤ w) → (last < w) ⊎ (w ≤ last) → IsWholeRun q w (new w).last
   last_of w at from (inl e) b c =
-      subst (λ n. IsRun q w n) (sym (ap (λ (u : ℕ). (new u).last) e ∙ join.last_put))
-      (subst (λ n. IsRun q n last) (sym e) whole)
+      subst (λ n. IsWholeRun q w n) (sym (ap (λ (u : ℕ). (new u).last) e ∙ join.last_put))
+      (subst (λ n. IsWholeRun q n last) (sym e) whole)
   last_of w at from (inr e) (inl a) c =
       let l = low_le in
       let h = join.side.high in
@@ -281,7 +281,8 @@ module _ (p q : ℕ → Bool) (old new : ℕ → Run) (v first last : ℕ) (are 
       let same : pass_from p w ≡ w =
       from_like p q w (λ u b. sym (under_same u (omega arith))) ∙ from in
       let run = are.lasts w (sym (under_same w a) ∙ at) same in
-      subst (λ n. IsRun q w n) (sym (ap (λ (r : Run). r.last) (join.kept w e out))) (run_below w (old w).last a run)
+      subst (λ n. IsWholeRun q w n) (sym (ap (λ (r : Run). r.last) (join.kept w e out)))
+      (run_below w (old w).last a run)
   last_of w at from (inr e) (inr a) (inr c) =
       absurd (inside w from e a c)
   last_of w at from (inr e) (inr a) (inl c) =
@@ -291,7 +292,8 @@ module _ (p q : ℕ → Bool) (old new : ℕ → Run) (v first last : ℕ) (are 
       let here : p w ≡ true = sym (over_same w c) ∙ at in
       let same : pass_from p w ≡ w = sym (from_above w c here) ∙ from in
       let run = are.lasts w here same in
-      subst (λ n. IsRun q w n) (sym (ap (λ (r : Run). r.last) (join.kept w e out))) (run_above w (old w).last c run)
+      subst (λ n. IsWholeRun q w n) (sym (ap (λ (r : Run). r.last) (join.kept w e out)))
+      (run_above w (old w).last c run)
 
   -- the others stay
   pub joined : AreEnds q new

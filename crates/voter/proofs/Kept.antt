@@ -16,7 +16,7 @@ use Rattle.cw_rules.specs.Owed.{is_row_at}
 use Rattle.cw_rules.specs.Rules.{Chunk, Rules}
 use Rattle.cw_rules.specs.Step.{nothing_came, with_handed, with_notes}
 use Rattle.cw_types.proofs.Same.{same_commitment-true}
-use Rattle.voter.specs.Known.{Known, came_of, is_own_at, unknowing, with_ballot, with_note, with_own}
+use Rattle.voter.specs.Known.{Known, known_came, is_own_at, unknowing, with_ballot, knows_note, with_own}
 use Rattle.voter.specs.Standing.{IsTallyOf, with_came}
 
 or_false : (b : Bool) → (b || false) ≡ b
@@ -147,7 +147,7 @@ start_stands hash r id given h b c =
 
 module _ (hash : List ℕ → Digest32) (t : Known) (r : Rules) (s : State)
     (stands : IsTallyOf hash t r s) where
-  pub note_kept : (note : Note) → IsTallyOf hash (with_note t note) r (with_notes s (note ∷ []))
+  pub note_kept : (note : Note) → IsTallyOf hash (knows_note t note) r (with_notes s (note ∷ []))
   note_kept note = record {
     epochs = stands.epochs;
     hash_same = stands.hash_same;
@@ -166,7 +166,7 @@ module _ (hash : List ℕ → Digest32) (t : Known) (r : Rules) (s : State)
     blocks = stands.blocks;
     contexts = stands.contexts;
     notes = stands.notes;
-    ballots = same_ballots s.came (came_of t) x stands.ballots;
+    ballots = same_ballots s.came (known_came t) x stands.ballots;
     own =
         λ epoch at c p. ap (list_any (is_row_at at c)) (ballot_parts s.came x)
         ∙ stands.own epoch at c p;

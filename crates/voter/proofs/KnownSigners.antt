@@ -12,7 +12,7 @@ use Rattle.cw_types.specs.declared.vote.Vote.{Vote}
 use Rattle.cw_rules.specs.Owed.{knows}
 use Rattle.cw_rules.proofs.Lists.{filter_rises}
 use Rattle.note_scans.specs.Keys.{key_of, same_key}
-use Rattle.voter.specs.Known.{Known, known_signers, state_of, unless_empty}
+use Rattle.voter.specs.Known.{Known, known_signers, known_state, unless_empty}
 use Rattle.voter.specs.Sets.{is_in_set}
 use Rattle.voter.specs.Signing.{HaveSigners}
 use Rattle.voter.proofs.InSets.{Entries, in_none, in_there}
@@ -58,10 +58,10 @@ unless_none (x ∷ xs) h = cc
 module _ (t : Known) (v : Vote) (came known : Entries)
     (are : HaveSigners t.epochs t.id t.notes t.ballots came known) where
   among : (i : ℕ) → is_in_set known v i
-      ≡ is_among i (filter (knows t.id (state_of t) v) (members_in t.epochs (vote_epoch v)))
+      ≡ is_among i (filter (knows t.id (known_state t) v) (members_in t.epochs (vote_epoch v)))
   among i =
       are.counted v i
-      ∙ filter_among (knows t.id (state_of t) v) (members_in t.epochs (vote_epoch v)) i
+      ∙ filter_among (knows t.id (known_state t) v) (members_in t.epochs (vote_epoch v)) i
 
   pub known_found : (total : ℕ) (members : BTreeSet ℕ)
       → lookup (same_key (key_of v)) known ≡ Some members
@@ -70,11 +70,11 @@ module _ (t : Known) (v : Vote) (came known : Entries)
       → Some members.keys ≡ known_signers t v
   known_found total members at sorted committee =
       let same : members.keys
-      ≡ filter (knows t.id (state_of t) v) (members_in t.epochs (vote_epoch v)) =
+      ≡ filter (knows t.id (known_state t) v) (members_in t.epochs (vote_epoch v)) =
       same_rising 0 members.keys
-      (filter (knows t.id (state_of t) v) (members_in t.epochs (vote_epoch v)))
+      (filter (knows t.id (known_state t) v) (members_in t.epochs (vote_epoch v)))
       (sorted_rises 0 members.keys (all_high members.keys) sorted)
-      (filter_rises (knows t.id (state_of t) v) 0 (members_in t.epochs (vote_epoch v))
+      (filter_rises (knows t.id (known_state t) v) 0 (members_in t.epochs (vote_epoch v))
       (committee_rises total (members_in t.epochs (vote_epoch v)) committee).0)
       (λ i. sym (among_keys members.keys i) ∙ (in_there known v members at i ∙ among i)) in
       unless_there members.keys (are.some v members at) ∙ ap unless_empty same
@@ -83,5 +83,5 @@ module _ (t : Known) (v : Vote) (came known : Entries)
   known_missing at =
       sym
       (ap unless_empty
-      (none_among (filter (knows t.id (state_of t) v) (members_in t.epochs (vote_epoch v)))
+      (none_among (filter (knows t.id (known_state t) v) (members_in t.epochs (vote_epoch v)))
       (λ i. sym (among i) ∙ in_none known v at i)))

@@ -25,7 +25,7 @@ use Rattle.cw_rules.specs.Notes.{settler}
 use Rattle.note_scans.specs.Keys.{in_view, no_payload, same_key}
 use Rattle.note_scans.specs.declared.key.VoteKey.{VoteKey}
 use Rattle.note_scans.proofs.Keys.{found_key, key_cmp, same_key-true}
-use Rattle.voter.specs.Facts.{HasSettled, settled_at, settled_by}
+use Rattle.voter.specs.Facts.{HasFirstSettled, settled_at, settled_by}
 use Rattle.voter.specs.Settled.{last_some, later_settled}
 use Rattle.voter.proofs.Saying.{some_there}
 use Rattle.voter.proofs.Settling.{settled_view}
@@ -191,7 +191,8 @@ settled_key q (note ∷ notes) c h = go note h (settled_key q notes c)
 abbrev get_at : BTreeMap VoteKey Commitment → VoteKey → Option Commitment
 get_at m q = lookup (λ (j : VoteKey). is_eq (key_cmp q j)) m.entries
 
-module _ (notes : List Note) (m : BTreeMap VoteKey Commitment) (has : HasSettled notes m.entries)
+module _ (notes : List Note) (m : BTreeMap VoteKey Commitment)
+    (has : HasFirstSettled notes m.entries)
     (epoch top : ℕ) (r : List (VoteKey × Commitment))
     (range : IsRangeOf key_cmp (Included (in_view 6 epoch 1)) (Excluded (in_view 6 epoch top)) m r)
   where
@@ -331,7 +332,8 @@ none_low notes epoch top low =
     (last_none (later_settled notes epoch) top
     (λ w l. let zeroth : w ≡ 0 = omega arith in ap (later_settled notes epoch) zeroth))
 
-module _ (notes : List Note) (m : BTreeMap VoteKey Commitment) (has : HasSettled notes m.entries)
+module _ (notes : List Note) (m : BTreeMap VoteKey Commitment)
+    (has : HasFirstSettled notes m.entries)
     (epoch top : ℕ) (lo hi : VoteKey) (low : lo ≡ in_view 6 epoch 1)
     (high : hi ≡ in_view 6 epoch top) (r : List (VoteKey × Commitment))
     (range : IsRangeOf key_cmp (Included lo) (Excluded hi) m r) where

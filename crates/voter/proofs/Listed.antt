@@ -21,7 +21,7 @@ use Rattle.cw_rules.specs.Accepted.{Ballot, Many, Single, same_ballot}
 use Rattle.note_scans.specs.Keys.{key_of, same_key}
 use Rattle.note_scans.specs.declared.key.VoteKey.{VoteKey}
 use Rattle.note_scans.proofs.Keys.{found_key, key_cmp, keys_of_same, keys_tie, same_key-true, same_key_symm}
-use Rattle.voter.specs.Lists.{AreSameLists, HasLists, HaveListed, HaveUnlisted, is_listed}
+use Rattle.voter.specs.Lists.{AreSameLists, HasLists, HaveListed, HaveUnlisted, has_signers_list}
 use Rattle.voter.proofs.Saying.{any_same}
 
 abbrev pub Signers : Type 0
@@ -161,17 +161,17 @@ set_at k w old new sets q =
 -- the lists of a vote
 pub listed_there : (es : Entries) (w : Vote) (lists : BTreeSet Signers)
     → lookup (same_key (key_of w)) es ≡ Some lists → (l : List ℕ)
-    → has_list l lists.keys ≡ is_listed es w l
+    → has_list l lists.keys ≡ has_signers_list es w l
 listed_there es w lists at l =
     sym (ap (λ (o : Option (BTreeSet Signers)). option_map_or (λ s. has_list l s.keys) o false) at)
 
 pub listed_none : (es : Entries) (w : Vote) → lookup (same_key (key_of w)) es ≡ None
-    → (l : List ℕ) → is_listed es w l ≡ false
+    → (l : List ℕ) → has_signers_list es w l ≡ false
 listed_none es w at l =
     ap (λ (o : Option (BTreeSet Signers)). option_map_or (λ s. has_list l s.keys) o false) at
 
 listed_same : (es : Entries) (v w : Vote) (l : List ℕ) → same_key (key_of v) (key_of w) ≡ true
-    → is_listed es v l ≡ is_listed es w l
+    → has_signers_list es v l ≡ has_signers_list es w l
 listed_same es v w l e =
     ap
     (λ (q : VoteKey). option_map_or (λ s. has_list l s.keys) (lookup (same_key q) es) false)
@@ -180,9 +180,10 @@ listed_same es v w l e =
 -- the lists of one vote change, in which they are by that function
 pub lists_changed : (old new : Entries) (w : Vote) (lists : BTreeSet Signers)
     (f : Bool → List ℕ → Bool → Bool) → Sets (key_of w) (Some lists) old new
-    → ((l : List ℕ) → has_list l lists.keys ≡ f (is_listed old w l) l true)
+    → ((l : List ℕ) → has_list l lists.keys ≡ f (has_signers_list old w l) l true)
     → ((b : Bool) (l : List ℕ) → b ≡ f b l false)
-    → (v : Vote) (l : List ℕ) → is_listed new v l ≡ f (is_listed old v l) l (same_vote v w)
+    → (v : Vote) (l : List ℕ) → has_signers_list new v l
+    ≡ f (has_signers_list old v l) l (same_vote v w)
 lists_changed old new w lists f sets has apart v l =
     ap (λ (o : Option (BTreeSet Signers)). option_map_or (λ s. has_list l s.keys) o false)
     (set_at (key_of w) (Some lists) old new sets (key_of v))
@@ -191,14 +192,14 @@ lists_changed old new w lists f sets has apart v l =
     go : (b : Bool) → same_key (key_of v) (key_of w) ≡ b
         → option_map_or (λ s. has_list l s.keys)
         (cond b (Some lists) (lookup (same_key (key_of v)) old)) false
-        ≡ f (is_listed old v l) l (same_vote v w)
+        ≡ f (has_signers_list old v l) l (same_vote v w)
     go true e =
         has l
         ∙ (ap (λ b. f b l true) (sym (listed_same old v w l e))
-        ∙ ap (f (is_listed old v l) l) (sym e ∙ keys_of_same v w))
+        ∙ ap (f (has_signers_list old v l) l) (sym e ∙ keys_of_same v w))
     go false e =
-        apart (is_listed old v l) l
-        ∙ ap (f (is_listed old v l) l) (sym e ∙ keys_of_same v w)
+        apart (has_signers_list old v l) l
+        ∙ ap (f (has_signers_list old v l) l) (sym e ∙ keys_of_same v w)
 
 -- how lists change with one more, and with one less
 abbrev pub more_by : List ℕ → Bool → List ℕ → Bool → Bool
@@ -216,17 +217,18 @@ less_apart k b l = and_true b
 -- out of no lists none is taken
 pub less_none : (es : Entries) (w : Vote) (k : List ℕ) → lookup (same_key (key_of w)) es ≡ None
     → (v : Vote) (l : List ℕ)
-    → is_listed es v l ≡ (is_listed es v l && not (same_vote v w && bytes_eq l k))
+    → has_signers_list es v l ≡ (has_signers_list es v l && not (same_vote v w && bytes_eq l k))
 less_none es w k none v l = go (same_key (key_of v) (key_of w)) refl
   where
     go : (b : Bool) → same_key (key_of v) (key_of w) ≡ b
-        → is_listed es v l ≡ (is_listed es v l && not (same_vote v w && bytes_eq l k))
+        → has_signers_list es v l ≡ (has_signers_list es v l && not (same_vote v w && bytes_eq l k))
     go true e =
-        let no : is_listed es v l ≡ false = listed_same es v w l e ∙ listed_none es w none l in
+        let no : has_signers_list es v l ≡ false = listed_same es v w l e
+        ∙ listed_none es w none l in
         no ∙ ap (λ b. b && not (same_vote v w && bytes_eq l k)) (sym no)
     go false e =
-        and_true (is_listed es v l)
-        ∙ ap (λ b. is_listed es v l && not (b && bytes_eq l k)) (sym e ∙ keys_of_same v w)
+        and_true (has_signers_list es v l)
+        ∙ ap (λ b. has_signers_list es v l && not (b && bytes_eq l k)) (sym e ∙ keys_of_same v w)
 
 -- ---- what came
 
@@ -271,9 +273,9 @@ pub undone_listed : (ballots : List Ballot) (s : Cert) (old mid new : Entries)
 undone_listed ballots s old mid new has none more less v l =
     less v l
     ∙ (ap (λ b. b && not (same_vote v s.vote && bytes_eq l s.signers)) (more v l)
-    ∙ (go (is_listed old v l) (same_vote v s.vote && bytes_eq l s.signers) here ∙ has v l))
+    ∙ (go (has_signers_list old v l) (same_vote v s.vote && bytes_eq l s.signers) here ∙ has v l))
   where
-    here : (same_vote v s.vote && bytes_eq l s.signers) ≡ true → is_listed old v l ≡ false
+    here : (same_vote v s.vote && bytes_eq l s.signers) ≡ true → has_signers_list old v l ≡ false
     here t =
         has v l
         ∙ (ap (λ (c : Cert). list_any (same_ballot (Many c)) ballots)

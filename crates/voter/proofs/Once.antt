@@ -6,7 +6,7 @@ use Rattle.std.proofs.lemmas.List.{length-append}
 use Rattle.std.proofs.lemmas.List.Elements.{filter-append}
 use Rattle.std.proofs.lemmas.List.Folds.{find-append, list_any-append}
 use Rattle.std.proofs.Math.Seq.{take-append_seam}
-use Rattle.voter.specs.Waiting.{once, undone, with_named, with_new}
+use Rattle.voter.specs.Waiting.{without_repeats, undone, with_named, with_new}
 
 pub append_nil : {X : Type 0} (ys : List X) → ys ++ [] ≡ ys
 append_nil [] = refl
@@ -81,30 +81,32 @@ module _ {X : Type 0} (same : X → X → Bool) (is : (a b : X) → same a b ≡
   -- ---- each once
 
   -- what is found is found where it first stands
-  pub find_once : (p : X → Bool) (xs : List X) → find p (once same xs) ≡ find p xs
+  pub find_once : (p : X → Bool) (xs : List X) → find p (without_repeats same xs) ≡ find p xs
   find_once p [] = refl
   find_once p (x ∷ xs) = go (p x) refl (find_once p xs)
     where
-      by : p x ≡ false → find p (once same xs) ≡ find p xs
-          → find p (filter (λ y. not (same y x)) (once same xs)) ≡ find p xs
+      by : p x ≡ false → find p (without_repeats same xs) ≡ find p xs
+          → find p (filter (λ y. not (same y x)) (without_repeats same xs)) ≡ find p xs
       by e more =
-          find_through p (λ y. not (same y x)) (λ y h. other (same y x) refl h) (once same xs)
+          find_through p (λ y. not (same y x)) (λ y h. other (same y x) refl h)
+          (without_repeats same xs)
           ∙ more
         where
           other : {y : X} (b : Bool) → same y x ≡ b → p y ≡ true → not (same y x) ≡ true
           other false k h = ap not k
           other {y = y} true k h = let t : true ≡ false = sym h ∙ (ap p (is y x k) ∙ e) in cc
 
-      go : (b : Bool) → p x ≡ b → find p (once same xs) ≡ find p xs
-          → find p (once same (x ∷ xs)) ≡ find p (x ∷ xs)
+      go : (b : Bool) → p x ≡ b → find p (without_repeats same xs) ≡ find p xs
+          → find p (without_repeats same (x ∷ xs)) ≡ find p (x ∷ xs)
       go true e more = rw e refl
       go false e more = rw e (by e more)
 
   -- of two lists behind one another
   pub once_append : (xs ys : List X)
-      → once same (xs ++ ys)
-      ≡ once same xs ++ filter (λ y. not (list_any (same y) xs)) (once same ys)
-  once_append [] ys = sym (all (once same ys))
+      → without_repeats same (xs ++ ys)
+      ≡ without_repeats same xs
+      ++ filter (λ y. not (list_any (same y) xs)) (without_repeats same ys)
+  once_append [] ys = sym (all (without_repeats same ys))
     where
       all : (zs : List X) → filter (λ y. true) zs ≡ zs
       all [] = refl
@@ -112,13 +114,14 @@ module _ {X : Type 0} (same : X → X → Bool) (is : (a b : X) → same a b ≡
   once_append (x ∷ xs) ys =
       ap (λ zs. x ∷ filter (λ y. not (same y x)) zs) (once_append xs ys)
       ∙ (ap (λ zs. x ∷ zs)
-      (filter-append (λ y. not (same y x)) (once same xs)
-      (filter (λ y. not (list_any (same y) xs)) (once same ys)))
-      ∙ ap (λ zs. x ∷ (filter (λ y. not (same y x)) (once same xs) ++ zs))
-      (filter_twice (λ y. not (same y x)) (λ y. not (list_any (same y) xs)) (once same ys)
+      (filter-append (λ y. not (same y x)) (without_repeats same xs)
+      (filter (λ y. not (list_any (same y) xs)) (without_repeats same ys)))
+      ∙ ap (λ zs. x ∷ (filter (λ y. not (same y x)) (without_repeats same xs) ++ zs))
+      (filter_twice (λ y. not (same y x)) (λ y. not (list_any (same y) xs))
+      (without_repeats same ys)
       ∙ filter_same_test (λ y. not (list_any (same y) xs) && not (same y x))
       (λ y. not (list_any (same y) (x ∷ xs)))
-      (λ y. neither (list_any (same y) xs) (same y x)) (once same ys)))
+      (λ y. neither (list_any (same y) xs) (same y x)) (without_repeats same ys)))
     where
       neither : (a b : Bool) → (not a && not b) ≡ not (b || a)
       neither true true = refl
@@ -133,7 +136,7 @@ module _ {X : Type 0} (same : X → X → Bool) (is : (a b : X) → same a b ≡
 
     behind : (n : ℕ) (pre ys : List X) → n ≡ length pre → pre ++ ys ≡ all
         → map (λ (at : ℕ × X). at.1) (filter candidate (enumerate_from n ys))
-        ≡ filter (λ y. passes y && not (list_any (same y) pre)) (once same ys)
+        ≡ filter (λ y. passes y && not (list_any (same y) pre)) (without_repeats same ys)
     behind n pre [] e f = refl
     behind n pre (y ∷ ys) e f =
         go (passes y && not (list_any (same y) pre)) refl
@@ -166,15 +169,16 @@ module _ {X : Type 0} (same : X → X → Bool) (is : (a b : X) → same a b ≡
 
         more : (n + 1 ≡ length (pre ++ y ∷ [])
             → map (λ (at : ℕ × X). at.1) (filter candidate (enumerate_from (n + 1) ys))
-            ≡ filter (λ z. passes z && not (list_any (same z) (pre ++ y ∷ []))) (once same ys))
+            ≡ filter (λ z. passes z && not (list_any (same z) (pre ++ y ∷ [])))
+            (without_repeats same ys))
             → map (λ (at : ℕ × X). at.1) (filter candidate (enumerate_from (n + 1) ys))
             ≡ filter (λ z. passes z && not (list_any (same z) pre))
-            (filter (λ z. not (same z y)) (once same ys))
+            (filter (λ z. not (same z y)) (without_repeats same ys))
         more rest =
             rest longer
             ∙ sym
             (filter_twice (λ z. passes z && not (list_any (same z) pre))
-            (λ z. not (same z y)) (once same ys)
+            (λ z. not (same z y)) (without_repeats same ys)
             ∙ filter_same_test
             (λ z. not (same z y) && (passes z && not (list_any (same z) pre)))
             (λ z. passes z && not (list_any (same z) (pre ++ y ∷ [])))
@@ -183,23 +187,23 @@ module _ {X : Type 0} (same : X → X → Bool) (is : (a b : X) → same a b ≡
             (sym
             (list_any-append (same z) pre (y ∷ [])
             ∙ ap (λ b. list_any (same z) pre || b) (or_false (same z y)))))
-            (once same ys))
+            (without_repeats same ys))
 
         go : (b : Bool) → (passes y && not (list_any (same y) pre)) ≡ b
             → map (λ (at : ℕ × X). at.1) (filter candidate (enumerate_from (n + 1) ys))
             ≡ filter (λ z. passes z && not (list_any (same z) pre))
-            (filter (λ z. not (same z y)) (once same ys))
+            (filter (λ z. not (same z y)) (without_repeats same ys))
             → map (λ (at : ℕ × X). at.1) (filter candidate (enumerate_from n (y ∷ ys)))
-            ≡ filter (λ y. passes y && not (list_any (same y) pre)) (once same (y ∷ ys))
+            ≡ filter (λ y. passes y && not (list_any (same y) pre)) (without_repeats same (y ∷ ys))
         go true e rest = rw (here, e) (ap (λ zs. y ∷ zs) rest)
         go false e rest = rw (here, e) rest
 
     pub candidates_once : map (λ (at : ℕ × X). at.1) (filter candidate (enumerate_from 0 all))
-        ≡ filter passes (once same all)
+        ≡ filter passes (without_repeats same all)
     candidates_once =
         behind 0 [] all refl refl
         ∙ filter_same_test (λ y. passes y && true) passes (λ y. and_true (passes y))
-        (once same all)
+        (without_repeats same all)
       where
         and_true : (b : Bool) → (b && true) ≡ b
         and_true true = refl
@@ -211,7 +215,8 @@ module _ {X : Type 0} (same : X → X → Bool) (is : (a b : X) → same a b ≡
   pub find_undone : (p done : X → Bool) → ((x : X) → p x ≡ true → done x ≡ false) → (xs : List X)
       → find p (undone same done xs) ≡ find p xs
   find_undone p done h xs =
-      find_through p (λ x. not (done x)) (λ x k. ap not (h x k)) (once same xs) ∙ find_once p xs
+      find_through p (λ x. not (done x)) (λ x k. ap not (h x k)) (without_repeats same xs)
+      ∙ find_once p xs
 
   -- whether one that isn't done is there
   pub any_undone : (done : X → Bool) (x : X) → done x ≡ false → (xs : List X)
@@ -226,7 +231,7 @@ module _ {X : Type 0} (same : X → X → Bool) (is : (a b : X) → same a b ≡
       ≡ undone same done xs ++ filter (λ y. not (list_any (same y) xs) && not (done y)) (x ∷ [])
   undone_more done xs x =
       ap (filter (λ y. not (done y))) (once_append xs (x ∷ []))
-      ∙ (filter-append (λ y. not (done y)) (once same xs)
+      ∙ (filter-append (λ y. not (done y)) (without_repeats same xs)
       (filter (λ y. not (list_any (same y) xs)) (x ∷ []))
       ∙ ap (λ ys. undone same done xs ++ ys)
       (filter_twice (λ y. not (done y)) (λ y. not (list_any (same y) xs)) (x ∷ [])))
@@ -275,7 +280,7 @@ module _ {X : Type 0} (same : X → X → Bool) (is : (a b : X) → same a b ≡
       → filter (λ x. not (now x)) (undone same done xs) ≡ undone same now xs
   undone_less done now h xs =
       filter_through (λ x. not (now x)) (λ x. not (done x))
-      (λ x k. by (done x) (now x) (h x) k) (once same xs)
+      (λ x k. by (done x) (now x) (h x) k) (without_repeats same xs)
     where
       by : (a b : Bool) → (a ≡ true → b ≡ true) → not b ≡ true → not a ≡ true
       by false b k n = refl
@@ -371,18 +376,19 @@ module _ {X : Type 0} (same : X → X → Bool) (is : (a b : X) → same a b ≡
     pick_two u h =
         filter-append u ws (filter (λ y. not (list_any (same y) ws)) us)
         ∙ (ap (λ l. l ++ filter u (filter (λ y. not (list_any (same y) ws)) us)) first
-        ∙ (ap (λ l. filter u (once same xs) ++ l) second
+        ∙ (ap (λ l. filter u (without_repeats same xs) ++ l) second
         ∙ sym
         (candidates_once u (xs ++ ys)
         ∙ (ap (filter u) (once_append xs ys)
-        ∙ filter-append u (once same xs)
-        (filter (λ y. not (list_any (same y) xs)) (once same ys))))))
+        ∙ filter-append u (without_repeats same xs)
+        (filter (λ y. not (list_any (same y) xs)) (without_repeats same ys))))))
       where
         left : (x : X) → u x ≡ true → not (done x) ≡ true
         left x k = ap not (h x k)
 
-        first : filter u ws ≡ filter u (once same xs)
-        first = ap (filter u) e ∙ filter_through u (λ x. not (done x)) left (once same xs)
+        first : filter u ws ≡ filter u (without_repeats same xs)
+        first = ap (filter u) e
+        ∙ filter_through u (λ x. not (done x)) left (without_repeats same xs)
 
         test : (y : X)
             → (not (list_any (same y) ws) && u y) ≡ (not (list_any (same y) xs) && u y)
@@ -409,12 +415,12 @@ module _ {X : Type 0} (same : X → X → Bool) (is : (a b : X) → same a b ≡
             by false b k = cc
 
         second : filter u (filter (λ y. not (list_any (same y) ws)) us)
-            ≡ filter u (filter (λ y. not (list_any (same y) xs)) (once same ys))
+            ≡ filter u (filter (λ y. not (list_any (same y) xs)) (without_repeats same ys))
         second =
             filter_twice u (λ y. not (list_any (same y) ws)) us
             ∙ (filter_same_test (λ y. not (list_any (same y) ws) && u y)
             (λ y. not (list_any (same y) xs) && u y) test us
             ∙ (ap (filter (λ y. not (list_any (same y) xs) && u y)) f
             ∙ (filter_through (λ y. not (list_any (same y) xs) && u y) (λ y. not (done y)) also
-            (once same ys)
-            ∙ sym (filter_twice u (λ y. not (list_any (same y) xs)) (once same ys)))))
+            (without_repeats same ys)
+            ∙ sym (filter_twice u (λ y. not (list_any (same y) xs)) (without_repeats same ys)))))

@@ -18,7 +18,7 @@ use Rattle.note_scans.specs.Countable.{is_countable}
 use Rattle.note_scans.specs.Keys.{key_of, same_key}
 use Rattle.note_scans.specs.declared.key.VoteKey.{VoteKey}
 use Rattle.note_scans.proofs.Keys.{found_key, key_cmp, keys_tie, same_key_self, same_key_symm}
-use Rattle.voter.specs.Runs.{AreEnds, HaveRuns, IsEndPrepared, IsRun, nullified_from, nullifying, nullifying_vote, pass_from, run_at}
+use Rattle.voter.specs.Runs.{AreEnds, HaveRuns, IsEndPrepared, IsWholeRun, nullified_from, nullifying, nullifying_vote, pass_from, run_at}
 use Rattle.voter.specs.declared.runs.Run.{Run}
 use Rattle.voter.proofs.Joining.{Above, Joins, from_all, from_le, from_like, joined, side_above, side_below}
 use Rattle.voter.proofs.Saying.{PutFirst, first_put, same_view, some_there}
@@ -80,12 +80,12 @@ ends_like p q old new same at are = record {
       ∙ (are.firsts n (same n ∙ here) (same (suc n) ∙ next)
       ∙ from_like p q n (λ w l. same w));
   lasts = λ n here from.
-      subst (λ (m : ℕ). IsRun q n m) (sym (ap (λ (r : Run). r.last) (at n)))
+      subst (λ (m : ℕ). IsWholeRun q n m) (sym (ap (λ (r : Run). r.last) (at n)))
       (run_like n (old n).last
       (are.lasts n (same n ∙ here) (from_like p q n (λ w l. same w) ∙ from)));
 }
   where
-    run_like : (first last : ℕ) → IsRun p first last → IsRun q first last
+    run_like : (first last : ℕ) → IsWholeRun p first last → IsWholeRun q first last
     run_like first last run = record {
       ordered = run.ordered;
       within = from_like q p (suc last) (λ w l. sym (same w)) ∙ run.within;

@@ -15,7 +15,7 @@ use Rattle.cw_types.specs.declared.vote.Vote.TheVariants.{Finalize, Notarize, Nu
 use Rattle.cw_types.proofs.Same.{same_commitment_self}
 use Rattle.cw_rules.specs.Notes.{has_cert, has_certified, is_cert, is_certified}
 use Rattle.cw_rules.specs.Owed.{closes, has_closed, has_voted, votes_in}
-use Rattle.voter.specs.Facts.{HasSaid, IsThere, fact_of, own_fact, says}
+use Rattle.voter.specs.Facts.{HasSaid, IsThere, fact_of, own_fact, note_says}
 use Rattle.note_scans.specs.Keys.{in_view, key_of, keyed, no_payload, same_key}
 use Rattle.note_scans.specs.declared.key.VoteKey.{VoteKey}
 use Rattle.note_scans.proofs.Keys.{found_key, key_cmp, keys_of_same, keys_tie, same_key_self, same_key_symm}
@@ -88,10 +88,11 @@ said_there old new k puts note is q e =
     go (Some x) = refl
 
 says_more : (q : VoteKey) (notes : List Note) (note : Note)
-    → list_any (says q) (notes ++ note ∷ []) ≡ (list_any (says q) notes || says q note)
+    → list_any (note_says q) (notes ++ note ∷ [])
+    ≡ (list_any (note_says q) notes || note_says q note)
 says_more q notes note =
-    list_any-append (says q) notes (note ∷ [])
-    ∙ ap (λ b. list_any (says q) notes || b) (or_false (says q note))
+    list_any-append (note_says q) notes (note ∷ [])
+    ∙ ap (λ b. list_any (note_says q) notes || b) (or_false (note_says q note))
 
 -- a note that says something
 pub said_with : (old new : Said) (notes : List Note) (note : Note) (k : VoteKey)
@@ -108,15 +109,16 @@ said_with old new notes note k has is sets q =
     (sym (keys_tie k q) ∙ same_key_symm k q)
     ∙ ap (λ (o : Option Bool). if same_key q k then Some true else o) (found_key old q))))
     ∙ (go (same_key q k)
-    ∙ (ap (λ (o : Option VoteKey). list_any (says q) notes || option_map_or (same_key q) o false)
+    ∙ (ap (λ (o : Option VoteKey). list_any (note_says q) notes
+    || option_map_or (same_key q) o false)
     (sym is)
     ∙ sym (says_more q notes note)))
   where
     go : (b : Bool)
         → unwrap_or (if b then Some true else lookup (same_key q) old) false
-        ≡ (list_any (says q) notes || b)
-    go true = sym (or_true (list_any (says q) notes))
-    go false = has q ∙ sym (or_false (list_any (says q) notes))
+        ≡ (list_any (note_says q) notes || b)
+    go true = sym (or_true (list_any (note_says q) notes))
+    go false = has q ∙ sym (or_false (list_any (note_says q) notes))
 
 -- ---- in the words of the rules
 
@@ -158,10 +160,10 @@ proposal_other (Nullify e w) p = refl
 proposal_other (Finalize q) p = refl
 
 pub said_cert : (v : Vote) (notes : List Note)
-    → list_any (says (key_of v)) notes ≡ has_cert notes v
-said_cert v notes = any_same (says (key_of v)) (is_cert v) here notes
+    → list_any (note_says (key_of v)) notes ≡ has_cert notes v
+said_cert v notes = any_same (note_says (key_of v)) (is_cert v) here notes
   where
-    here : (n : Note) → says (key_of v) n ≡ is_cert v n
+    here : (n : Note) → note_says (key_of v) n ≡ is_cert v n
     here (Note.Block c b) = refl
     here (Note.Verified e w c) = refl
     here (Note.Certified p) = proposal_other v p
@@ -177,8 +179,8 @@ unfolding same_proposal
 same_on p q = refl
 
 pub said_certified : (p : Proposal) (notes : List Note)
-    → list_any (says (keyed 3 p)) notes ≡ has_certified notes p
-said_certified p notes = any_same (says (keyed 3 p)) (is_certified p) here notes
+    → list_any (note_says (keyed 3 p)) notes ≡ has_certified notes p
+said_certified p notes = any_same (note_says (keyed 3 p)) (is_certified p) here notes
   where
     own : (w : Vote) → same_key (keyed 3 p) (own_fact w) ≡ false
     own (Notarize q) = refl
@@ -190,7 +192,7 @@ said_certified p notes = any_same (says (keyed 3 p)) (is_certified p) here notes
     cert (Nullify e v) = refl
     cert (Finalize q) = refl
 
-    here : (n : Note) → says (keyed 3 p) n ≡ is_certified p n
+    here : (n : Note) → note_says (keyed 3 p) n ≡ is_certified p n
     here (Note.Block c b) = refl
     here (Note.Verified e w c) = refl
     here (Note.Certified q) = same_on p q
@@ -217,7 +219,7 @@ same_view kind epoch view e v =
     self : (n : ℕ) → (n == n) ≡ true
     self n = nat_eq_equiv.refl n
 
-closed_in : (epoch view : ℕ) (n : Note) → says (in_view 5 epoch view) n ≡ closes epoch view n
+closed_in : (epoch view : ℕ) (n : Note) → note_says (in_view 5 epoch view) n ≡ closes epoch view n
 closed_in epoch view (Note.Block c b) = refl
 closed_in epoch view (Note.Verified e w c) = refl
 closed_in epoch view (Note.Certified q) = refl
@@ -236,7 +238,8 @@ closed_in epoch view (Note.Prune h) = refl
 closed_in epoch view (Note.Epoch e c) = refl
 
 voted_in : (epoch view : ℕ) (n : Note)
-    → (says (in_view 4 epoch view) n || says (in_view 5 epoch view) n) ≡ votes_in epoch view n
+    → (note_says (in_view 4 epoch view) n || note_says (in_view 5 epoch view) n)
+    ≡ votes_in epoch view n
 voted_in epoch view (Note.Block c b) = refl
 voted_in epoch view (Note.Verified e w c) = refl
 voted_in epoch view (Note.Certified q) = refl
@@ -259,16 +262,17 @@ voted_in epoch view (Note.Prune h) = refl
 voted_in epoch view (Note.Epoch e c) = refl
 
 pub said_closed : (epoch view : ℕ) (notes : List Note)
-    → list_any (says (in_view 5 epoch view)) notes ≡ has_closed notes epoch view
+    → list_any (note_says (in_view 5 epoch view)) notes ≡ has_closed notes epoch view
 said_closed epoch view notes =
-    any_same (says (in_view 5 epoch view)) (closes epoch view) (closed_in epoch view) notes
+    any_same (note_says (in_view 5 epoch view)) (closes epoch view) (closed_in epoch view) notes
 
 pub said_voted : (epoch view : ℕ) (notes : List Note)
-    → (list_any (says (in_view 4 epoch view)) notes
-    || list_any (says (in_view 5 epoch view)) notes)
+    → (list_any (note_says (in_view 4 epoch view)) notes
+    || list_any (note_says (in_view 5 epoch view)) notes)
     ≡ has_voted notes epoch view
 said_voted epoch view notes =
-    any_or (says (in_view 4 epoch view)) (says (in_view 5 epoch view)) (votes_in epoch view)
+    any_or (note_says (in_view 4 epoch view)) (note_says (in_view 5 epoch view))
+    (votes_in epoch view)
     (voted_in epoch view) notes
 
 -- a key that is there, by the order of keys

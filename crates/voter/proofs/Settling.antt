@@ -16,7 +16,7 @@ use Rattle.cw_types.specs.declared.vote.Vote.{Vote}
 use Rattle.cw_types.specs.declared.vote.Vote.TheVariants.{Finalize, Notarize, Nullify}
 use Rattle.cw_rules.specs.Accepted.{first_some}
 use Rattle.cw_rules.specs.Notes.{ended, ended_by, ends_in, entry, greatest, settler, settling}
-use Rattle.voter.specs.Facts.{HasEnded, HasSettled, IsEndThere, ended_at, ending, ending_vote, greatest_ended, settled_at, settled_by, settles}
+use Rattle.voter.specs.Facts.{HasEnded, HasFirstSettled, IsEndThere, ended_at, ending, ending_vote, greatest_ended, settled_at, settled_by, settles}
 use Rattle.note_scans.specs.Keys.{in_view, same_key}
 use Rattle.note_scans.specs.declared.key.VoteKey.{VoteKey}
 use Rattle.voter.proofs.Saying.{PutFirst, first_put, same_view, some_there}
@@ -39,8 +39,8 @@ first_more f (y ∷ ys) x =
 -- ---- what is settled
 
 pub settled_with : (old new : List (VoteKey × Commitment)) (notes : List Note) (note : Note)
-    (k : VoteKey) (c : Commitment) → HasSettled notes old → settles note ≡ Some (k, c)
-    → PutFirst old new k c → HasSettled (notes ++ note ∷ []) new
+    (k : VoteKey) (c : Commitment) → HasFirstSettled notes old → settles note ≡ Some (k, c)
+    → PutFirst old new k c → HasFirstSettled (notes ++ note ∷ []) new
 settled_with old new notes note k c has is puts q =
     first_put old new k c puts q
     ∙ (ap (λ (o : Option Commitment). option_or o (if same_key q k then Some c else None)) (has q)
@@ -51,7 +51,7 @@ settled_with old new notes note k c has is puts q =
     ∙ sym (first_more (settled_at q) notes note)))
 
 pub settled_same : (es : List (VoteKey × Commitment)) (notes : List Note) (note : Note)
-    → HasSettled notes es → settles note ≡ None → HasSettled (notes ++ note ∷ []) es
+    → HasFirstSettled notes es → settles note ≡ None → HasFirstSettled (notes ++ note ∷ []) es
 settled_same es notes note has none q =
     has q
     ∙ (sym (or_none (first_some (settled_at q) notes))

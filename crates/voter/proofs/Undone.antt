@@ -20,9 +20,9 @@ use Rattle.cw_rules.specs.Owed.{all_nullified, ballot_vote, cert_owed, closes, f
 use Rattle.cw_rules.specs.Rules.{Rules, genesis_commitment}
 use Rattle.voter.specs.Facts.{HasSaid, said_at}
 use Rattle.note_scans.specs.Keys.{in_view, key_of, keyed}
-use Rattle.voter.specs.Known.{Known, state_of, vote_rules}
+use Rattle.voter.specs.Known.{Known, known_state, vote_rules}
 use Rattle.voter.specs.Owing.{is_turn, is_uncertified, is_votable, owes_finalize, owes_notarize}
-use Rattle.voter.specs.Waiting.{AreWaiting, is_done, is_done_by, is_uncertified_by, undone, with_named}
+use Rattle.voter.specs.Waiting.{AreWaiting, owes_nothing, is_done_by, is_uncertified_by, undone, with_named}
 use Rattle.note_scans.specs.declared.key.VoteKey.{VoteKey}
 use Rattle.voter.proofs.Certified.{cert_where}
 use Rattle.voter.proofs.Once.{append_nil, filter_same_test, taken_named}
@@ -92,18 +92,18 @@ certified_over (note ∷ notes) p h =
 
 -- what is certified is of no view that the member is in
 viewed_left : (x : Epochs) (id : ℕ) (notes : List Note) (p : Proposal)
-    → (p.view == view_of notes p.epoch) ≡ true → is_done x id notes p ≡ false
+    → (p.view == view_of notes p.epoch) ≡ true → owes_nothing x id notes p ≡ false
 viewed_left x id notes p h =
     go (eqb-true p.view (view_of notes p.epoch) h) (has_certified notes p) refl
   where
     go : p.view ≡ view_of notes p.epoch → (b : Bool) → has_certified notes p ≡ b
-        → is_done x id notes p ≡ false
+        → owes_nothing x id notes p ≡ false
     go view true e = let over = certified_over notes p e in absurd (omega (arith, over, view))
     go view false e =
         ap (λ b. b && not (is_member x p.epoch id && not (has_closed notes p.epoch p.view))) e
 
 pub notarize_left : (r : Rules) (id : ℕ) (s : State) (p : Proposal)
-    → is_some (notarize_owed r id s p) ≡ true → is_done r.epochs id s.notes p ≡ false
+    → is_some (notarize_owed r id s p) ≡ true → owes_nothing r.epochs id s.notes p ≡ false
 notarize_left r id s p h =
     viewed_left r.epochs id s.notes p
     (second (p.epoch == epoch_of s.notes) (p.view == view_of s.notes p.epoch)
@@ -120,7 +120,7 @@ notarize_left r id s p h =
     second false b c d e f g k = cc
 
 pub votable_left : (t : Known) (p : Proposal) → is_votable t p ≡ true
-    → is_done t.epochs t.id t.notes p ≡ false
+    → owes_nothing t.epochs t.id t.notes p ≡ false
 unfolding is_votable is_turn
 votable_left t p h =
     viewed_left t.epochs t.id t.notes p
@@ -136,7 +136,7 @@ votable_left t p h =
     second false b c d e f k = cc
 
 pub finalize_left : (r : Rules) (id : ℕ) (s : State) (p : Proposal)
-    → is_some (finalize_owed r id s p) ≡ true → is_done r.epochs id s.notes p ≡ false
+    → is_some (finalize_owed r id s p) ≡ true → owes_nothing r.epochs id s.notes p ≡ false
 finalize_left r id s p h =
     by (has_certified s.notes p) (is_member r.epochs p.epoch id)
     (not (has_closed s.notes p.epoch p.view)) (sym (finalize_where r id s p) ∙ h)
@@ -148,17 +148,17 @@ finalize_left r id s p h =
     by false b c k = refl
 
 pub owes_notarize_left : (hash : List ℕ → Digest32) (t : Known) (p : Proposal)
-    → owes_notarize hash t p ≡ true → is_done t.epochs t.id t.notes p ≡ false
+    → owes_notarize hash t p ≡ true → owes_nothing t.epochs t.id t.notes p ≡ false
 unfolding owes_notarize
-owes_notarize_left hash t p h = notarize_left (vote_rules hash t.epochs) t.id (state_of t) p h
+owes_notarize_left hash t p h = notarize_left (vote_rules hash t.epochs) t.id (known_state t) p h
 
 pub owes_finalize_left : (hash : List ℕ → Digest32) (t : Known) (p : Proposal)
-    → owes_finalize hash t p ≡ true → is_done t.epochs t.id t.notes p ≡ false
+    → owes_finalize hash t p ≡ true → owes_nothing t.epochs t.id t.notes p ≡ false
 unfolding owes_finalize
-owes_finalize_left hash t p h = finalize_left (vote_rules hash t.epochs) t.id (state_of t) p h
+owes_finalize_left hash t p h = finalize_left (vote_rules hash t.epochs) t.id (known_state t) p h
 
 pub uncertified_left : (x : Epochs) (id : ℕ) (notes : List Note) (p : Proposal)
-    → is_uncertified notes p ≡ true → is_done x id notes p ≡ false
+    → is_uncertified notes p ≡ true → owes_nothing x id notes p ≡ false
 uncertified_left x id notes p h =
     ap (λ b. b && not (is_member x p.epoch id && not (has_closed notes p.epoch p.view)))
     (not_false (has_certified notes p)
@@ -173,7 +173,7 @@ cert_more notes note v h =
     ∙ ap (λ b. b || list_any (is_cert v) (note ∷ [])) h
 
 done_more : (x : Epochs) (id : ℕ) (notes : List Note) (note : Note) (p : Proposal)
-    → is_done x id notes p ≡ true → is_done x id (notes ++ note ∷ []) p ≡ true
+    → owes_nothing x id notes p ≡ true → owes_nothing x id (notes ++ note ∷ []) p ≡ true
 done_more x id notes note p h =
     ap
     (λ b. b
@@ -204,7 +204,7 @@ module _ (x : Epochs) (id : ℕ) (notes : List Note) (said : List (VoteKey × Bo
   certified_by : (p : Proposal) → said_at (keyed 3 p) said ≡ has_certified notes p
   certified_by p = has (keyed 3 p) ∙ said_certified p notes
 
-  done_by : (p : Proposal) → is_done_by x id said p ≡ is_done x id notes p
+  done_by : (p : Proposal) → is_done_by x id said p ≡ owes_nothing x id notes p
   done_by p =
       ap
       (λ b. b
@@ -232,15 +232,16 @@ module _ (x : Epochs) (id : ℕ) (notes : List Note) (said : List (VoteKey × Bo
       ∙ taken_named same_vote same_vote-true (has_cert was) (has_cert notes) h old xs o e)
 
   proposals_left : (old xs new : List Proposal) (was : List Note) (o : Option Proposal)
-      → ((p : Proposal) → is_done x id was p ≡ true → is_done x id notes p ≡ true)
-      → old ≡ undone same_proposal (is_done x id was) xs
+      → ((p : Proposal) → owes_nothing x id was p ≡ true → owes_nothing x id notes p ≡ true)
+      → old ≡ undone same_proposal (owes_nothing x id was) xs
       → new ≡ filter (λ p. not (is_done_by x id said p)) (with_named same_proposal old o)
-      → new ≡ undone same_proposal (is_done x id notes) (xs ++ cons_option o [])
+      → new ≡ undone same_proposal (owes_nothing x id notes) (xs ++ cons_option o [])
   proposals_left old xs new was o h e f =
       f
-      ∙ (filter_same_test (λ p. not (is_done_by x id said p)) (λ p. not (is_done x id notes p))
+      ∙ (filter_same_test (λ p. not (is_done_by x id said p)) (λ p. not (owes_nothing x id notes p))
       (λ p. ap not (done_by p)) (with_named same_proposal old o)
-      ∙ taken_named same_proposal same_proposal-true (is_done x id was) (is_done x id notes) h old
+      ∙ taken_named same_proposal same_proposal-true (owes_nothing x id was)
+      (owes_nothing x id notes) h old
       xs o e)
 
 map_more : {X Y : Type 0} (f : X → Y) (xs : List X) (x : X)
@@ -267,7 +268,7 @@ came_waiting x id notes ballots b v said vc vn vc' pc pn pc' has are is e f = re
   of_came =
       proposals_left x id notes said has pc (filter_map (λ a. proposal_of (ballot_vote a)) ballots)
       pc' notes (proposal_of v) (λ w h. h) are.of_came f
-      ∙ ap (undone same_proposal (is_done x id notes))
+      ∙ ap (undone same_proposal (owes_nothing x id notes))
       (ap
       (λ w. filter_map (λ a. proposal_of (ballot_vote a)) ballots
       ++ cons_option (proposal_of w) [])
@@ -301,12 +302,12 @@ note_waiting x id notes ballots note said vc vn vc' vn' pc pn pc' pn' has are e 
   of_came =
       proposals_left x id now said has pc (filter_map (λ a. proposal_of (ballot_vote a)) ballots)
       pc' notes None (done_more x id notes note) are.of_came g
-      ∙ ap (undone same_proposal (is_done x id now))
+      ∙ ap (undone same_proposal (owes_nothing x id now))
       (append_nil (filter_map (λ a. proposal_of (ballot_vote a)) ballots));
   of_notes =
       proposals_left x id now said has pn (filter_map note_proposal notes) pn' notes
       (note_proposal note) (done_more x id notes note) are.of_notes h
-      ∙ ap (undone same_proposal (is_done x id now))
+      ∙ ap (undone same_proposal (owes_nothing x id now))
       (sym (filter_map-append note_proposal notes (note ∷ [])));
 }
   where

@@ -32,8 +32,8 @@ fact_of (Note.Certified p) = Some (keyed 3 p)
 fact_of _ = None
 
 -- the note says it
-abbrev pub says : VoteKey → Note → Bool
-says q note = option_map_or (same_key q) (fact_of note) false
+abbrev pub note_says : VoteKey → Note → Bool
+note_says q note = option_map_or (same_key q) (fact_of note) false
 
 -- the map says it
 abbrev pub said_at : VoteKey → List (VoteKey × Bool) → Bool
@@ -41,7 +41,7 @@ said_at q entries = unwrap_or (lookup (same_key q) entries) false
 
 -- a map says what the notes say
 abbrev pub HasSaid : List Note → List (VoteKey × Bool) → Type 0
-HasSaid notes entries = (q : VoteKey) → said_at q entries ≡ list_any (says q) notes
+HasSaid notes entries = (q : VoteKey) → said_at q entries ≡ list_any (note_says q) notes
 
 -- the map has the key of what a note says
 abbrev pub IsThere : Note → List (VoteKey × Bool) → Type 0
@@ -67,8 +67,8 @@ settled_at q note =
     option_and_then (λ e. if same_key q e.0 then Some e.1 else None) (settles note)
 
 -- a map has what is first settled, and nothing else
-abbrev pub HasSettled : List Note → List (VoteKey × Commitment) → Type 0
-HasSettled notes entries =
+abbrev pub HasFirstSettled : List Note → List (VoteKey × Commitment) → Type 0
+HasFirstSettled notes entries =
     (q : VoteKey) → lookup (same_key q) entries ≡ first_some (settled_at q) notes
 
 -- ---- what is over
@@ -111,7 +111,7 @@ entered_with epoch note = option_map_or (λ e. max epoch e) (entered note) epoch
 -- the maps and the numbers say what the notes say
 pub record HaveFacts (notes : List Note) (facts : Facts) : Type 0 where
   pub saying : HasSaid notes facts.said.by_key.entries
-  pub settling : HasSettled notes facts.settled.by_key.entries
+  pub settling : HasFirstSettled notes facts.settled.by_key.entries
   pub ending_views : HasEnded notes facts.ended.by_epoch.entries
   pub running : HaveRuns notes facts.runs.by_end.entries
   pub entering : facts.epoch ≡ epoch_of notes

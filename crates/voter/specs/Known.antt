@@ -28,8 +28,8 @@ abbrev pub unknowing : Epochs → ℕ → Known
 unknowing x id = record { epochs = x; id = id; notes = []; ballots = []; own = [] }
 
 -- one more note
-abbrev pub with_note : Known → Note → Known
-with_note t note = record {
+abbrev pub knows_note : Known → Note → Known
+knows_note t note = record {
   epochs = t.epochs;
   id = t.id;
   notes = t.notes ++ note ∷ [];
@@ -75,12 +75,12 @@ own_part x =
     Row x.commitment (record { shard = []; index = x.index; leaf_count = 0; siblings = [] })
 
 -- what came
-abbrev pub came_of : Known → Came
-came_of t = record { ballots = t.ballots; parts = map own_part t.own; wishes = [] }
+abbrev pub known_came : Known → Came
+known_came t = record { ballots = t.ballots; parts = map own_part t.own; wishes = [] }
 
 -- the state of a member that knows this
-abbrev pub state_of : Known → State
-state_of t = record { notes = t.notes; came = came_of t; given = [] }
+abbrev pub known_state : Known → State
+known_state t = record { notes = t.notes; came = known_came t; given = [] }
 
 -- what a vote or a certificate leaves that may be accepted: it goes to the end where it isn't there
 abbrev pub with_ballot : Known → Ballot → Known
@@ -88,7 +88,7 @@ with_ballot t x = record {
   epochs = t.epochs;
   id = t.id;
   notes = t.notes;
-  ballots = (take_ballot (came_of t) true x).ballots;
+  ballots = (take_ballot (known_came t) true x).ballots;
   own = t.own;
 }
 
@@ -100,7 +100,7 @@ unless_empty (x ∷ xs) = Some (x ∷ xs)
 -- the members of its epoch that are known to have signed the vote, rising, if there are some
 abbrev pub known_signers : Known → Vote → Option (List ℕ)
 known_signers t v =
-    unless_empty (filter (knows t.id (state_of t) v) (members_in t.epochs (vote_epoch v)))
+    unless_empty (filter (knows t.id (known_state t) v) (members_in t.epochs (vote_epoch v)))
 
 -- ---- what came
 

@@ -12,31 +12,31 @@ use Rattle.note_scans.specs.Keys.{key_of, same_key}
 use Rattle.note_scans.specs.declared.key.VoteKey.{VoteKey}
 
 -- these signers are a list of the vote's
-abbrev pub is_listed : List (VoteKey × BTreeSet (Vec ℕ Global)) → Vote → List ℕ → Bool
-is_listed lists v signers =
+abbrev pub has_signers_list : List (VoteKey × BTreeSet (Vec ℕ Global)) → Vote → List ℕ → Bool
+has_signers_list lists v signers =
     option_map_or (λ s. list_any (λ l. bytes_eq signers l.items) s.keys)
     (lookup (same_key (key_of v)) lists) false
 
 module _ (old new : List (VoteKey × BTreeSet (Vec ℕ Global))) where
   -- each vote has the lists that it had
   abbrev pub AreSameLists : Type 0
-  AreSameLists = (v : Vote) (l : List ℕ) → is_listed new v l ≡ is_listed old v l
+  AreSameLists = (v : Vote) (l : List ℕ) → has_signers_list new v l ≡ has_signers_list old v l
 
   -- and one vote one list more
   abbrev pub HaveListed : Vote → List ℕ → Type 0
   HaveListed w k =
       (v : Vote) (l : List ℕ)
-      → is_listed new v l ≡ (is_listed old v l || (same_vote v w && bytes_eq l k))
+      → has_signers_list new v l ≡ (has_signers_list old v l || (same_vote v w && bytes_eq l k))
 
   -- and one vote not that list
   abbrev pub HaveUnlisted : Vote → List ℕ → Type 0
   HaveUnlisted w k =
       (v : Vote) (l : List ℕ)
-      → is_listed new v l ≡ (is_listed old v l && not (same_vote v w && bytes_eq l k))
+      → has_signers_list new v l ≡ (has_signers_list old v l && not (same_vote v w && bytes_eq l k))
 
 -- the lists are those of the certificates that came
 abbrev pub HasLists : List Ballot → List (VoteKey × BTreeSet (Vec ℕ Global)) → Type 0
 HasLists ballots lists =
     (v : Vote) (l : List ℕ)
-    → is_listed lists v l
+    → has_signers_list lists v l
     ≡ list_any (same_ballot (Many (record { vote = v; signers = l }))) ballots

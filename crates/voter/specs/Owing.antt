@@ -14,27 +14,28 @@ use Rattle.cw_types.specs.declared.vote.Vote.TheVariants.{Notarize}
 use Rattle.cw_rules.specs.Accepted.{first_some}
 use Rattle.cw_rules.specs.Notes.{epoch_of, has_cert, has_certified, nullified, settled, view_of}
 use Rattle.cw_rules.specs.Owed as rule
-use Rattle.voter.specs.Known.{Known, vote_rules, state_of}
+use Rattle.voter.specs.Known.{Known, vote_rules, known_state}
 
 -- the certificate that is owed
-abbrev pub cert_owed : (List ℕ → Digest32) → Known → Option Note
-cert_owed hash t =
-    first_some (rule.cert_owed (vote_rules hash t.epochs) t.id (state_of t))
-    (rule.named_votes (state_of t))
+abbrev pub first_cert_owed : (List ℕ → Digest32) → Known → Option Note
+first_cert_owed hash t =
+    first_some (rule.cert_owed (vote_rules hash t.epochs) t.id (known_state t))
+    (rule.named_votes (known_state t))
 
 -- whether one of this vote is owed
 unfoldable pub owes_cert : (List ℕ → Digest32) → Known → Vote → Bool
-owes_cert hash t v = is_some (rule.cert_owed (vote_rules hash t.epochs) t.id (state_of t) v)
+owes_cert hash t v = is_some (rule.cert_owed (vote_rules hash t.epochs) t.id (known_state t) v)
 
 -- the vote to notarize that is owed
-abbrev pub notarize_owed : (List ℕ → Digest32) → Known → Option Note
-notarize_owed hash t =
-    first_some (rule.notarize_owed (vote_rules hash t.epochs) t.id (state_of t))
-    (rule.named_proposals (state_of t))
+abbrev pub first_notarize_owed : (List ℕ → Digest32) → Known → Option Note
+first_notarize_owed hash t =
+    first_some (rule.notarize_owed (vote_rules hash t.epochs) t.id (known_state t))
+    (rule.named_proposals (known_state t))
 
 -- whether one of this proposal is owed
 unfoldable pub owes_notarize : (List ℕ → Digest32) → Known → Proposal → Bool
-owes_notarize hash t p = is_some (rule.notarize_owed (vote_rules hash t.epochs) t.id (state_of t) p)
+owes_notarize hash t p = is_some
+    (rule.notarize_owed (vote_rules hash t.epochs) t.id (known_state t) p)
 
 -- it is the proposal of the leader of the member's view, in which the member hasn't voted
 unfoldable pub is_turn : Known → Proposal → Bool
@@ -52,22 +53,23 @@ is_votable t p = is_turn t p && rule.all_nullified t.notes p.epoch p.parent p.vi
 -- the member can vote for it over the payload that is settled for its parent view
 unfoldable pub is_ready : (List ℕ → Digest32) → Known → Proposal → Bool
 is_ready hash t p =
-    option_map_or (rule.is_ready (vote_rules hash t.epochs) t.id (state_of t) p)
+    option_map_or (rule.is_ready (vote_rules hash t.epochs) t.id (known_state t) p)
     (settled (genesis_commitment hash) t.notes p.epoch p.parent) false
 
 -- the vote to finalize that is owed
-abbrev pub finalize_owed : (List ℕ → Digest32) → Known → Option Note
-finalize_owed hash t =
-    first_some (rule.finalize_owed (vote_rules hash t.epochs) t.id (state_of t))
-    (rule.named_proposals (state_of t))
+abbrev pub first_finalize_owed : (List ℕ → Digest32) → Known → Option Note
+first_finalize_owed hash t =
+    first_some (rule.finalize_owed (vote_rules hash t.epochs) t.id (known_state t))
+    (rule.named_proposals (known_state t))
 
 -- whether one of this proposal is owed
 unfoldable pub owes_finalize : (List ℕ → Digest32) → Known → Proposal → Bool
-owes_finalize hash t p = is_some (rule.finalize_owed (vote_rules hash t.epochs) t.id (state_of t) p)
+owes_finalize hash t p = is_some
+    (rule.finalize_owed (vote_rules hash t.epochs) t.id (known_state t) p)
 
 -- the vote that is owed: one to notarize goes first
 abbrev pub vote_owed : (List ℕ → Digest32) → Known → Option Note
-vote_owed hash t = option_or (notarize_owed hash t) (finalize_owed hash t)
+vote_owed hash t = option_or (first_notarize_owed hash t) (first_finalize_owed hash t)
 
 -- the proposal is notarized and isn't certified
 abbrev pub is_uncertified : List Note → Proposal → Bool
@@ -77,13 +79,13 @@ is_uncertified notes p = has_cert notes (Notarize p) && not (has_certified notes
 unfoldable pub is_candidate : Known → (Proposal → Bool) → ℕ × Proposal → Bool
 is_candidate t passes at =
     passes at.1
-    && not (list_any (same_proposal at.1) (take at.0 (rule.named_proposals (state_of t))))
+    && not (list_any (same_proposal at.1) (take at.0 (rule.named_proposals (known_state t))))
 
 -- the proposals that pass, each once, in the order in which they are first named
 abbrev pub candidates : Known → (Proposal → Bool) → List Proposal
 candidates t passes =
     map (λ at. at.1)
-    (filter (is_candidate t passes) (enumerate_from 0 (rule.named_proposals (state_of t))))
+    (filter (is_candidate t passes) (enumerate_from 0 (rule.named_proposals (known_state t))))
 
 -- those that are notarized and not certified
 abbrev pub uncertified : Known → List Proposal

@@ -13,10 +13,10 @@ abbrev pub own_key : Commitment → ℕ → VoteKey
 own_key c index = record { kind = 8; epoch = index; view = 0; parent = 0; payload = c }
 
 -- the chunk has that key
-abbrev pub is_keyed : VoteKey → OwnChunk → Bool
-is_keyed q x = same_key q (own_key x.commitment x.index)
+abbrev pub is_own_keyed : VoteKey → OwnChunk → Bool
+is_own_keyed q x = same_key q (own_key x.commitment x.index)
 
 -- a map has the keys of the chunks that came, and no others
 abbrev pub HasOwn : List OwnChunk → List (VoteKey × Bool) → Type 0
 HasOwn own entries =
-    (q : VoteKey) → is_some (lookup (same_key q) entries) ≡ list_any (is_keyed q) own
+    (q : VoteKey) → is_some (lookup (same_key q) entries) ≡ list_any (is_own_keyed q) own

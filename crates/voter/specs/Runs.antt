@@ -31,7 +31,7 @@ abbrev pub nullified_from : List Note → ℕ → ℕ → ℕ
 nullified_from notes epoch view = pass_from (nullified notes epoch) view
 
 -- all from the first to the last pass, and neither the one before nor the one behind them does
-pub record IsRun (passes : ℕ → Bool) (first last : ℕ) : Type 0 where
+pub record IsWholeRun (passes : ℕ → Bool) (first last : ℕ) : Type 0 where
   pub ordered : first ≤ last
   pub within : pass_from passes (suc last) ≡ first
   pub ended : passes (suc last) ≡ false
@@ -46,7 +46,7 @@ run_at epoch view entries =
 pub record AreEnds (passes : ℕ → Bool) (at : ℕ → Run) : Type 0 where
   pub firsts : (n : ℕ) → passes n ≡ true → passes (suc n) ≡ false
       → (at n).first ≡ pass_from passes n
-  pub lasts : (n : ℕ) → passes n ≡ true → pass_from passes n ≡ n → IsRun passes n (at n).last
+  pub lasts : (n : ℕ) → passes n ≡ true → pass_from passes n ≡ n → IsWholeRun passes n (at n).last
 
 -- the map has a key for each nullified view, and the runs of each epoch at their ends
 pub record HaveRuns (notes : List Note) (entries : List (VoteKey × Run)) : Type 0 where

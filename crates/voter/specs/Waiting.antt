@@ -15,13 +15,13 @@ use Rattle.note_scans.specs.Keys.{in_view, keyed}
 use Rattle.note_scans.specs.declared.key.VoteKey.{VoteKey}
 
 -- each element once, where it first stands
-abbrev pub once : {X : Type 0} → (X → X → Bool) → List X → List X
-once same [] = []
-once same (x ∷ xs) = x ∷ filter (λ y. not (same y x)) (once same xs)
+abbrev pub without_repeats : {X : Type 0} → (X → X → Bool) → List X → List X
+without_repeats same [] = []
+without_repeats same (x ∷ xs) = x ∷ filter (λ y. not (same y x)) (without_repeats same xs)
 
 -- those that aren't done, each once
 abbrev pub undone : {X : Type 0} → (X → X → Bool) → (X → Bool) → List X → List X
-undone same done xs = filter (λ x. not (done x)) (once same xs)
+undone same done xs = filter (λ x. not (done x)) (without_repeats same xs)
 
 -- one more at the end, where it isn't there
 abbrev pub with_new : {X : Type 0} → (X → X → Bool) → List X → X → List X
@@ -34,8 +34,8 @@ with_named same xs (Some x) = with_new same xs x
 
 -- the proposal is certified, and no vote of the member's to finalize it is owed: nothing is owed of
 -- it any more
-abbrev pub is_done : Epochs → ℕ → List Note → Proposal → Bool
-is_done x id notes p =
+abbrev pub owes_nothing : Epochs → ℕ → List Note → Proposal → Bool
+owes_nothing x id notes p =
     has_certified notes p
     && not (is_member x p.epoch id && not (has_closed notes p.epoch p.view))
 
@@ -55,7 +55,7 @@ pub record AreWaiting (x : Epochs) (id : ℕ) (notes : List Note) (ballots : Lis
   pub votes_of_came : votes_came ≡ undone same_vote (has_cert notes) (map ballot_vote ballots)
   pub votes_of_notes : votes_noted ≡ undone same_vote (has_cert notes) (filter_map note_vote notes)
   pub of_came : came
-      ≡ undone same_proposal (is_done x id notes)
+      ≡ undone same_proposal (owes_nothing x id notes)
       (filter_map (λ b. proposal_of (ballot_vote b)) ballots)
   pub of_notes : noted
-      ≡ undone same_proposal (is_done x id notes) (filter_map note_proposal notes)
+      ≡ undone same_proposal (owes_nothing x id notes) (filter_map note_proposal notes)

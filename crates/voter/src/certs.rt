@@ -11,7 +11,7 @@ ghost use Rattle.cw_types.specs.Epochs.{is_enough, members_in};
 ghost use Rattle.cw_types.specs.Votes.{vote_epoch, well_formed};
 ghost use Rattle.cw_types.specs.declared.note.Note.{Note};
 ghost use Rattle.note_scans.specs.Countable.{is_countable};
-ghost use Rattle.voter.specs.Known.{ballot_signers, is_cert_for, known_signers, state_of};
+ghost use Rattle.voter.specs.Known.{ballot_signers, is_cert_for, known_signers, known_state};
 ghost use Rattle.voter.specs.Known.{vote_rules};
 ghost use Rattle.voter.specs.Owing as owing;
 ghost use Rattle.voter.specs.Standing.{are_signers};
@@ -53,7 +53,7 @@ impl<H> Tally<H> {
     // How many members are known to have signed the vote.
     fn count_known(&self, vote: &Vote) -> usize
         ensures { result ≡ length
-            (filter (rule.knows self.now.id (state_of self.now) vote.now)
+            (filter (rule.knows self.now.id (known_state self.now) vote.now)
             (members_in self.now.epochs (vote_epoch vote.now))) }
     {
         match self.signers(vote) {
@@ -65,7 +65,7 @@ impl<H> Tally<H> {
     // The members that are known to have signed the vote, rising.
     fn known(&self, alloc: Global, vote: &Vote) -> Result<Vec<u16>, NoMemory>
         ensures { IfOk result (λ known. known.items
-            ≡ filter (rule.knows self.now.id (state_of self.now) vote.now)
+            ≡ filter (rule.knows self.now.id (known_state self.now) vote.now)
             (members_in self.now.epochs (vote_epoch vote.now))) }
     {
         match self.signers(vote) {
@@ -89,7 +89,7 @@ impl<H> Tally<H> {
         ensures { result ≡ (not (has_cert self.now.notes vote.now)
             && (is_some (find (is_cert_for vote.now) self.now.ballots)
             || is_enough self.now.epochs (vote_epoch vote.now)
-            (length (filter (rule.knows self.now.id (state_of self.now) vote.now)
+            (length (filter (rule.knows self.now.id (known_state self.now) vote.now)
             (members_in self.now.epochs (vote_epoch vote.now)))))) }
     {
         !self.has_cert(vote) && (self.has_arrived(vote) || self.is_signed(vote))
@@ -116,7 +116,7 @@ impl<H> Tally<H> {
     // Whether enough members of its epoch are known to have signed the vote.
     fn is_signed(&self, vote: &Vote) -> bool
         ensures { result ≡ is_enough self.now.epochs (vote_epoch vote.now)
-            (length (filter (rule.knows self.now.id (state_of self.now) vote.now)
+            (length (filter (rule.knows self.now.id (known_state self.now) vote.now)
             (members_in self.now.epochs (vote_epoch vote.now)))) }
     {
         self.committees
@@ -135,7 +135,7 @@ impl<H: Hasher<Digest = Digest32>> Tally<H> {
     // The first vote of which a certificate is owed.
     fn first_certifiable(&self) -> Option<Vote>
         ensures { result ≡ find (owing.owes_cert H.digest_of self.now)
-            (rule.named_votes (state_of self.now)) }
+            (rule.named_votes (known_state self.now)) }
     {
         self.waiting
             .votes_came
@@ -148,7 +148,7 @@ impl<H: Hasher<Digest = Digest32>> Tally<H> {
     // The same: it may be counted.
     fn first_owing(&self) -> Option<Vote>
         ensures value { result ≡ find (owing.owes_cert H.digest_of self.now)
-            (rule.named_votes (state_of self.now)) }
+            (rule.named_votes (known_state self.now)) }
         ensures formed { IfSome result (λ vote. IsTrue (well_formed vote)) }
     {
         let _ = &self.notes;
@@ -159,7 +159,7 @@ impl<H: Hasher<Digest = Digest32>> Tally<H> {
     fn chosen(&self, alloc: Global, vote: &Vote) -> Result<Items<u16>, NoMemory>
         ensures { IfOk result (λ signers. signers
             ≡ unwrap_or (option_map ballot_signers (find (is_cert_for vote.now) self.now.ballots))
-            (rule.known (vote_rules H.digest_of self.now.epochs) self.now.id (state_of self.now)
+            (rule.known (vote_rules H.digest_of self.now.epochs) self.now.id (known_state self.now)
             vote.now)) }
     {
         let signers = match self.first_cert(vote) {
@@ -174,7 +174,7 @@ impl<H: Hasher<Digest = Digest32>> Tally<H> {
         ensures value { IfOk result
             (λ signers. signers ≡ unwrap_or
             (option_map ballot_signers (find (is_cert_for vote.now) self.now.ballots))
-            (rule.known (vote_rules H.digest_of self.now.epochs) self.now.id (state_of self.now)
+            (rule.known (vote_rules H.digest_of self.now.epochs) self.now.id (known_state self.now)
             vote.now)) }
         ensures signed { IfOk result
             (λ signers. IsTrue (are_signers self.now.epochs vote.now signers)) }
@@ -193,7 +193,7 @@ impl<H: Hasher<Digest = Digest32>> Tally<H> {
     /// are known, rising. It can be noted, and at most 65,535 members sign it.
     pub fn owed_cert(&self, alloc: Global) -> Result<Option<Cert>, NoMemory>
         ensures value { IfOk result
-            (λ owed. option_map Note.Cert owed ≡ owing.cert_owed H.digest_of self.now) }
+            (λ owed. option_map Note.Cert owed ≡ owing.first_cert_owed H.digest_of self.now) }
         ensures countable { IfOk result
             (λ owed. IfSome owed (λ cert. IsTrue (is_countable (Note.Cert cert)))) }
         ensures signed { IfOk result

@@ -24,7 +24,7 @@ ghost use Rattle.cw_rules.specs.Rules.{Chunk, Rules};
 ghost use Rattle.cw_rules.specs.declared.travel.Travel.TheVariants.{Chunked};
 ghost use Rattle.cw_rules.specs.Step.{nothing_came, with_handed, with_notes};
 ghost use Rattle.note_scans.specs.Countable.{is_countable};
-ghost use Rattle.voter.specs.Known.{Known, unknowing, with_ballot, with_note, with_own};
+ghost use Rattle.voter.specs.Known.{Known, unknowing, with_ballot, knows_note, with_own};
 ghost use Rattle.voter.specs.Owing as owing;
 ghost use Rattle.voter.specs.Standing.{IsTallyOf, best_from, is_formed, is_signed, with_came};
 
@@ -36,7 +36,7 @@ use cw_types::{Note, Proposal, Vote};
 pub fn tally_stands()
     ensures certificates { (hash : List ℕ → Digest32) (t : Known) (r : Rules) (s : State)
         → IsTallyOf hash t r s
-        → first_some (rule.cert_owed r t.id s) (rule.named_votes s) ≡ owing.cert_owed hash t }
+        → first_some (rule.cert_owed r t.id s) (rule.named_votes s) ≡ owing.first_cert_owed hash t }
     // of the proposals that aren't certified, the first whose block fits
     ensures certified { (hash : List ℕ → Digest32) (t : Known) (r : Rules) (s : State)
         → IsTallyOf hash t r s
@@ -53,11 +53,11 @@ pub fn tally_stands()
     ensures notarized { (hash : List ℕ → Digest32) (t : Known) (r : Rules) (s : State)
         → r.travel ≡ Chunked → IsTallyOf hash t r s
         → first_some (rule.notarize_owed r t.id s) (rule.named_proposals s)
-        ≡ owing.notarize_owed hash t }
+        ≡ owing.first_notarize_owed hash t }
     ensures finalized { (hash : List ℕ → Digest32) (t : Known) (r : Rules) (s : State)
         → IsTallyOf hash t r s
         → first_some (rule.finalize_owed r t.id s) (rule.named_proposals s)
-        ≡ owing.finalize_owed hash t }
+        ≡ owing.first_finalize_owed hash t }
 {}
 
 /// The parents that a tally gives lead to the one over which the rules propose: asked from the
@@ -102,7 +102,7 @@ pub fn standing_is_kept()
         (record { notes = []; came = nothing_came; given = given }) }
     ensures note { (hash : List ℕ → Digest32) (t : Known) (r : Rules) (s : State)
         → IsTallyOf hash t r s
-        → (note : Note) → IsTallyOf hash (with_note t note) r (with_notes s (note ∷ [])) }
+        → (note : Note) → IsTallyOf hash (knows_note t note) r (with_notes s (note ∷ [])) }
     ensures ballot { (hash : List ℕ → Digest32) (t : Known) (r : Rules) (s : State)
         → IsTallyOf hash t r s
         → (x : Ballot) → IsTallyOf hash (with_ballot t x) r
@@ -142,7 +142,7 @@ pub fn tally_is_countable<H>(tally: &Tally<H>)
 pub fn owed_is_countable()
     ensures certificates { (hash : List ℕ → Digest32) (t : Known) (owed : Note)
         → IsTrue (list_all is_countable t.notes) → IsTrue (list_all is_formed t.ballots)
-        → owing.cert_owed hash t ≡ Some owed → IsTrue (is_countable owed) }
+        → owing.first_cert_owed hash t ≡ Some owed → IsTrue (is_countable owed) }
     ensures votes { (hash : List ℕ → Digest32) (t : Known) (owed : Note)
         → IsTrue (list_all is_countable t.notes) → IsTrue (list_all is_formed t.ballots)
         → owing.vote_owed hash t ≡ Some owed → IsTrue (is_countable owed) }

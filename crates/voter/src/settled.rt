@@ -4,7 +4,7 @@ ghost use Rattle.std.specs.Prelude.{◌≡◌, ◌++◌, ◌==◌, ◌∷◌, []
 ghost use Rattle.std.specs.Prelude.{option_map};
 ghost use Rattle.cw_rules.specs.Notes as rule;
 ghost use Rattle.cw_types.specs.declared.note.Note.{Note as NoteValue};
-ghost use Rattle.voter.specs.Facts.{HasSettled, settled_by, settles};
+ghost use Rattle.voter.specs.Facts.{HasFirstSettled, settled_by, settles};
 ghost use Rattle.voter.specs.Settled.{last_some, later_settled};
 
 use crate::maps::put_first;
@@ -48,7 +48,7 @@ pub(crate) struct Settled {
 impl Settled {
     /// That of no notes.
     pub(crate) fn new(alloc: Global) -> Settled
-        ensures { HasSettled [] result.by_key.entries }
+        ensures { HasFirstSettled [] result.by_key.entries }
     {
         Settled {
             by_key: BTreeMap::new(alloc),
@@ -57,8 +57,8 @@ impl Settled {
 
     /// One note more. Where memory is short nothing changes.
     pub(crate) fn take(&mut self, note: &Note) -> Result<(), NoMemory>
-        ensures ok { (notes : List NoteValue) → HasSettled notes self.old.by_key.entries
-            → OnOk result (HasSettled (notes ++ note.now ∷ []) self.new.by_key.entries) }
+        ensures ok { (notes : List NoteValue) → HasFirstSettled notes self.old.by_key.entries
+            → OnOk result (HasFirstSettled (notes ++ note.now ∷ []) self.new.by_key.entries) }
         ensures err { OnErr result (self.new.by_key.entries ≡ self.old.by_key.entries) }
     {
         match settles(note) {
@@ -72,7 +72,7 @@ impl Settled {
 
     /// The payload that is settled for a view above 0.
     pub(crate) fn of_view(&self, epoch: u64, view: u64) -> Option<Commitment>
-        ensures { (notes : List NoteValue) → HasSettled notes self.now.by_key.entries
+        ensures { (notes : List NoteValue) → HasFirstSettled notes self.now.by_key.entries
             → result ≡ option_map (λ p. p.payload) (rule.settler notes epoch view) }
     {
         self.by_key.get(&VoteKey::in_view(6, epoch, view)).copied()
@@ -80,7 +80,7 @@ impl Settled {
 
     /// The greatest settled view of an epoch that is above 0 and below `top`, with its payload.
     pub(crate) fn last_below(&self, epoch: u64, top: u64) -> Option<(u64, Commitment)>
-        ensures { (notes : List NoteValue) → HasSettled notes self.now.by_key.entries
+        ensures { (notes : List NoteValue) → HasFirstSettled notes self.now.by_key.entries
             → result ≡ last_some (later_settled notes epoch) top }
     {
         if top <= 1 {
@@ -96,7 +96,7 @@ impl Settled {
 
     /// The payload that an epoch above 0 builds on.
     pub(crate) fn of_epoch(&self, epoch: u64) -> Option<Commitment>
-        ensures { (notes : List NoteValue) → HasSettled notes self.now.by_key.entries
+        ensures { (notes : List NoteValue) → HasFirstSettled notes self.now.by_key.entries
             → result ≡ option_map (λ e. e.1)
             (find (λ e. e.0 == epoch) (filter_map rule.entry notes)) }
     {

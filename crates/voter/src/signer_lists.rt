@@ -1,7 +1,7 @@
 //! The signers of the certificates of each vote.
 
 ghost use Rattle.std.specs.Prelude.{◌≡◌, [], OnErr, OnOk};
-ghost use Rattle.voter.specs.Lists.{AreSameLists, HaveListed, HaveUnlisted, is_listed};
+ghost use Rattle.voter.specs.Lists.{AreSameLists, HaveListed, HaveUnlisted, has_signers_list};
 
 use cw_base::NoMemory;
 use cw_types::Vote;
@@ -59,7 +59,7 @@ impl SignerLists {
 
     /// Whether there is a list of these signers of a vote.
     pub(crate) fn has(&self, vote: &Vote, signers: &[u16]) -> bool
-        ensures { result ≡ is_listed self.now.by_vote.entries vote.now signers.now }
+        ensures { result ≡ has_signers_list self.now.by_vote.entries vote.now signers.now }
     {
         match self.by_vote.get(&VoteKey::new(vote)) {
             Some(lists) => lists.contains(signers),

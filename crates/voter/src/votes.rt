@@ -14,7 +14,7 @@ ghost use Rattle.cw_types.specs.declared.note.Note.{Note};
 ghost use Rattle.cw_types.specs.declared.vote.Vote.{Vote};
 ghost use Rattle.note_scans.specs.Countable.{is_countable};
 ghost use Rattle.voter.specs.Heights.{kept_height};
-ghost use Rattle.voter.specs.Known.{is_own_at, state_of, vote_rules};
+ghost use Rattle.voter.specs.Known.{is_own_at, known_state, vote_rules};
 ghost use Rattle.voter.specs.Owing as owing;
 ghost use Rattle.voter.specs.Runs.{nullified_from};
 
@@ -177,7 +177,7 @@ impl<H: Hasher<Digest = Digest32>> Tally<H> {
     // Whether the chunk of the proposal's payload at the member's own place came.
     fn has_own_row(&self, proposal: &Proposal) -> bool
         ensures { result ≡ rule.has_own_row (vote_rules H.digest_of self.now.epochs) self.now.id
-            (state_of self.now) proposal.now }
+            (known_state self.now) proposal.now }
     {
         self.has_own_chunk(proposal)
     }
@@ -185,7 +185,7 @@ impl<H: Hasher<Digest = Digest32>> Tally<H> {
     // Whether the member can vote for the proposal over that parent.
     fn is_ready(&self, proposal: &Proposal, parent: &Commitment) -> bool
         ensures { result ≡ rule.is_ready (vote_rules H.digest_of self.now.epochs) self.now.id
-            (state_of self.now) proposal.now parent.now }
+            (known_state self.now) proposal.now parent.now }
     {
         (self.has_own_row(proposal) && self.is_payload_for(proposal, parent))
             || self.is_again(proposal, parent)
@@ -228,7 +228,7 @@ impl<H: Hasher<Digest = Digest32>> Tally<H> {
     // The first proposal that a vote to notarize is owed of.
     fn first_to_notarize(&self) -> Option<Proposal>
         ensures { result ≡ find (owing.owes_notarize H.digest_of self.now)
-            (rule.named_proposals (state_of self.now)) }
+            (rule.named_proposals (known_state self.now)) }
     {
         self.waiting
             .came
@@ -241,7 +241,7 @@ impl<H: Hasher<Digest = Digest32>> Tally<H> {
     // The first proposal that a vote to finalize is owed of.
     fn first_to_finalize(&self) -> Option<Proposal>
         ensures { result ≡ find (owing.owes_finalize H.digest_of self.now)
-            (rule.named_proposals (state_of self.now)) }
+            (rule.named_proposals (known_state self.now)) }
     {
         self.waiting
             .came
@@ -252,7 +252,7 @@ impl<H: Hasher<Digest = Digest32>> Tally<H> {
     }
 
     fn owed_notarize(&self) -> Option<Vote>
-        ensures { option_map Note.Vote result ≡ owing.notarize_owed H.digest_of self.now }
+        ensures { option_map Note.Vote result ≡ owing.first_notarize_owed H.digest_of self.now }
     {
         match self.first_to_notarize() {
             Some(proposal) => Some(Vote::Notarize(proposal)),
@@ -261,7 +261,7 @@ impl<H: Hasher<Digest = Digest32>> Tally<H> {
     }
 
     fn first_final(&self) -> Option<Vote>
-        ensures { option_map Note.Vote result ≡ owing.finalize_owed H.digest_of self.now }
+        ensures { option_map Note.Vote result ≡ owing.first_finalize_owed H.digest_of self.now }
     {
         match self.first_to_finalize() {
             Some(proposal) => Some(Vote::Finalize(proposal)),
@@ -293,7 +293,8 @@ impl<H: Hasher<Digest = Digest32>> Tally<H> {
     /// The vote to finalize that the member owes, whatever it owes beside: of the first proposal
     /// that is certified in a view that it hasn't closed. It can be noted. Takes no memory.
     pub fn owed_finalize(&self) -> Option<Vote>
-        ensures value { option_map Note.Vote result ≡ owing.finalize_owed H.digest_of self.now }
+        ensures value
+            { option_map Note.Vote result ≡ owing.first_finalize_owed H.digest_of self.now }
         ensures countable { IfSome result (λ vote. IsTrue (is_countable (Note.Vote vote))) }
     {
         let _ = &self.notes;

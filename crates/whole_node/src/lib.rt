@@ -3,10 +3,10 @@
 
 ghost use Rattle.std.specs.Prelude.{◌≡◌, ℕ, ◌<◌, ◌≤◌, IfErr, IfOk, true};
 ghost use Rattle.cw_rules.specs.Step as rule;
-ghost use Rattle.cw_rules_coded.specs.Coded.{uncut};
+ghost use Rattle.cw_rules_coded.specs.Coded.{uncut_rules};
 ghost use Rattle.cw_types.specs.Epochs.{single};
 ghost use Rattle.node.specs.Disks.{HasFound, WasRefused};
-ghost use Rattle.node.specs.State.{IsAtWork, IsNodeOf, rules_of, stepped};
+ghost use Rattle.node.specs.State.{IsAtWork, IsNodeOf, node_rules, stepped};
 
 use cw_base::{Digest32, Hasher, NoMemory, Strategy};
 use cw_types::{Application, Committees, StepOut};
@@ -60,7 +60,7 @@ pub fn start_whole<
     ensures node { IfOk result (λ r. IsNodeOf id (single n) backlog app r.0) }
     ensures start { IfOk result (λ r.
         stepped r.0.member r.1 ≡ rule.start
-        (uncut H.digest_of (single n) backlog (A.accepts app)) id r.0.member.frames) }
+        (uncut_rules H.digest_of (single n) backlog (A.accepts app)) id r.0.member.frames) }
     ensures at_work { IfOk result (λ r. IsAtWork D.state r.0) }
 
     // What it did to the disk, and what a crash at any moment leaves.
@@ -83,8 +83,8 @@ pub fn start_whole<
 pub fn goes_by_uncut<H: Hasher<Digest = Digest32>, D: Disk, A: Application + Drop>(
     node: &WholeNode<H, D, A>,
 )
-    ensures { rules_of H.digest_of A.accepts node.now
-        ≡ uncut H.digest_of node.now.epochs node.now.backlog (A.accepts node.now.app) }
+    ensures { node_rules H.digest_of A.accepts node.now
+        ≡ uncut_rules H.digest_of node.now.epochs node.now.backlog (A.accepts node.now.app) }
 {
     let _travel = node.travel();
 }

@@ -3,7 +3,7 @@ use Rattle.std.proofs.lemmas.Iterator.{YieldsList-from_slice, items_from_drains}
 use Rattle.cw_base.specs.declared.hash.Digest32.{Digest32}
 use Rattle.cw_coding.specs.Checked.{Checked}
 use Rattle.cw_coding.specs.Decoding.{AreDecodable, IsDecoding}
-use Rattle.use_coding.specs.Checked.{checked_of, hash}
+use Rattle.use_coding.specs.Checked.{checked_under, hash}
 use Rattle.use_coding.proofs.Left.{all_left}
 use Rattle.use_coding.proofs.restored.Goals as goal
 
@@ -14,7 +14,7 @@ returns-2 g c =
     let text = c.args.text.now in
     let root = c.in_ok-root.root in
     let pieces = c.in_ok-root.chunks.items in
-    let left = map (checked_of root) (drop c.args.lost pieces) in
+    let left = map (checked_under root) (drop c.args.lost pieces) in
     let d = c.in_ok-back.ensures.decoded in
     let given : map (λ x. x.now) d.0 ≡ left =
     items_from_drains d.0 (d.1.1.0, d.1.1.1, λ _. (d.1.0, d.1.1.2))
@@ -22,7 +22,7 @@ returns-2 g c =
     (c.iter.ensures.rest
     ∙ (c.deref-2.ensures.value
     ∙ (c.in_ok-checked.ensures
-    ∙ ap (λ ps. map (checked_of root) ps)
+    ∙ ap (λ ps. map (checked_under root) ps)
     (c.split_at.ensures.back ∙ ap (drop c.args.lost) c.deref.ensures.value))))) in
     let can : AreDecodable config root left =
     subst (λ (xs : List (Checked Digest32)). AreDecodable config root xs) given d.2 in

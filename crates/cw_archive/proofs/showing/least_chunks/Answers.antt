@@ -2,7 +2,7 @@ use Rattle.std.proofs.Common.{◌≡◌, ◌∙◌, ◌++◌, ◌∷◌, [], Bor
 use Rattle.std.proofs.lemmas.List.{length-map, map-append}
 use Rattle.cw_rules.specs.Rules.{Chunk}
 use Rattle.cw_coding.specs.Totals.{total_of}
-use Rattle.cw_archive.specs.Archived.{chunk_at}
+use Rattle.cw_archive.specs.Archived.{kept_chunk_at}
 use Rattle.cw_archive.proofs.IndexLemmas.{enough_answers, list_more}
 use Rattle.cw_archive.proofs.PutLemmas.{copied_none}
 use Rattle.cw_archive.proofs.showing.least_chunks.Goals as goal
@@ -10,7 +10,7 @@ use Rattle.cw_archive.proofs.showing.least_chunks.Goals.{in-Some+in_ok-push, in_
 
 pub returns-then-len-minimum : goal.returns-then-len-minimum
 returns-then-len-minimum c =
-    let f = chunk_at c.args.commitment.now c.args.kept.now in
+    let f = kept_chunk_at c.args.commitment.now c.args.kept.now in
     let same = ap length c.loop-index.invariant.0 in
     let long = length-map c.loop-index.chunks.items (λ x. x.now) in
     c.loop-index.invariant.0
@@ -19,7 +19,7 @@ returns-then-len-minimum c =
 
 pub loop-index-preserved : goal.loop-index-preserved
 loop-index-preserved c =
-    let f = chunk_at c.args.commitment.now c.args.kept.now in
+    let f = kept_chunk_at c.args.commitment.now c.args.kept.now in
     let now : List (Bor Chunk) → List Chunk = map (λ (x : Bor Chunk). x.now) in
     elim c.match-find.branch [
       | in-Some+in_ok-push w ↦

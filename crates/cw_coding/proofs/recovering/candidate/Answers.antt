@@ -1,5 +1,5 @@
 use Rattle.std.proofs.Common.{◌≡◌, ℕ, arith}
-use Rattle.cw_coding.specs.Layout.{layout, text_in}
+use Rattle.cw_coding.specs.Layout.{layout, counted_text}
 use Rattle.cw_coding.proofs.DecodingLaws.{fits_layout, same_text}
 use Rattle.cw_coding.proofs.RecoveringLaws.{length-text_in}
 use Rattle.cw_coding.proofs.recovering.candidate.Goals as goal
@@ -10,7 +10,7 @@ returns-in-Some g c =
     let os = c.args.originals.now in
     let count = c.in-Some.count in
     let some = rw c.minimum.ensures.value at c.in-Some.ensures in
-    let laid : layout k (text_in os count) ≡ os = some.2 in (
+    let laid : layout k (counted_text os count) ≡ os = some.2 in (
       some.0,
       some.1,
       laid,
@@ -21,7 +21,7 @@ returns-in-Some g c =
           c.prove_rows.ensures.originals c.requires.given.some
           (omega (arith, c.requires.given.total)) c.requires.given.used c.requires.given.within
           c.requires.given.long f c.requires.value in
-          same_text k other (text_in os count) os f.short
+          same_text k other (counted_text os count) os f.short
           (omega (arith, length-text_in os count some.1, some.0)) again laid,
     )
 

@@ -2,7 +2,7 @@ use Rattle.std.proofs.Common.{◌≡◌, ℕ, ◌+◌, ◌*◌, ◌<◌, IsTrue,
 use Rattle.cw_base.specs.Rows.{row_of}
 use Rattle.rs_code.specs.Rows.{joined}
 use Rattle.cw_tree.specs.Widths.{shard_len}
-use Rattle.cw_coding.specs.Layout.{row_at, text_in}
+use Rattle.cw_coding.specs.Layout.{row_at, counted_text}
 use Rattle.cw_coding.specs.Totals.{total_of}
 use Rattle.cw_coding.proofs.DecodingLaws.{no_width}
 use Rattle.cw_coding.proofs.Matches.{found_more}
@@ -34,7 +34,7 @@ pub returns-then-not-has_rows : goal.returns-then-not-has_rows
 returns-then-not-has_rows g c other f =
     let config = c.args.config.now in
     let given = c.args.given.now in
-    let text = text_in c.in_ok-originals.originals.items c.in-Some.count in
+    let text = counted_text c.in_ok-originals.originals.items c.in-Some.count in
     let some = rw c.deref.ensures.value at c.in-Some.ensures in
     let w : shard_len (length text) config.minimum ≡ given.width =
     ap (λ (n : ℕ). shard_len n config.minimum)
@@ -69,7 +69,7 @@ pub hash_others-requires-clause-given : goal.hash_others-requires-clause-given
 hash_others-requires-clause-given g c κs within =
     let config = c.args.config.now in
     let given = c.args.given.now in
-    let text = text_in c.in_ok-originals.originals.items c.in-Some.count in
+    let text = counted_text c.in_ok-originals.originals.items c.in-Some.count in
     let some = rw c.deref.ensures.value at c.in-Some.ensures in
     let w : shard_len (length text) config.minimum ≡ given.width =
     ap (λ (n : ℕ). shard_len n config.minimum)
@@ -132,7 +132,7 @@ returns g c =
     let config = c.args.config.now in
     let given = c.args.given.now in
     let laid = c.in_ok-originals.originals.items in
-    let text = text_in laid c.in-Some.count in
+    let text = counted_text laid c.in-Some.count in
     let some = rw c.deref.ensures.value at c.in-Some.ensures in
     let short = length-text_in laid c.in-Some.count some.1 in
     let w : shard_len (length text) config.minimum ≡ given.width =

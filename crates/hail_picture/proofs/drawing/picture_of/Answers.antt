@@ -4,7 +4,7 @@ use Rattle.cw_types.specs.Block.{Block}
 use Rattle.cw_types.specs.Encoding.{block_bytes}
 use Rattle.cw_rules.specs.Report.{Entry}
 use Rattle.cw_rules.specs.World.{Line}
-use Rattle.hail_script.specs.Grammar.{marks}
+use Rattle.hail_script.specs.Grammar.{faulty_marks}
 use Rattle.run_picture.specs.Picture.{picture}
 use Rattle.run_picture.specs.Steps.{Step}
 use Rattle.hail_picture.specs.Drawing.{steps_of}
@@ -26,11 +26,12 @@ returns g c =
     c.as_slice-2.ensures in
     subst
     (λ (d : List Digest32). IfOk c.picture.result
-    (λ text. text.items ≡ picture (marks s.lines s.committees.total) (steps_of s.lines r.steps) d))
+    (λ text. text.items
+    ≡ picture (faulty_marks s.lines s.committees.total) (steps_of s.lines r.steps) d))
     chain
     (subst
     (λ (t : List Step). IfOk c.picture.result
-    (λ text. text.items ≡ picture (marks s.lines s.committees.total) t c.deref-3.result.now))
+    (λ text. text.items ≡ picture (faulty_marks s.lines s.committees.total) t c.deref-3.result.now))
     steps
     (subst
     (λ (f : List Bool). IfOk c.picture.result

@@ -6,5 +6,5 @@ use Rattle.hail_script.proofs.parse.bears_all.Given as goal
 -- the lists from here on decide
 abbrev pub invariant-loop-list : goal.invariant-loop-list
 invariant-loop-list l =
-    list_all (admission.bears l.marks) (drop l.list-index l.list-items)
-    ≡ list_all (admission.bears l.marks) l.committees.lists
+    list_all (admission.marks_bear l.marks) (drop l.list-index l.list-items)
+    ≡ list_all (admission.marks_bear l.marks) l.committees.lists

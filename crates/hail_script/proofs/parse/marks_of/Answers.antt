@@ -15,6 +15,6 @@ loop-event-preserved c =
     let more =
     map_more raw_line_of c.args.events.now c.loop-event.event-index event c.loop-event-test.true in
     c.mark.ensures
-    ∙ ap (λ (l : List Bool). admission.marked l (raw_line_of event)) c.loop-event.invariant
+    ∙ ap (λ (l : List Bool). admission.with_faulty l (raw_line_of event)) c.loop-event.invariant
     ∙ marks_more before total (raw_line_of event)
-    ∙ sym (ap (λ (l : List Line). grammar.marks l total) (rw (← c.event-item.is) at more))
+    ∙ sym (ap (λ (l : List Line). grammar.faulty_marks l total) (rw (← c.event-item.is) at more))

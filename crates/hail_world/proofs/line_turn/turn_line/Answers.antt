@@ -2,7 +2,7 @@ use Rattle.std.proofs.Common.{◌≡◌, ◌<◌, ◌+◌, ◌++◌, ◌∷◌, 
 use Rattle.cw_rules.specs.Chains.{Clashes, clash_at}
 use Rattle.cw_rules.specs.World.{happens, run}
 use Rattle.hail_world.specs.Played.{lines_of}
-use Rattle.hail_world.specs.Places.{rules_of}
+use Rattle.hail_world.specs.Places.{script_rules}
 use Rattle.hail_world.proofs.Nothing.{none_when}
 use Rattle.hail_world.proofs.Growing.{grown}
 use Rattle.hail_world.proofs.Known.{clear, found}
@@ -17,7 +17,7 @@ find_clash-requires-clause-there g c =
 pub returns-clause-played : goal.returns-clause-played
 returns-clause-played g c = λ w rows begun h.
     let s = c.args.setting.now in
-    let r = rules_of g.H.Hasher.digest_of s.script.now in
+    let r = script_rules g.H.Hasher.digest_of s.script.now in
     let line = s.line.now in
     let now = run r w (lines_of rows) in
     let named = c.from-id.ensures ∙ c.member.ensures in
@@ -45,13 +45,13 @@ returns-clause-played g c = λ w rows begun h.
 pub returns-clause-gives : goal.returns-clause-gives
 returns-clause-gives g c = λ w rows h.
     let now =
-    run (rules_of g.H.Hasher.digest_of c.args.setting.now.script.now) w (lines_of rows) in
+    run (script_rules g.H.Hasher.digest_of c.args.setting.now.script.now) w (lines_of rows) in
     (c.in_ok-entry.ensures.turn now h.members h.sent h.flags).gives
 
 pub returns-in-Some-clause-err : goal.returns-in-Some-clause-err
 returns-in-Some-clause-err g c = λ w rows begun h.
     let s = c.args.setting.now in
-    let r = rules_of g.H.Hasher.digest_of s.script.now in
+    let r = script_rules g.H.Hasher.digest_of s.script.now in
     let line = s.line.now in
     let now = run r w (lines_of rows) in
     let named = c.from-id.ensures ∙ c.member.ensures in

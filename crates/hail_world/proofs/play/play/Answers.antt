@@ -4,7 +4,7 @@ use Rattle.cw_rules.specs.World.{Line, Faulty}
 use Rattle.hail_script.specs.Events.{line_of}
 use Rattle.hail_script.specs.declared.event.LineKind.{LineKind}
 use Rattle.hail_world.specs.Honest.{IsHonest}
-use Rattle.hail_world.specs.Places.{IsTurn, rules_of}
+use Rattle.hail_world.specs.Places.{IsTurn, script_rules}
 use Rattle.hail_report.specs.Pool.{sent_in}
 use Rattle.hail_world.proofs.Playing.{fault_turn, is_honest}
 use Rattle.hail_world.proofs.play.play.Goals as goal
@@ -16,7 +16,7 @@ play_member-requires-clause-honest g c κs within =
 pub returns-in_ok-entry-in-Faulty-clause-turn : goal.returns-in_ok-entry-in-Faulty-clause-turn
 returns-in_ok-entry-in-Faulty-clause-turn g c w members pools flags =
     let s = c.args.setting.now in
-    let r = rules_of g.H.Hasher.digest_of s.script.now in
+    let r = script_rules g.H.Hasher.digest_of s.script.now in
     let entry = c.in_ok-entry-in-Faulty.entry in
     let told = c.in_ok-entry-in-Faulty.ensures in
     let is : Faulty c.in-Faulty.member c.in-Faulty.fault ≡ s.line.now =

@@ -8,7 +8,7 @@ use Rattle.node_disk.specs.Memory.{is_stopped}
 use Rattle.node_disk.proofs.Calm.{calm_goes_on}
 use Rattle.hail_world.specs.Places.{SitsAs, IsPutOut, table}
 use Rattle.hail_report.specs.Pool.{sent_in}
-use Rattle.hail_world.specs.Seats.{HasStepped, Seat, WasStopped, notes_of_step, rules_by, with_stop}
+use Rattle.hail_world.specs.Seats.{HasStepped, Seat, WasStopped, seat_step_notes, rules_by, with_stop}
 use Rattle.hail_world.proofs.Cutting.{IsCut, cut_whole, cut_short}
 use Rattle.hail_world.proofs.Stops.{armed, is_member}
 use Rattle.hail_world.proofs.turn.cut_event.Goals as goal

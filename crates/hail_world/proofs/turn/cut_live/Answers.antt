@@ -1,6 +1,6 @@
 use Rattle.std.proofs.Common.{◌≡◌, Some, sym, subst, ◌∙◌}
 use Rattle.cw_rules.specs.Step.{Member, cut_step}
-use Rattle.hail_world.specs.Places.{SitsAs, over, rules_of, table}
+use Rattle.hail_world.specs.Places.{SitsAs, world_of_pool, script_rules, table}
 use Rattle.hail_report.specs.Pool.{sent_in}
 use Rattle.hail_world.specs.Seats.{Seat, out_of, rules_by}
 use Rattle.hail_world.proofs.Taking.{cut_took}
@@ -8,9 +8,9 @@ use Rattle.hail_world.proofs.turn.cut_live.Goals as goal
 
 pub returns-in_ok-place-in-Ok-Some-clause-makes : goal.returns-in_ok-place-in-Ok-Some-clause-makes
 returns-in_ok-place-in-Ok-Some-clause-makes g c o who =
-    let r = rules_of g.H.Hasher.digest_of c.args.setting.now.script.now in
+    let r = script_rules g.H.Hasher.digest_of c.args.setting.now.script.now in
     let signed = table c.args.setting.now.faulty.now (sent_in c.args.setting.now.pool.now) in
-    let w = over (sent_in c.args.setting.now.pool.now) in
+    let w = world_of_pool (sent_in c.args.setting.now.pool.now) in
     let sound = c.requires.sound in
     let there = who in
     let asks = sym c.in-Ok-Some.ensures ∙ c.in-Ok-Some.field-0-is in

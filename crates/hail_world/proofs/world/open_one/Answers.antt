@@ -6,7 +6,7 @@ use Rattle.cw_rules.specs.Report.{Entry}
 use Rattle.cw_rules.specs.Step.{Member, start}
 use Rattle.cw_rules.specs.World.{Sent, faults}
 use Rattle.marshal.specs.Frames.{FindsNotes, read_frames}
-use Rattle.hail_world.specs.Places.{SitsAs, rules_of}
+use Rattle.hail_world.specs.Places.{SitsAs, script_rules}
 use Rattle.hail_world.proofs.Opening.{faulty_entry, honest_entry, marked_is}
 use Rattle.hail_world.proofs.world.open_one.Goals as goal
 
@@ -18,7 +18,7 @@ returns-then-is_faulty-clause-entry g c =
     (marked_is s.lines s.committees.total c.args.id c.args.faulty.now c.requires.marks
     c.requires.known)
     ∙ sym c.is_faulty.ensures ∙ c.if-is_faulty.true in
-    sym (faulty_entry (rules_of g.H.Hasher.digest_of s) s.lines c.args.id is).0
+    sym (faulty_entry (script_rules g.H.Hasher.digest_of s) s.lines c.args.id is).0
 
 pub returns-then-is_faulty-clause-member : goal.returns-then-is_faulty-clause-member
 returns-then-is_faulty-clause-member g c =
@@ -28,7 +28,7 @@ returns-then-is_faulty-clause-member g c =
     (marked_is s.lines s.committees.total c.args.id c.args.faulty.now c.requires.marks
     c.requires.known)
     ∙ sym c.is_faulty.ensures ∙ c.if-is_faulty.true in
-    rw ((faulty_entry (rules_of g.H.Hasher.digest_of s) s.lines c.args.id is).1) tt
+    rw ((faulty_entry (script_rules g.H.Hasher.digest_of s) s.lines c.args.id is).1) tt
 
 pub returns-clause-entry : goal.returns-clause-entry
 returns-clause-entry g c =
@@ -58,7 +58,7 @@ returns-clause-entry g c =
       handed = h;
     }) in o)
     handed
-    ∙ sym (honest_entry (rules_of g.H.Hasher.digest_of s) s.lines c.args.id is).0
+    ∙ sym (honest_entry (script_rules g.H.Hasher.digest_of s) s.lines c.args.id is).0
 
 pub returns-clause-member : goal.returns-clause-member
 returns-clause-member g c =
@@ -69,5 +69,5 @@ returns-clause-member g c =
     c.requires.known)
     ∙ sym c.is_faulty.ensures ∙ c.if-is_faulty.false in
     subst (λ (o : Option Member). SitsAs c.in_ok-place.place o)
-    (sym (honest_entry (rules_of g.H.Hasher.digest_of s) s.lines c.args.id is).1)
+    (sym (honest_entry (script_rules g.H.Hasher.digest_of s) s.lines c.args.id is).1)
     (c.in_ok-place.ensures.started [] (ap read_frames c.new-disk.ensures.empty)).0

@@ -6,7 +6,7 @@ use Rattle.cw_rules.specs.World.{Line}
 use Rattle.hail_script.specs.Grammar.{first_event}
 use Rattle.hail_script.specs.Scenario.{Scenario}
 use Rattle.hail_world.specs.Clusters.{Cluster}
-use Rattle.hail_world.specs.Places.{rules_of}
+use Rattle.hail_world.specs.Places.{script_rules}
 use Rattle.hail_world.specs.Played.{lines_of}
 use Rattle.hail_world.specs.Runs.{IsStopped, opened}
 use Rattle.hail_world.proofs.Clusters.{line_there, numbered_lines, numbered_more, stops}
@@ -73,13 +73,14 @@ returns-in-Err-clause-err g c =
     ap (λ (x : Cluster). slice_get x.script.lines at) c.loop-at.invariant ∙ there.1 in
     let stopped =
     subst
-    (λ (x : Cluster). IsStopped (rules_of hash x.script) (opened hash x.script)
+    (λ (x : Cluster). IsStopped (script_rules hash x.script) (opened hash x.script)
     (lines_of x.rows ++ there.0 ∷ []) c.in-Err.error)
     c.loop-at.invariant (c.in-Err.ensures.err there.0 there_now) in
-    stops (rules_of hash k.script) (opened hash k.script) k.script.lines at there.0 c.in-Err.error
+    stops (script_rules hash k.script) (opened hash k.script) k.script.lines at there.0
+    c.in-Err.error
     there.1
     (subst
-    (λ (l : List Line). IsStopped (rules_of hash k.script) (opened hash k.script)
+    (λ (l : List Line). IsStopped (script_rules hash k.script) (opened hash k.script)
     (l ++ there.0 ∷ []) c.in-Err.error)
     (numbered_lines n (take at k.script.lines)) stopped)
 

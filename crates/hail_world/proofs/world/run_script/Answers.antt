@@ -2,7 +2,7 @@ use Rattle.std.proofs.Common.{◌≡◌, ◌∙◌, ap, subst}
 use Rattle.std.specs.List.{enumerate_from}
 use Rattle.hail_script.specs.Grammar.{first_event}
 use Rattle.hail_world.specs.Clusters.{Cluster}
-use Rattle.hail_world.specs.Places.{rules_of}
+use Rattle.hail_world.specs.Places.{script_rules}
 use Rattle.hail_world.specs.Runs.{IsStopped, opened}
 use Rattle.hail_world.proofs.Running.{ran}
 use Rattle.hail_world.proofs.world.run_script.Goals as goal
@@ -11,7 +11,7 @@ pub returns-in-Err-clause-err : goal.returns-in-Err-clause-err
 returns-in-Err-clause-err g c =
     let hash = g.H.Hasher.digest_of in
     subst
-    (λ (k : Cluster). IsStopped (rules_of hash k.script) (opened hash k.script) k.script.lines
+    (λ (k : Cluster). IsStopped (script_rules hash k.script) (opened hash k.script) k.script.lines
     c.in-Err.error)
     c.in_ok-cluster.ensures c.in-Err.ensures.err
 

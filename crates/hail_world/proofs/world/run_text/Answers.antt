@@ -1,7 +1,7 @@
 use Rattle.std.proofs.Common.{◌≡◌, ◌<◌, ◌≤◌, Ok, Result, refl, sym, ap, subst, ◌∙◌, arith, true}
 use Rattle.hail_script.specs.Scenario.{Scenario}
 use Rattle.hail_script.specs.declared.error.RunError.{RunError}
-use Rattle.hail_world.specs.Places.{rules_of}
+use Rattle.hail_world.specs.Places.{script_rules}
 use Rattle.hail_world.specs.Reports.{IsRun}
 use Rattle.hail_world.proofs.Known.{few_members}
 use Rattle.hail_world.proofs.Refusals.{refused}
@@ -29,18 +29,18 @@ returns-in-Ok-run_script-clause-report g c =
     let hash = g.H.Hasher.digest_of in
     let s = c.in-Ok.script in
     let h = c.in-Ok-run_script.ensures.ok in
-    let some : 0 < (rules_of hash s).backlog =
+    let some : 0 < (script_rules hash s).backlog =
     omega (arith, c.backlog-backlog.ensures.bound, c.backlog-backlog.ensures.value) in
     reported g.W.Way.travel hash c.args.text.now s c.in-Ok-run_script.ran.report
     (rw c.travel.ensures at c.in-Ok.ensures.ok) h
-    (c.report_laws.ensures (rules_of hash s) s.lines h.world
-    (c.is_cluster.ensures (rules_of hash s) refl) some h.ends)
+    (c.report_laws.ensures (script_rules hash s) s.lines h.world
+    (c.is_cluster.ensures (script_rules hash s) refl) some h.ends)
 
 pub returns-in-Err-run_script-clause-err : goal.returns-in-Err-run_script-clause-err
 returns-in-Err-run_script-clause-err g c =
     let hash = g.H.Hasher.digest_of in
     let s = c.in-Ok.script in
-    let r = rules_of hash s in
+    let r = script_rules hash s in
     let spells = rw c.travel.ensures at c.in-Ok.ensures.ok in
     let few : s.committees.total ≤ 65535 =
     omega (arith, few_members s c.lines-lines.ensures.runnable) in

@@ -1,6 +1,6 @@
 use Rattle.std.proofs.Common.{◌≡◌, ◌≤◌, arith, refl, subst, true}
 use Rattle.hail_script.specs.Grammar.{IsRunnable}
-use Rattle.hail_world.specs.Places.{rules_of}
+use Rattle.hail_world.specs.Places.{script_rules}
 use Rattle.hail_world.proofs.Known.{few_members}
 use Rattle.hailstorm.proofs.Laned.{lanes_refused, opening_clashed, tells_apart}
 use Rattle.hailstorm.proofs.lanes.open_text.Goals as goal
@@ -23,5 +23,5 @@ returns-in-Err-open-clause-err g c =
     opening_clashed hash c.args.text.now x c.in-Err-open.error
     c.in-Ok.ensures.ok c.in-Err-open.ensures.err c.clash_laws.ensures.blocks
     (tells_apart hash x (c.ruled_tells.ensures s.travel s.committees s.backlog (λ b a. true) few)
-    ((rw c.script.ensures at c.is_cluster.ensures) (rules_of hash s) refl)
+    ((rw c.script.ensures at c.is_cluster.ensures) (script_rules hash s) refl)
     (c.script_laws.ensures.laned c.args.text.now x c.in-Ok.ensures.ok) c.clash_laws.ensures.texts)

@@ -4,7 +4,7 @@ use Rattle.cw_rules.specs.World.{Line}
 use Rattle.hail_script.specs.Lanes.{rows}
 use Rattle.hail_script.specs.Scenario.{Scenario}
 use Rattle.hail_world.specs.Clusters.{Cluster}
-use Rattle.hail_world.specs.Places.{rules_of}
+use Rattle.hail_world.specs.Places.{script_rules}
 use Rattle.hail_world.specs.Played.{lines_of}
 use Rattle.hail_world.specs.Runs.{IsStopped, opened}
 use Rattle.hail_world.proofs.Clusters.{line_there}
@@ -72,13 +72,13 @@ returns-in-Err-clause-err g c = λ x s n.
     ap (λ (y : Scenario). slice_get y.lines at) s ∙ there.1 in
     let stopped =
     subst
-    (λ (y : Cluster). IsStopped (rules_of hash y.script) (opened hash y.script)
+    (λ (y : Cluster). IsStopped (script_rules hash y.script) (opened hash y.script)
     (lines_of y.rows ++ there.0 ∷ []) c.in-Err.error)
     inv (c.in-Err.ensures.err there.0 there_now) in
     let of_x =
     subst
-    (λ (y : Scenario). IsStopped (rules_of hash y) (opened hash y)
+    (λ (y : Scenario). IsStopped (script_rules hash y) (opened hash y)
     (lines_of (take at (rows x)) ++ there.0 ∷ []) c.in-Err.error)
     (sym s) stopped in
-    before_stops (rules_of hash x.script) (opened hash x.script) x at c.args.before there.0
+    before_stops (script_rules hash x.script) (opened hash x.script) x at c.args.before there.0
     c.in-Err.error there_x c.loop-at-test.true of_x

@@ -1,7 +1,7 @@
 use Rattle.std.proofs.Common.{◌≡◌, ◌++◌, ◌∷◌, [], List, length, ap, ◌∙◌, arith, length-append}
 use Rattle.cw_rules.specs.Report.{Entry, entry_of}
 use Rattle.hail_world.specs.Clusters.{Cluster, steps_in, world_in}
-use Rattle.hail_world.specs.Places.{rules_of}
+use Rattle.hail_world.specs.Places.{script_rules}
 use Rattle.hail_world.proofs.Clusters.{line_there}
 use Rattle.hailstorm.proofs.Between.{last_at, steps_more}
 use Rattle.hailstorm.proofs.turning.play_twice.Goals as goal
@@ -16,7 +16,8 @@ overflow_sub-last g c =
     let all =
     steps_more hash k c.turn.new.self c.args.number there.0 c.steps-steps.result.now is
     (c.steps-steps.ensures whole) in
-    let entry : Entry = entry_of (rules_of hash k.script) (world_in hash k) c.args.number there.0 in
+    let entry : Entry = entry_of (script_rules hash k.script) (world_in hash k) c.args.number
+    there.0 in
     let many : length c.steps-steps.result.now ≡ length (steps_in hash k ++ entry ∷ []) =
     ap (λ (l : List Entry). length l) all in
     let both = length-append (steps_in hash k) (entry ∷ []) in
@@ -32,7 +33,8 @@ bounds-steps-last g c =
     let all =
     steps_more hash k c.turn.new.self c.args.number there.0 c.steps-steps.result.now is
     (c.steps-steps.ensures whole) in
-    let entry : Entry = entry_of (rules_of hash k.script) (world_in hash k) c.args.number there.0 in
+    let entry : Entry = entry_of (script_rules hash k.script) (world_in hash k) c.args.number
+    there.0 in
     let many : length c.steps-steps.result.now ≡ length (steps_in hash k ++ entry ∷ []) =
     ap (λ (l : List Entry). length l) all in
     let both = length-append (steps_in hash k) (entry ∷ []) in
@@ -49,5 +51,5 @@ returns-clause-gives g c = λ line there.
     (c.steps-steps.ensures whole) in
     c.in_ok-first.ensures ∙ c.index-steps-last.is
     ∙ last_at (steps_in hash k)
-    (entry_of (rules_of hash k.script) (world_in hash k) c.args.number line) _
+    (entry_of (script_rules hash k.script) (world_in hash k) c.args.number line) _
     c.steps-steps.result.now all

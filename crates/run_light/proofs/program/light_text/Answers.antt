@@ -2,7 +2,7 @@ use Rattle.std.proofs.Common.{◌≡◌, ◌∙◌, ℕ, true, List, refl, sym, 
 use Rattle.std.proofs.lemmas.Result.{IfOk-weaker}
 use Rattle.cw_base.specs.declared.hash.Digest32.{Digest32}
 use Rattle.hail_script.specs.Scenario.{Scenario}
-use Rattle.hail_world.specs.Places.{rules_of}
+use Rattle.hail_world.specs.Places.{script_rules}
 use Rattle.hail_world.specs.Reports.{HoldNotes, honest}
 use Rattle.run_light.specs.Telling.{TellsOf, none_line, yes_line}
 use Rattle.run_light.proofs.Telling.{answer_is, found_is, tells_none, tells_some, told_yes}
@@ -14,7 +14,7 @@ returns-in-None g c = λ run.
     let s : Scenario = c.args.script.now in
     let report = c.args.report.now in
     let height : ℕ = c.args.height in
-    let cluster = c.is_cluster.ensures (rules_of hash s) refl in
+    let cluster = c.is_cluster.ensures (script_rules hash s) refl in
     let holds =
     subst (λ (disks : List (List ℕ)). HoldNotes (honest run.world) disks)
     (sym c.as_slice-disks.ensures) run.disks in
@@ -36,7 +36,7 @@ told_of-requires-after_bounds g c κs within =
     let report = c.args.report.now in
     let height : ℕ = c.args.height in
     let run = c.requires.run in
-    let cluster = c.is_cluster.ensures (rules_of hash s) refl in
+    let cluster = c.is_cluster.ensures (script_rules hash s) refl in
     let holds =
     subst (λ (disks : List (List ℕ)). HoldNotes (honest run.world) disks)
     (sym c.as_slice-disks.ensures) run.disks in
@@ -65,7 +65,7 @@ returns g c = λ run.
     let s : Scenario = c.args.script.now in
     let report = c.args.report.now in
     let height : ℕ = c.args.height in
-    let cluster = c.is_cluster.ensures (rules_of hash s) refl in
+    let cluster = c.is_cluster.ensures (script_rules hash s) refl in
     let holds =
     subst (λ (disks : List (List ℕ)). HoldNotes (honest run.world) disks)
     (sym c.as_slice-disks.ensures) run.disks in

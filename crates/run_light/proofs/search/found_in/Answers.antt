@@ -4,7 +4,7 @@ use Rattle.cw_rules.specs.Rules.{Rules}
 use Rattle.cw_rules.specs.Step.{Member, member_notes}
 use Rattle.cw_rules_coded.specs.Coded.{coded}
 use Rattle.marshal.specs.Stored.{read_notes}
-use Rattle.run_light.specs.Finding.{found_at}
+use Rattle.run_light.specs.Finding.{first_shown}
 use Rattle.run_light.proofs.Disks.{as_many, at_member, member_of}
 use Rattle.run_light.proofs.Searching.{found_here, found_none, found_on}
 use Rattle.run_light.proofs.search.found_in.Goals as goal
@@ -39,7 +39,7 @@ returns-in-Some g c = λ backlog accepts members h.
     c.in_ok-notes.ensures c.as_slice-notes.ensures
     (c.in_ok-found.ensures backlog accepts) in
     sym
-    (found_here (λ (m : Member). found_at r sign c.args.height (member_notes m)) members i m
+    (found_here (λ (m : Member). first_shown r sign c.args.height (member_notes m)) members i m
     c.in-Some.found e (found ∙ c.in-Some.is))
     ∙ c.loop-disk.invariant backlog accepts members h
 
@@ -59,7 +59,7 @@ loop-disk-preserved g c = λ backlog accepts members h.
     c.in_ok-notes.ensures c.as_slice-notes.ensures
     (c.in_ok-found.ensures backlog accepts) in
     sym
-    (found_on (λ (m : Member). found_at r sign c.args.height (member_notes m)) members i m e
+    (found_on (λ (m : Member). first_shown r sign c.args.height (member_notes m)) members i m e
     (found ∙ c.in_default.is))
     ∙ c.loop-disk.invariant backlog accepts members h
 
@@ -68,7 +68,7 @@ returns g c = λ backlog accepts members h.
     let r : Rules = coded g.H.Hasher.digest_of c.args.committees.now backlog accepts in
     let sign = g.V.Verifier.signs c.args.verifier.now in
     sym
-    (found_none (λ (m : Member). found_at r sign c.args.height (member_notes m)) members
+    (found_none (λ (m : Member). first_shown r sign c.args.height (member_notes m)) members
     c.loop-disk.disk-index
     (omega (arith, c.loop-disk-test.false, as_many members c.args.disks.now h)))
     ∙ c.loop-disk.invariant backlog accepts members h

@@ -4,7 +4,7 @@ use Rattle.cw_rules.specs.Accepted.{first_some}
 use Rattle.cw_rules.specs.Step.{Member, member_notes}
 use Rattle.cw_rules_coded.specs.Coded.{coded}
 use Rattle.hail_world.specs.Reports.{HoldNotes}
-use Rattle.run_light.specs.Finding.{found_at, found_in}
+use Rattle.run_light.specs.Finding.{first_shown, found_in}
 use Rattle.run_light.proofs.search.found_in.Given as goal
 
 -- the members from here on decide
@@ -13,7 +13,7 @@ invariant-loop-disk g l =
     (backlog : ℕ) (accepts : Block → Block → Bool) (members : List Member)
     → HoldNotes members l.disks
     → first_some
-    (λ (m : Member). found_at (coded g.H.Hasher.digest_of l.committees backlog accepts)
+    (λ (m : Member). first_shown (coded g.H.Hasher.digest_of l.committees backlog accepts)
     (g.V.Verifier.signs l.verifier) l.height (member_notes m))
     (drop l.disk-index members)
     ≡ found_in (coded g.H.Hasher.digest_of l.fn.committees backlog accepts)

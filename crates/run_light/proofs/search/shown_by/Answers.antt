@@ -4,7 +4,7 @@ use Rattle.cw_types.specs.Votes.{finalized}
 use Rattle.cw_rules.specs.Accepted.{is_valid}
 use Rattle.cw_rules.specs.Rules.{Rules}
 use Rattle.cw_rules_coded.specs.Coded.{coded}
-use Rattle.run_light.specs.Finding.{path_to, shown_by}
+use Rattle.run_light.specs.Finding.{path_to, shown_by_note}
 use Rattle.run_light.proofs.Paths.{pair, shown_is}
 use Rattle.run_light.proofs.search.shown_by.Goals as goal
 
@@ -42,7 +42,7 @@ returns-then-not-is_valid g c = λ backlog accepts.
     let signs = g.V.Verifier.signs c.args.verifier.now in
     let s = c.in-Cert.cert in
     sym
-    (ap (shown_by r signs c.args.height c.args.notes.now) c.in-Cert.is
+    (ap (shown_by_note r signs c.args.height c.args.notes.now) c.in-Cert.is
     ∙ cond-false (is_valid r signs s)
     (option_map (pair s)
     (option_and_then (λ p. path_to r c.args.notes.now c.args.height p.payload)

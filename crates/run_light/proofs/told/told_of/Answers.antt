@@ -1,7 +1,7 @@
 use Rattle.std.proofs.Common.{List, ◌∙◌, ap, sym}
 use Rattle.cw_types.specs.Block.{Block}
 use Rattle.cw_rules_coded.specs.Coded.{coded}
-use Rattle.cw_light.specs.Checking.{answer}
+use Rattle.cw_light.specs.Checking.{light_answer}
 use Rattle.run_light.proofs.Paths.{yes_same}
 use Rattle.run_light.proofs.told.told_of.Goals as goal
 
@@ -10,7 +10,7 @@ returns g c = λ backlog accepts height d e.
     let told =
     c.in_ok-height.ensures backlog accepts
     ∙ ap
-    (λ (path : List Block). answer
+    (λ (path : List Block). light_answer
     (coded g.H.Hasher.digest_of c.args.committees.now backlog accepts)
     (g.V.Verifier.signs c.args.verifier.now) c.args.shown.now.cert path)
     c.as_slice-path.ensures in
@@ -22,7 +22,7 @@ unreachable-requires g c =
     let told =
     c.in_ok-height.ensures backlog accepts
     ∙ ap
-    (λ (path : List Block). answer
+    (λ (path : List Block). light_answer
     (coded g.H.Hasher.digest_of c.args.committees.now backlog accepts)
     (g.V.Verifier.signs c.args.verifier.now) c.args.shown.now.cert path)
     c.as_slice-path.ensures in

@@ -3,7 +3,7 @@ use Rattle.std.specs.Option.{option_and_then}
 use Rattle.cw_rules.specs.Held.{if_committed}
 use Rattle.cw_rules.specs.Rules.{block_of}
 use Rattle.shards.specs.Enough.{AreEnough}
-use Rattle.shards.specs.Kept.{chunks_of, rules_of}
+use Rattle.shards.specs.Kept.{chunks_of, chunk_rules}
 use Rattle.shards.proofs.Answered.{enough_kept, verdict_shown}
 use Rattle.shards.proofs.showing.kept_verdict.Goals as goal
 
@@ -20,7 +20,7 @@ shown-requires-after_bounds g c κs _ =
 
 pub returns-in-Some : goal.returns-in-Some
 returns-in-Some g c =
-    let r = rules_of g.H.Hasher.digest_of c.args.committees.now in
+    let r = chunk_rules g.H.Hasher.digest_of c.args.committees.now in
     let n : length (chunks_of c.args.commitment.now c.args.kept.now)
     ≡ c.args.commitment.now.config.minimum - 1 =
     eqb-true _ _ (sym c.lack_one.ensures ∙ c.if-not-lack_one.false) in
@@ -35,7 +35,7 @@ returns-in-Some g c =
 
 pub returns : goal.returns
 returns g c =
-    let r = rules_of g.H.Hasher.digest_of c.args.committees.now in
+    let r = chunk_rules g.H.Hasher.digest_of c.args.committees.now in
     let n : length (chunks_of c.args.commitment.now c.args.kept.now)
     ≡ c.args.commitment.now.config.minimum - 1 =
     eqb-true _ _ (sym c.lack_one.ensures ∙ c.if-not-lack_one.false) in

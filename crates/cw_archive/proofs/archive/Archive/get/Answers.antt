@@ -3,7 +3,7 @@ use Rattle.std.proofs.lemmas.List.{length-map, length-take}
 use Rattle.cw_rules.specs.Coding.{AreApart}
 use Rattle.cw_rules.specs.Rules.{Chunk}
 use Rattle.cw_types.specs.declared.commitment.Commitment.{Commitment}
-use Rattle.cw_archive.specs.Archived.{by_index, checks, least_chunks}
+use Rattle.cw_archive.specs.Archived.{by_index, checks, chunks_of_least_index}
 use Rattle.cw_archive.specs.Showing.{AreChecked}
 use Rattle.cw_archive.proofs.IndexLemmas.{all_of, least_all, least_apart}
 use Rattle.cw_archive.proofs.archive.Archive.get.Goals as goal
@@ -13,7 +13,7 @@ shown-requires-after_bounds g c κs within =
     let hash = g.H.Hasher.digest_of in
     let d = c.args.commitment.now in
     let kept = c.self.inside.kept in
-    let is : map (λ (x : Bor Chunk). x.now) c.deref.result.now ≡ least_chunks d kept =
+    let is : map (λ (x : Bor Chunk). x.now) c.deref.result.now ≡ chunks_of_least_index d kept =
     ap (λ (xs : List (Bor Chunk)). map (λ (x : Bor Chunk). x.now) xs) c.deref.ensures.value
     ∙ c.in_ok-chunks.ensures in
     let same = ap length is in

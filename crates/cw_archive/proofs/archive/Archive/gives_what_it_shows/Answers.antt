@@ -2,7 +2,7 @@ use Rattle.std.proofs.Common.{◌≡◌, ◌↔◌, IsTrue, Some, arith, subst}
 use Rattle.cw_rules.specs.Coding.{AreBytes}
 use Rattle.cw_rules.specs.Rules.{Chunk}
 use Rattle.cw_types.specs.declared.commitment.Commitment.{Commitment}
-use Rattle.cw_archive.specs.Archived.{Archived, checks, given_back, least_chunks}
+use Rattle.cw_archive.specs.Archived.{Archived, checks, given_back, chunks_of_least_index}
 use Rattle.cw_archive.specs.Showing.{Shows}
 use Rattle.cw_archive.proofs.CheckLemmas.{few_chunks}
 use Rattle.cw_archive.proofs.IndexLemmas.{all_of, least_all}
@@ -14,9 +14,9 @@ returns g c b =
     let d = c.args.commitment.now in
     let kept = c.self.inside.kept in
     let law = c.archives_show.ensures in
-    let back : Shows hash d (least_chunks d kept) b → given_back hash d kept ≡ Some b =
-    λ h. law.only hash d (least_chunks d kept) b (omega arith)
-    (few_chunks hash d (least_chunks d kept) (omega (arith, h.enough))
+    let back : Shows hash d (chunks_of_least_index d kept) b → given_back hash d kept ≡ Some b =
+    λ h. law.only hash d (chunks_of_least_index d kept) b (omega arith)
+    (few_chunks hash d (chunks_of_least_index d kept) (omega (arith, h.enough))
     (least_all (λ (x : Chunk). IsTrue (checks hash d x)) d kept
     (all_of (λ (e : Commitment) (x : Chunk). IsTrue (checks hash e x)) d kept
     c.self.invariant.check)))
@@ -26,5 +26,5 @@ returns g c b =
     h in
     subst
     (λ (a : Archived). (given_back hash d a.kept ≡ Some b)
-    ↔ Shows hash d (least_chunks d a.kept) b)
-    c.self.view_is (law.shown hash d (least_chunks d kept) b, back)
+    ↔ Shows hash d (chunks_of_least_index d a.kept) b)
+    c.self.view_is (law.shown hash d (chunks_of_least_index d kept) b, back)

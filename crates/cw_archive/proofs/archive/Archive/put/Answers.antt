@@ -2,9 +2,9 @@ use Rattle.std.proofs.Common.{◌≡◌, ◌∙◌, ◌≤◌, ◌<◌, IsTrue, 
 use Rattle.std.specs.List.{AllByRecursion}
 use Rattle.cw_rules.specs.Coding.{AreBytes}
 use Rattle.shards.specs.Enough.{checked_of}
-use Rattle.shards.specs.Kept.{is_known, with_chunk}
+use Rattle.shards.specs.Kept.{is_kept_chunk, with_chunk}
 use Rattle.shards.specs.declared.pieces.KeptChunk.{KeptChunk}
-use Rattle.cw_archive.specs.Archived.{Archived, after_put, checks, chunk_at, put_answer, within_limit}
+use Rattle.cw_archive.specs.Archived.{Archived, after_put, checks, kept_chunk_at, put_answer, within_limit}
 use Rattle.cw_archive.specs.declared.put.Put.TheVariants.{Foreign, Kept, Known, TooLarge}
 use Rattle.cw_archive.proofs.OrderLemmas.{known_found}
 use Rattle.cw_archive.proofs.PutLemmas.{after_kept, after_known, answer_foreign, answer_kept, answer_known, answer_large, copied_some, none_there, some_there}
@@ -17,10 +17,10 @@ returns-then-is_some-clause-answer g c =
     let kept = c.self.inside.kept in
     let d = c.args.commitment.now in
     let x = c.args.chunk in
-    let known : c.is_some.result ≡ is_known kept d x =
+    let known : c.is_some.result ≡ is_kept_chunk kept d x =
     c.is_some.ensures
     ∙ (sym (copied_some c.find.result)
-    ∙ (ap is_some (c.find.ensures ∙ ap (chunk_at d kept) (c.from.ensures ∙ c.index.ensures))
+    ∙ (ap is_some (c.find.ensures ∙ ap (kept_chunk_at d kept) (c.from.ensures ∙ c.index.ensures))
     ∙ sym (known_found kept d x))) in
     subst (λ (a : Archived). Known ≡ put_answer hash a d x) c.self.view_is
     (sym
@@ -33,10 +33,10 @@ returns-then-is_some-clause-ok g c =
     let kept = c.self.inside.kept in
     let d = c.args.commitment.now in
     let x = c.args.chunk in
-    let known : c.is_some.result ≡ is_known kept d x =
+    let known : c.is_some.result ≡ is_kept_chunk kept d x =
     c.is_some.ensures
     ∙ (sym (copied_some c.find.result)
-    ∙ (ap is_some (c.find.ensures ∙ ap (chunk_at d kept) (c.from.ensures ∙ c.index.ensures))
+    ∙ (ap is_some (c.find.ensures ∙ ap (kept_chunk_at d kept) (c.from.ensures ∙ c.index.ensures))
     ∙ sym (known_found kept d x))) in
     subst (λ (a : Archived). a ≡ after_put hash a d x) c.self.view_is
     (sym
@@ -50,10 +50,10 @@ returns-then-is_none-clause-answer g c =
     let kept = c.self.inside.kept in
     let d = c.args.commitment.now in
     let x = c.args.chunk in
-    let known : c.is_some.result ≡ is_known kept d x =
+    let known : c.is_some.result ≡ is_kept_chunk kept d x =
     c.is_some.ensures
     ∙ (sym (copied_some c.find.result)
-    ∙ (ap is_some (c.find.ensures ∙ ap (chunk_at d kept) (c.from.ensures ∙ c.index.ensures))
+    ∙ (ap is_some (c.find.ensures ∙ ap (kept_chunk_at d kept) (c.from.ensures ∙ c.index.ensures))
     ∙ sym (known_found kept d x))) in
     let fails =
     none_there (checks hash d x) (checked_of hash d x) c.in_ok-checked.field-0 c.is_none.result
@@ -69,10 +69,10 @@ returns-then-width-self-clause-answer g c =
     let kept = c.self.inside.kept in
     let d = c.args.commitment.now in
     let x = c.args.chunk in
-    let known : c.is_some.result ≡ is_known kept d x =
+    let known : c.is_some.result ≡ is_kept_chunk kept d x =
     c.is_some.ensures
     ∙ (sym (copied_some c.find.result)
-    ∙ (ap is_some (c.find.ensures ∙ ap (chunk_at d kept) (c.from.ensures ∙ c.index.ensures))
+    ∙ (ap is_some (c.find.ensures ∙ ap (kept_chunk_at d kept) (c.from.ensures ∙ c.index.ensures))
     ∙ sym (known_found kept d x))) in
     let holds =
     some_there (checks hash d x) (checked_of hash d x) c.in_ok-checked.field-0 c.is_none.result
@@ -90,10 +90,10 @@ push-requires g c =
     let kept = c.self.inside.kept in
     let d = c.args.commitment.now in
     let x = c.args.chunk in
-    let known : c.is_some.result ≡ is_known kept d x =
+    let known : c.is_some.result ≡ is_kept_chunk kept d x =
     c.is_some.ensures
     ∙ (sym (copied_some c.find.result)
-    ∙ (ap is_some (c.find.ensures ∙ ap (chunk_at d kept) (c.from.ensures ∙ c.index.ensures))
+    ∙ (ap is_some (c.find.ensures ∙ ap (kept_chunk_at d kept) (c.from.ensures ∙ c.index.ensures))
     ∙ sym (known_found kept d x))) in
     sym known ∙ c.if-is_some.false
 
@@ -140,10 +140,10 @@ returns-clause-answer g c =
     let kept = c.self.inside.kept in
     let d = c.args.commitment.now in
     let x = c.args.chunk in
-    let known : c.is_some.result ≡ is_known kept d x =
+    let known : c.is_some.result ≡ is_kept_chunk kept d x =
     c.is_some.ensures
     ∙ (sym (copied_some c.find.result)
-    ∙ (ap is_some (c.find.ensures ∙ ap (chunk_at d kept) (c.from.ensures ∙ c.index.ensures))
+    ∙ (ap is_some (c.find.ensures ∙ ap (kept_chunk_at d kept) (c.from.ensures ∙ c.index.ensures))
     ∙ sym (known_found kept d x))) in
     let holds =
     some_there (checks hash d x) (checked_of hash d x) c.in_ok-checked.field-0 c.is_none.result
@@ -163,10 +163,10 @@ returns-clause-ok g c =
     let d = c.args.commitment.now in
     let x = c.args.chunk in
     let a : Archived = record { limit = c.self.inside.limit; kept = kept } in
-    let known : c.is_some.result ≡ is_known kept d x =
+    let known : c.is_some.result ≡ is_kept_chunk kept d x =
     c.is_some.ensures
     ∙ (sym (copied_some c.find.result)
-    ∙ (ap is_some (c.find.ensures ∙ ap (chunk_at d kept) (c.from.ensures ∙ c.index.ensures))
+    ∙ (ap is_some (c.find.ensures ∙ ap (kept_chunk_at d kept) (c.from.ensures ∙ c.index.ensures))
     ∙ sym (known_found kept d x))) in
     let holds =
     some_there (checks hash d x) (checked_of hash d x) c.in_ok-checked.field-0 c.is_none.result

@@ -1,6 +1,6 @@
 use Rattle.std.proofs.Common.{◌∙◌, List, None, ap, drop, slice_get, sym, subst}
 use Rattle.std.specs.Option.{option_map}
-use Rattle.cw_archive.specs.Keys.{IsInOrder, kept_at}
+use Rattle.cw_archive.specs.Keys.{IsInOrder, kept_at_keys}
 use Rattle.shards.specs.declared.pieces.KeptChunk.{KeptChunk}
 use Rattle.cw_archive.specs.declared.key.ChunkKey.{ChunkKey}
 use Rattle.cw_archive.proofs.KeyLemmas.{at_key_found}
@@ -24,7 +24,7 @@ returns-clause-value c =
     ∙ (oldest es new c.pop_front.new.self.items c.in_ok-key.key
     (subst (λ (o : List ChunkKey). IsInOrder es o) c.in_ok-key.ensures.items c.self.invariant)
     ∙ ap (λ (kept : List KeptChunk). option_map (λ (k : KeptChunk). k.chunk) (slice_get kept 0))
-    (ap (λ (o : List ChunkKey). kept_at es o) (sym c.in_ok-key.ensures.items)
+    (ap (λ (o : List ChunkKey). kept_at_keys es o) (sym c.in_ok-key.ensures.items)
     ∙ c.self.view_is)))
 
 pub returns-clause-rest : goal.returns-clause-rest
@@ -35,4 +35,4 @@ returns-clause-rest c =
     (subst (λ (o : List ChunkKey). IsInOrder es o) c.in_ok-key.ensures.items c.self.invariant)
     (sets_of es new c.in_ok-key.key None c.remove.ensures.updates.0)
     ∙ ap (λ (kept : List KeptChunk). drop 1 kept)
-    (ap (λ (o : List ChunkKey). kept_at es o) (sym c.in_ok-key.ensures.items) ∙ c.self.view_is)
+    (ap (λ (o : List ChunkKey). kept_at_keys es o) (sym c.in_ok-key.ensures.items) ∙ c.self.view_is)

@@ -3,7 +3,7 @@ use Rattle.node_disk.specs.Disk.{IsFront, LeavesOnly}
 use Rattle.node_disk.specs.Log.{HasAppended, WasCutShort, calls_of_append}
 use Rattle.node_disk.specs.RecordWords.{log_frames}
 use Rattle.cw_ledger.specs.Frames.{FindsEither}
-use Rattle.cw_ledger.specs.Ledger.{Ledger, log_of, over}
+use Rattle.cw_ledger.specs.Ledger.{Ledger, replica_log, replica_over}
 use Rattle.cw_ledger.proofs.Applying.{is_gap, is_known, is_next, same_error}
 use Rattle.cw_ledger.specs.declared.replica.Applied.{Applied}
 use Rattle.node_disk.specs.declared.log.StoreError.TheVariants as store
@@ -32,7 +32,7 @@ returns-then-height-next-clause-ok g c =
     c.height-height.result counted c.height-height.ensures.value c.if-height-next.true in
     subst
     (λ (ps : List (List ℕ)). c.args.self.now
-    ≡ record (over c.args.self.now c.args.self.now) { payloads = ps })
+    ≡ record (replica_over c.args.self.now c.args.self.now) { payloads = ps })
     does.leaves refl
 
 pub returns-then-height-next-clause-appended : goal.returns-then-height-next-clause-appended
@@ -47,7 +47,7 @@ returns-then-height-next-clause-appended g c =
     let works : c.args.self.now.failed ≡ false = search rules in
     subst
     (λ (frame : List ℕ). HasAppended g.D.Disk.state g.D.Disk.continues frame
-    (log_of c.args.self.now) (log_of c.args.self.now))
+    (replica_log c.args.self.now) (replica_log c.args.self.now))
     does.writes (c.rests.ensures.nothing works)
 
 pub returns-then-next-height-clause-answer : goal.returns-then-next-height-clause-answer
@@ -72,7 +72,7 @@ returns-then-next-height-clause-ok g c =
     counted c.height-height.ensures.value c.if-next-height.true in
     subst
     (λ (ps : List (List ℕ)). c.args.self.now
-    ≡ record (over c.args.self.now c.args.self.now) { payloads = ps })
+    ≡ record (replica_over c.args.self.now c.args.self.now) { payloads = ps })
     does.leaves refl
 
 pub returns-then-next-height-clause-appended : goal.returns-then-next-height-clause-appended
@@ -87,7 +87,7 @@ returns-then-next-height-clause-appended g c =
     let works : c.args.self.now.failed ≡ false = search rules in
     subst
     (λ (frame : List ℕ). HasAppended g.D.Disk.state g.D.Disk.continues frame
-    (log_of c.args.self.now) (log_of c.args.self.now))
+    (replica_log c.args.self.now) (replica_log c.args.self.now))
     does.writes (c.rests.ensures.nothing works)
 
 pub returns-in-Ok-clause-answer : goal.returns-in-Ok-clause-answer
@@ -114,7 +114,7 @@ returns-in-Ok-clause-ok g c =
     (c.bytes.ensures.value ∙ c.payload.ensures) (λ lt. omega arith) (λ lt. omega arith) in
     subst
     (λ (ps : List (List ℕ)). c.add.new.self
-    ≡ record (over c.args.self.now c.add.new.self) { payloads = ps })
+    ≡ record (replica_over c.args.self.now c.add.new.self) { payloads = ps })
     does.leaves c.in-Ok.ensures.ok
 
 pub returns-in-Ok-clause-any_moment : goal.returns-in-Ok-clause-any_moment
@@ -144,7 +144,7 @@ returns-in-Ok-clause-appended g c =
     (c.bytes.ensures.value ∙ c.payload.ensures) (λ lt. omega arith) (λ lt. omega arith) in
     subst
     (λ (frame : List ℕ). HasAppended g.D.Disk.state g.D.Disk.continues frame
-    (log_of c.args.self.now) (log_of c.add.new.self))
+    (replica_log c.args.self.now) (replica_log c.add.new.self))
     does.writes c.in-Ok.ensures.appended
 
 pub returns-in-Err-clause-any_moment : goal.returns-in-Err-clause-any_moment
@@ -174,7 +174,7 @@ returns-in-Err-clause-cut_short g c is =
     (c.bytes.ensures.value ∙ c.payload.ensures) (λ lt. omega arith) (λ lt. omega arith) in
     subst
     (λ (frame : List ℕ). WasCutShort g.D.Disk.state g.D.Disk.continues frame
-    (log_of c.args.self.now) (log_of c.add.new.self))
+    (replica_log c.args.self.now) (replica_log c.add.new.self))
     does.writes
     (c.in-Err.ensures.cut_short
     (same_error {X = Applied} {Y = Unit {0}} c.in-Err.error store.Disk is))

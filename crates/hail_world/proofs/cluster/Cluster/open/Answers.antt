@@ -1,5 +1,5 @@
 use Rattle.std.proofs.Common.{◌≡◌, refl}
-use Rattle.hail_world.specs.Places.{rules_of}
+use Rattle.hail_world.specs.Places.{script_rules}
 use Rattle.hail_world.proofs.Clusters.{opens}
 use Rattle.hail_world.proofs.cluster.Cluster.open.Goals as goal
 
@@ -10,6 +10,6 @@ invariant_of-result g c =
     c.new-2.result c.in_ok-opening.places.items c.in_ok-known.known c.in_ok-faulty.faulty.items
     c.requires.way c.in_ok-opening.ensures.opening c.new-3.ensures.items c.new-2.ensures
     c.in_ok-opening.ensures.members c.in_ok-opening.ensures.sound c.in_ok-opening.ensures.count
-    (c.in_ok-known.ensures (rules_of hash c.args.script)
+    (c.in_ok-known.ensures (script_rules hash c.args.script)
     (record { hashes = refl; blocks = refl; contexts = refl }))
     c.in_ok-faulty.ensures

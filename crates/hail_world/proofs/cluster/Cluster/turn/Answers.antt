@@ -3,8 +3,8 @@ use Rattle.std.specs.Prelude.{slice_get}
 use Rattle.std.proofs.lemmas.Option.{slice_get_read}
 use Rattle.cw_rules.specs.World.{Line}
 use Rattle.hail_world.specs.declared.place.Place.{Place}
-use Rattle.hail_world.specs.Clusters.{Stands, rows_at}
-use Rattle.hail_world.specs.Places.{rules_of}
+use Rattle.hail_world.specs.Clusters.{ClusterStands, rows_at}
+use Rattle.hail_world.specs.Places.{script_rules}
 use Rattle.hail_world.specs.Runs.{opened}
 use Rattle.hail_world.specs.Seats.{Seat}
 use Rattle.hail_world.proofs.Clusters.{begins, below_inside, line_lent, same_played, seen_more, seen_stopped, turned, whole_inside}
@@ -40,7 +40,7 @@ returns-in-Err-clause-err g c = λ line there.
     let i = c.self.inside in
     let hash = g.H.Hasher.digest_of in
     let s = i.script in
-    let r = rules_of hash s in
+    let r = script_rules hash s in
     let rows = rows_at s.lines i.turns.items in
     let mine : Line = c.index-lines-at.result in
     let below =
@@ -72,7 +72,7 @@ invariant_of-self-2 g c =
     let i = c.self.inside in
     let hash = g.H.Hasher.digest_of in
     let s = i.script in
-    let r = rules_of hash s in
+    let r = script_rules hash s in
     let rows = rows_at s.lines i.turns.items in
     let line : Line = c.index-lines-at.result in
     let below =
@@ -101,7 +101,7 @@ invariant_of-self-2 g c =
     i.faulty.items refl (sym c.deref.ensures.value)
     (c.in-Ok.ensures.played (opened hash s) rows begin played) in
     subst
-    (λ (l : List (Place Seat)). Stands hash g.W.Way.travel s i.opening
+    (λ (l : List (Place Seat)). ClusterStands hash g.W.Way.travel s i.opening
     (rows_at s.lines c.put_turn.new.turns.items) false c.put_turn.new.pool l c.turn_line.new.known
     i.faulty.items)
     (sym back)

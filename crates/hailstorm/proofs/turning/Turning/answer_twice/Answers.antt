@@ -6,7 +6,7 @@ use Rattle.hail_script.specs.declared.error.RunError.{RunError}
 use Rattle.hail_script.specs.Lanes.{Laned, lanes}
 use Rattle.hail_script.specs.Scenario.{Scenario}
 use Rattle.hail_world.specs.Clusters.{Cluster, world_in}
-use Rattle.hail_world.specs.Places.{rules_of}
+use Rattle.hail_world.specs.Places.{script_rules}
 use Rattle.hail_world.proofs.Clusters.{line_there}
 use Rattle.hailstorm.specs.Lanes.{lane_at, left}
 use Rattle.hailstorm.specs.Turns.{IsOver, Turning}
@@ -87,7 +87,7 @@ returns-in-Ok-play_twice-clause-lawful g c =
     w.ensures.some.1 there.1 c.in-Ok-play_twice.first
     (c.in-Ok-play_twice.ensures.gives there.0 there.1
     ∙ ap
-    (λ (n : ℕ). entry_of (rules_of hash i.cluster.script) (world_in hash i.cluster) n there.0)
+    (λ (n : ℕ). entry_of (script_rules hash i.cluster.script) (world_in hash i.cluster) n there.0)
     number))
     c.in-Ok.ensures.ok refl
 

@@ -5,7 +5,7 @@ use Rattle.hail_script.specs.Lanes.{Laned, laned_of, lanes}
 use Rattle.hail_script.specs.Scenario.{Scenario}
 use Rattle.hailstorm.specs.Lanes.{left}
 use Rattle.hail_world.specs.Clusters.{Cluster}
-use Rattle.hail_world.specs.Places.{rules_of}
+use Rattle.hail_world.specs.Places.{script_rules}
 use Rattle.hailstorm.specs.Turns.{Turning}
 use Rattle.hailstorm.proofs.Between.{between_of, over_cause, over_of}
 use Rattle.hail_world.proofs.Known.{few_members}
@@ -30,7 +30,7 @@ returns-in-Ok-clause-ok g c = λ text spells.
     lanes_reported hash text x i.order i.cluster i.cursors.items c.in-Ok.ran.report
     (subst (λ (t : Turning). laned_of text ≡ Ok t.laned) (sym c.self.view_is) spells) h nothing
     (c.goes_on.ensures (ap (λ (k : Cluster). k.over) h.played)) c.in-Ok.ensures.report
-    ((rw c.script-plain.ensures at c.is_cluster.ensures) (rules_of hash i.cluster.script) refl)
+    ((rw c.script-plain.ensures at c.is_cluster.ensures) (script_rules hash i.cluster.script) refl)
     (omega (arith, backlog, c.backlog-backlog.ensures.bound)) c.report_laws.ensures
 
 pub end-requires : goal.end-requires
@@ -62,5 +62,5 @@ returns-clause-err g c = λ text spells.
     c.in-Some.is)
     c.clash_laws.ensures.blocks
     (tells_apart hash x (c.ruled_tells.ensures s.travel s.committees s.backlog (λ b a. true) few)
-    ((rw c.script-plain.ensures at c.is_cluster.ensures) (rules_of hash s) refl)
+    ((rw c.script-plain.ensures at c.is_cluster.ensures) (script_rules hash s) refl)
     (c.script_laws.ensures.laned text x laned) c.clash_laws.ensures.texts))

@@ -4,7 +4,7 @@ use Rattle.hail_script.specs.Scenario.{Scenario}
 use Rattle.cw_rules.specs.World.{Line}
 use Rattle.hail_world.specs.Clusters.{Cluster}
 use Rattle.hail_world.specs.Played.{lines_of}
-use Rattle.hail_world.specs.Places.{rules_of}
+use Rattle.hail_world.specs.Places.{script_rules}
 use Rattle.hail_world.specs.Runs.{IsStopped, opened}
 use Rattle.hailstorm.specs.Turns.{between}
 use Rattle.hailstorm.proofs.Between.{between_seen, rows_many}
@@ -61,7 +61,7 @@ returns-in-Err-clause-err g c =
     c.in-Err.ensures.err x (sym (ap (λ (k : Cluster). k.script) c.in_ok-cluster.ensures ∙ script))
     (sym (c.as_slice-2.ensures ∙ numbers)) in
     subst
-    (λ (l : List (ℕ × Line)). IsStopped (rules_of hash x.script) (opened hash x.script)
+    (λ (l : List (ℕ × Line)). IsStopped (script_rules hash x.script) (opened hash x.script)
     (lines_of l) c.in-Err.error)
     (sym (prefix_is x c.in_ok-before.before c.in_ok-before.cursors.items is)) stopped
 

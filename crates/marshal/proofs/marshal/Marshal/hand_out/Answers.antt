@@ -1,7 +1,7 @@
 use Rattle.std.proofs.Common.{◌≡◌, ◌∙◌, ◌++◌, [], ◌∷◌, None, refl, rules, sym}
 use Rattle.cw_tree.proofs.Written.{on_err}
 use Rattle.cw_rules.proofs.Deliveries.{falls}
-use Rattle.marshal.specs.Stored.{rules_of, state_of}
+use Rattle.marshal.specs.Stored.{marshal_rules, marshal_state}
 use Rattle.marshal.proofs.Handing.{begins, cut_back, handed_given, hands_all, hands_on}
 use Rattle.marshal.proofs.marshal.Marshal.hand_out.Goals as goal
 
@@ -9,7 +9,7 @@ pub loop-handed-init : goal.loop-handed-init
 loop-handed-init g c = (
   refl,
   rw c.new-out.ensures.items
-      (begins (rules_of g.H.Hasher.digest_of c.args.self.now) (state_of c.args.self.now)),
+      (begins (marshal_rules g.H.Hasher.digest_of c.args.self.now) (marshal_state c.args.self.now)),
 )
 
 pub returns-in_err-give-clause-err : goal.returns-in_err-give-clause-err
@@ -22,7 +22,8 @@ returns-in_err-give-clause-err g c =
 pub loop-handed-smaller : goal.loop-handed-smaller
 loop-handed-smaller g c =
     rw c.in_ok-give.ensures.ok
-    (falls (rules_of g.H.Hasher.digest_of c.loop-handed.self) (state_of c.loop-handed.self)
+    (falls (marshal_rules g.H.Hasher.digest_of c.loop-handed.self)
+    (marshal_state c.loop-handed.self)
     c.in-Some.handed (sym c.in-Some.ensures.value))
 
 pub loop-handed-preserved : goal.loop-handed-preserved

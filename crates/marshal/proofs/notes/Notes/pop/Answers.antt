@@ -4,7 +4,7 @@ use Rattle.std.proofs.lemmas.List.{length-map}
 use Rattle.cw_base.specs.declared.hash.Digest32.{Digest32}
 use Rattle.cw_types.specs.Values.{IsNote}
 use Rattle.cw_types.specs.declared.note.Note.{Note}
-use Rattle.marshal.specs.Indexed.{AreIndexed}
+use Rattle.marshal.specs.Indexed.{IsIndexOf}
 use Rattle.marshal.specs.Kept.{note_digest}
 use Rattle.marshal.proofs.Reaching.{reaches_less}
 use Rattle.marshal.proofs.Truncating.{all_less, last_beside, maps_less}
@@ -30,15 +30,15 @@ invariant_of-self g c =
     c.pop-in-Some.ensures.rest c.pop-in-Some.ensures.cases
     ∙ ap (λ (d : Option Digest32). new ++ d ∷ []) (sym c.unwrap_or-digest.ensures) in
     let seen : c.deref.result.now ≡ less = c.deref.ensures.value in
-    let was : AreIndexed (c.deref.result.now ++ note ∷ []) (new ++ digest ∷ []) index =
-    subst (λ (ns : List Note). AreIndexed (ns ++ note ∷ []) (new ++ digest ∷ []) index) (sym seen)
-    (subst (λ (ds : List (Option Digest32)). AreIndexed (less ++ note ∷ []) ds index) beside
-    (subst (λ (ns : List Note). AreIndexed ns old index) split c.self.invariant.indexed)) in
+    let was : IsIndexOf (c.deref.result.now ++ note ∷ []) (new ++ digest ∷ []) index =
+    subst (λ (ns : List Note). IsIndexOf (ns ++ note ∷ []) (new ++ digest ∷ []) index) (sym seen)
+    (subst (λ (ds : List (Option Digest32)). IsIndexOf (less ++ note ∷ []) ds index) beside
+    (subst (λ (ns : List Note). IsIndexOf ns old index) split c.self.invariant.indexed)) in
     let long : length new ≡ length c.deref.result.now =
     ap length digested
     ∙ (length-map less (note_digest g.H.Hasher.digest_of) ∙ sym (ap length seen)) in
-    let indexed : AreIndexed less new c.take.new.self =
-    subst (λ (ns : List Note). AreIndexed ns new c.take.new.self) seen (c.take.ensures new was long)
+    let indexed : IsIndexOf less new c.take.new.self =
+    subst (λ (ns : List Note). IsIndexOf ns new c.take.new.self) seen (c.take.ensures new was long)
     in
     record {
       forms =

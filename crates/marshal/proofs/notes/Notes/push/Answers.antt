@@ -2,9 +2,9 @@ use Rattle.std.proofs.Common.{◌≡◌, ◌≤◌, ◌∙◌, ◌++◌, ◌∷�
 use Rattle.std.proofs.lemmas.List.{length-map, map-append}
 use Rattle.cw_types.specs.Values.{IsNote}
 use Rattle.cw_rules.proofs.Lists.{all_both}
-use Rattle.marshal.specs.Indexed.{AreIndexed}
+use Rattle.marshal.specs.Indexed.{IsIndexOf}
 use Rattle.marshal.specs.Kept.{note_digest}
-use Rattle.marshal.specs.Reach.{Reaches, final_height}
+use Rattle.marshal.specs.Reach.{BoundsHeights, final_height}
 use Rattle.marshal.proofs.Reaching.{reaches_on}
 use Rattle.marshal.proofs.notes.Notes.push.Goals as goal
 
@@ -19,7 +19,7 @@ invariant_of-self-2 g c =
     at
     ∙ (sym (length-map notes (note_digest g.H.Hasher.digest_of))
     ∙ sym (ap length c.self.invariant.digested)) in
-    let indexed : AreIndexed (notes ++ note ∷ []) (digests ++ c.in_ok-digest.digest ∷ [])
+    let indexed : IsIndexOf (notes ++ note ∷ []) (digests ++ c.in_ok-digest.digest ∷ [])
     c.put.new.self =
     c.in_ok-put.ensures.ok notes digests c.self.invariant.indexed at beside in
     let more : c.push_reserved.new.self.items ≡ c.self.inside.reach.items ++ c.reach_on.result ∷ []
@@ -28,7 +28,7 @@ invariant_of-self-2 g c =
     search rules in
     let own : unwrap_or (final_height notes note) 0 ≤ c.reach_on.result =
     omega (arith, height, c.reach_on.ensures.height) in
-    let reaching : Reaches (notes ++ note ∷ []) c.raise.new.reach.items =
+    let reaching : BoundsHeights (notes ++ note ∷ []) c.raise.new.reach.items =
     reaches_on notes note c.put.new.self.finals.entries c.self.inside.reach.items
     c.push_reserved.new.self.items c.raise.new.reach.items c.reach_on.result
     c.self.invariant.reaching indexed.finalized more own c.raise.ensures.lifted

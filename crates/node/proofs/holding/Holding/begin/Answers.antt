@@ -3,7 +3,7 @@ use Rattle.cw_rules_coded.specs.Coded.{ruled}
 use Rattle.node.proofs.Starting.{stands_begun}
 use Rattle.node.specs.Holding.{Holding}
 use Rattle.node.specs.Standing.{IsReady}
-use Rattle.marshal.specs.Stored.{log_of}
+use Rattle.marshal.specs.Stored.{marshal_log}
 use Rattle.node.specs.Store.{store_of, stored_notes}
 use Rattle.node.proofs.holding.Holding.begin.Goals as goal
 
@@ -13,7 +13,7 @@ returns-in-Ok-clause-ready g c =
     let accepts = g.A.Application.accepts in
     let setup = c.args.setup in
     let t = store_of c.args.store.marshal in
-    let log = log_of c.args.store.marshal in
+    let log = marshal_log c.args.store.marshal in
     let r = ruled setup.travel hash setup.committees setup.backlog (accepts setup.app) in
     let told =
     c.in-Ok.ensures.ok

@@ -1,12 +1,12 @@
 use Rattle.std.proofs.Common.{◌≡◌, refl, sym, ◌∙◌, ap, inl, inr, ◌++◌, ◌∷◌, [], None, true}
 use Rattle.shards.specs.Kept as kept
-use Rattle.shards.specs.Verdicts.{after, verdict}
+use Rattle.shards.specs.Verdicts.{gathered_after, verdict}
 use Rattle.shards.specs.declared.verdict.Verdict.TheVariants.{Foreign, Garbage, Held, Kept, Known}
 use Rattle.cw_rules.specs.Accepted.{Row, take_part}
 use Rattle.voter.specs.Standing.{with_came}
 use Rattle.node.proofs.Rows.{row_none, row_some, row_stands, shows_held, shows_same}
 use Rattle.node.specs.Accepting.{with_row}
-use Rattle.node.specs.Holding.{Holding, came_of, cut_rules, rules_of, state_of}
+use Rattle.node.specs.Holding.{Holding, came_of, cut_rules, rules_of, holding_state}
 use Rattle.node.specs.declared.arrival.Arrival.{Arrival}
 use Rattle.node.proofs.holding.Holding.keep_chunk.Goals as goal
 
@@ -17,7 +17,7 @@ returns-in-Known-clause-come g c =
     let accepts = g.A.Application.accepts in
     let r = rules_of hash accepts h in
     let s = cut_rules hash accepts h in
-    let q = kept.rules_of hash h.shards.epochs in
+    let q = kept.chunk_rules hash h.shards.epochs in
     let m = c.args.commitment.now in
     let x = c.args.chunk in
     let e = c.self.view_is in
@@ -25,13 +25,14 @@ returns-in-Known-clause-come g c =
     sym
     (ap
     (λ (k : Holding g.row.D.Denot g.row.A.Denot). verdict
-    (kept.rules_of hash k.shards.epochs) k.shards.kept m x)
+    (kept.chunk_rules hash k.shards.epochs) k.shards.kept m x)
     e)
     ∙ (sym c.in_ok-take.ensures.verdict ∙ c.in-Known.is) in
     let t =
     c.in_ok-take.ensures.ok
     ∙ ap
-    (λ (k : Holding g.row.D.Denot g.row.A.Denot). after (kept.rules_of hash k.shards.epochs)
+    (λ (k : Holding g.row.D.Denot g.row.A.Denot). gathered_after
+    (kept.chunk_rules hash k.shards.epochs)
     k.shards m x)
     e in
     let known = c.shards_stand.ensures.known hash h.shards s (came_of h) c.requires.shards m x in
@@ -47,7 +48,7 @@ returns-in-Known-clause-new g c =
     let accepts = g.A.Application.accepts in
     let r = rules_of hash accepts h in
     let s = cut_rules hash accepts h in
-    let q = kept.rules_of hash h.shards.epochs in
+    let q = kept.chunk_rules hash h.shards.epochs in
     let m = c.args.commitment.now in
     let x = c.args.chunk in
     let e = c.self.view_is in
@@ -55,13 +56,14 @@ returns-in-Known-clause-new g c =
     sym
     (ap
     (λ (k : Holding g.row.D.Denot g.row.A.Denot). verdict
-    (kept.rules_of hash k.shards.epochs) k.shards.kept m x)
+    (kept.chunk_rules hash k.shards.epochs) k.shards.kept m x)
     e)
     ∙ (sym c.in_ok-take.ensures.verdict ∙ c.in-Known.is) in
     let t =
     c.in_ok-take.ensures.ok
     ∙ ap
-    (λ (k : Holding g.row.D.Denot g.row.A.Denot). after (kept.rules_of hash k.shards.epochs)
+    (λ (k : Holding g.row.D.Denot g.row.A.Denot). gathered_after
+    (kept.chunk_rules hash k.shards.epochs)
     k.shards m x)
     e in
     let known = c.shards_stand.ensures.known hash h.shards s (came_of h) c.requires.shards m x in
@@ -77,7 +79,7 @@ returns-in-Foreign-clause-come g c =
     let accepts = g.A.Application.accepts in
     let r = rules_of hash accepts h in
     let s = cut_rules hash accepts h in
-    let q = kept.rules_of hash h.shards.epochs in
+    let q = kept.chunk_rules hash h.shards.epochs in
     let m = c.args.commitment.now in
     let x = c.args.chunk in
     let e = c.self.view_is in
@@ -85,13 +87,14 @@ returns-in-Foreign-clause-come g c =
     sym
     (ap
     (λ (k : Holding g.row.D.Denot g.row.A.Denot). verdict
-    (kept.rules_of hash k.shards.epochs) k.shards.kept m x)
+    (kept.chunk_rules hash k.shards.epochs) k.shards.kept m x)
     e)
     ∙ (sym c.in_ok-take.ensures.verdict ∙ c.in-Foreign.is) in
     let t =
     c.in_ok-take.ensures.ok
     ∙ ap
-    (λ (k : Holding g.row.D.Denot g.row.A.Denot). after (kept.rules_of hash k.shards.epochs)
+    (λ (k : Holding g.row.D.Denot g.row.A.Denot). gathered_after
+    (kept.chunk_rules hash k.shards.epochs)
     k.shards m x)
     e in
     let known = c.shards_stand.ensures.known hash h.shards s (came_of h) c.requires.shards m x in
@@ -107,7 +110,7 @@ returns-in_ok-add_row-in-Kept-clause-come g c =
     let accepts = g.A.Application.accepts in
     let r = rules_of hash accepts h in
     let s = cut_rules hash accepts h in
-    let q = kept.rules_of hash h.shards.epochs in
+    let q = kept.chunk_rules hash h.shards.epochs in
     let m = c.args.commitment.now in
     let x = c.args.chunk in
     let e = c.self.view_is in
@@ -115,23 +118,24 @@ returns-in_ok-add_row-in-Kept-clause-come g c =
     sym
     (ap
     (λ (k : Holding g.row.D.Denot g.row.A.Denot). verdict
-    (kept.rules_of hash k.shards.epochs) k.shards.kept m x)
+    (kept.chunk_rules hash k.shards.epochs) k.shards.kept m x)
     e)
     ∙ (sym c.in_ok-take.ensures.verdict ∙ c.in-Kept.is) in
     let t =
     c.in_ok-take.ensures.ok
     ∙ ap
-    (λ (k : Holding g.row.D.Denot g.row.A.Denot). after (kept.rules_of hash k.shards.epochs)
+    (λ (k : Holding g.row.D.Denot g.row.A.Denot). gathered_after
+    (kept.chunk_rules hash k.shards.epochs)
     k.shards m x)
     e in
     let known = c.shards_stand.ensures.known hash h.shards s (came_of h) c.requires.shards m x in
     let foreign =
     c.shards_stand.ensures.foreign hash h.shards s (came_of h) c.requires.shards m x in
     let tally =
-    row_stands hash h.tally r (with_came (state_of h) (take_part (came_of h) true (Row m x)))
+    row_stands hash h.tally r (with_came (holding_state h) (take_part (came_of h) true (Row m x)))
     h.epochs h.id m x.index (sym c.requires.tally.epochs) c.requires.id
-    (c.standing_is_kept.ensures.own_chunk hash h.tally r (state_of h) c.requires.tally m x)
-    (c.standing_is_kept.ensures.other_chunk hash h.tally r (state_of h) c.requires.tally m
+    (c.standing_is_kept.ensures.own_chunk hash h.tally r (holding_state h) c.requires.tally m x)
+    (c.standing_is_kept.ensures.other_chunk hash h.tally r (holding_state h) c.requires.tally m
     x) in
     let chunks = c.shards_stand.ensures.taken hash h.shards s (came_of h) c.requires.shards m x in
     let row : Arrival = record { commitment = m; block = None } in
@@ -156,7 +160,7 @@ returns-in_ok-add_row-in-Kept-clause-new g c =
     let accepts = g.A.Application.accepts in
     let r = rules_of hash accepts h in
     let s = cut_rules hash accepts h in
-    let q = kept.rules_of hash h.shards.epochs in
+    let q = kept.chunk_rules hash h.shards.epochs in
     let m = c.args.commitment.now in
     let x = c.args.chunk in
     let e = c.self.view_is in
@@ -164,23 +168,24 @@ returns-in_ok-add_row-in-Kept-clause-new g c =
     sym
     (ap
     (λ (k : Holding g.row.D.Denot g.row.A.Denot). verdict
-    (kept.rules_of hash k.shards.epochs) k.shards.kept m x)
+    (kept.chunk_rules hash k.shards.epochs) k.shards.kept m x)
     e)
     ∙ (sym c.in_ok-take.ensures.verdict ∙ c.in-Kept.is) in
     let t =
     c.in_ok-take.ensures.ok
     ∙ ap
-    (λ (k : Holding g.row.D.Denot g.row.A.Denot). after (kept.rules_of hash k.shards.epochs)
+    (λ (k : Holding g.row.D.Denot g.row.A.Denot). gathered_after
+    (kept.chunk_rules hash k.shards.epochs)
     k.shards m x)
     e in
     let known = c.shards_stand.ensures.known hash h.shards s (came_of h) c.requires.shards m x in
     let foreign =
     c.shards_stand.ensures.foreign hash h.shards s (came_of h) c.requires.shards m x in
     let tally =
-    row_stands hash h.tally r (with_came (state_of h) (take_part (came_of h) true (Row m x)))
+    row_stands hash h.tally r (with_came (holding_state h) (take_part (came_of h) true (Row m x)))
     h.epochs h.id m x.index (sym c.requires.tally.epochs) c.requires.id
-    (c.standing_is_kept.ensures.own_chunk hash h.tally r (state_of h) c.requires.tally m x)
-    (c.standing_is_kept.ensures.other_chunk hash h.tally r (state_of h) c.requires.tally m
+    (c.standing_is_kept.ensures.own_chunk hash h.tally r (holding_state h) c.requires.tally m x)
+    (c.standing_is_kept.ensures.other_chunk hash h.tally r (holding_state h) c.requires.tally m
     x) in
     let chunks = c.shards_stand.ensures.taken hash h.shards s (came_of h) c.requires.shards m x in
     let row : Arrival = record { commitment = m; block = None } in
@@ -205,7 +210,7 @@ returns-in_ok-add_row-in-Garbage-clause-come g c =
     let accepts = g.A.Application.accepts in
     let r = rules_of hash accepts h in
     let s = cut_rules hash accepts h in
-    let q = kept.rules_of hash h.shards.epochs in
+    let q = kept.chunk_rules hash h.shards.epochs in
     let m = c.args.commitment.now in
     let x = c.args.chunk in
     let e = c.self.view_is in
@@ -213,23 +218,24 @@ returns-in_ok-add_row-in-Garbage-clause-come g c =
     sym
     (ap
     (λ (k : Holding g.row.D.Denot g.row.A.Denot). verdict
-    (kept.rules_of hash k.shards.epochs) k.shards.kept m x)
+    (kept.chunk_rules hash k.shards.epochs) k.shards.kept m x)
     e)
     ∙ (sym c.in_ok-take.ensures.verdict ∙ c.in-Garbage.is) in
     let t =
     c.in_ok-take.ensures.ok
     ∙ ap
-    (λ (k : Holding g.row.D.Denot g.row.A.Denot). after (kept.rules_of hash k.shards.epochs)
+    (λ (k : Holding g.row.D.Denot g.row.A.Denot). gathered_after
+    (kept.chunk_rules hash k.shards.epochs)
     k.shards m x)
     e in
     let known = c.shards_stand.ensures.known hash h.shards s (came_of h) c.requires.shards m x in
     let foreign =
     c.shards_stand.ensures.foreign hash h.shards s (came_of h) c.requires.shards m x in
     let tally =
-    row_stands hash h.tally r (with_came (state_of h) (take_part (came_of h) true (Row m x)))
+    row_stands hash h.tally r (with_came (holding_state h) (take_part (came_of h) true (Row m x)))
     h.epochs h.id m x.index (sym c.requires.tally.epochs) c.requires.id
-    (c.standing_is_kept.ensures.own_chunk hash h.tally r (state_of h) c.requires.tally m x)
-    (c.standing_is_kept.ensures.other_chunk hash h.tally r (state_of h) c.requires.tally m
+    (c.standing_is_kept.ensures.own_chunk hash h.tally r (holding_state h) c.requires.tally m x)
+    (c.standing_is_kept.ensures.other_chunk hash h.tally r (holding_state h) c.requires.tally m
     x) in
     let chunks = c.shards_stand.ensures.taken hash h.shards s (came_of h) c.requires.shards m x in
     let row : Arrival = record { commitment = m; block = None } in
@@ -254,7 +260,7 @@ returns-in_ok-add_row-in-Garbage-clause-new g c =
     let accepts = g.A.Application.accepts in
     let r = rules_of hash accepts h in
     let s = cut_rules hash accepts h in
-    let q = kept.rules_of hash h.shards.epochs in
+    let q = kept.chunk_rules hash h.shards.epochs in
     let m = c.args.commitment.now in
     let x = c.args.chunk in
     let e = c.self.view_is in
@@ -262,23 +268,24 @@ returns-in_ok-add_row-in-Garbage-clause-new g c =
     sym
     (ap
     (λ (k : Holding g.row.D.Denot g.row.A.Denot). verdict
-    (kept.rules_of hash k.shards.epochs) k.shards.kept m x)
+    (kept.chunk_rules hash k.shards.epochs) k.shards.kept m x)
     e)
     ∙ (sym c.in_ok-take.ensures.verdict ∙ c.in-Garbage.is) in
     let t =
     c.in_ok-take.ensures.ok
     ∙ ap
-    (λ (k : Holding g.row.D.Denot g.row.A.Denot). after (kept.rules_of hash k.shards.epochs)
+    (λ (k : Holding g.row.D.Denot g.row.A.Denot). gathered_after
+    (kept.chunk_rules hash k.shards.epochs)
     k.shards m x)
     e in
     let known = c.shards_stand.ensures.known hash h.shards s (came_of h) c.requires.shards m x in
     let foreign =
     c.shards_stand.ensures.foreign hash h.shards s (came_of h) c.requires.shards m x in
     let tally =
-    row_stands hash h.tally r (with_came (state_of h) (take_part (came_of h) true (Row m x)))
+    row_stands hash h.tally r (with_came (holding_state h) (take_part (came_of h) true (Row m x)))
     h.epochs h.id m x.index (sym c.requires.tally.epochs) c.requires.id
-    (c.standing_is_kept.ensures.own_chunk hash h.tally r (state_of h) c.requires.tally m x)
-    (c.standing_is_kept.ensures.other_chunk hash h.tally r (state_of h) c.requires.tally m
+    (c.standing_is_kept.ensures.own_chunk hash h.tally r (holding_state h) c.requires.tally m x)
+    (c.standing_is_kept.ensures.other_chunk hash h.tally r (holding_state h) c.requires.tally m
     x) in
     let chunks = c.shards_stand.ensures.taken hash h.shards s (came_of h) c.requires.shards m x in
     let row : Arrival = record { commitment = m; block = None } in
@@ -303,7 +310,7 @@ returns-in_ok-add_last_row-in-Held-clause-come g c =
     let accepts = g.A.Application.accepts in
     let r = rules_of hash accepts h in
     let s = cut_rules hash accepts h in
-    let q = kept.rules_of hash h.shards.epochs in
+    let q = kept.chunk_rules hash h.shards.epochs in
     let m = c.args.commitment.now in
     let x = c.args.chunk in
     let e = c.self.view_is in
@@ -311,23 +318,24 @@ returns-in_ok-add_last_row-in-Held-clause-come g c =
     sym
     (ap
     (λ (k : Holding g.row.D.Denot g.row.A.Denot). verdict
-    (kept.rules_of hash k.shards.epochs) k.shards.kept m x)
+    (kept.chunk_rules hash k.shards.epochs) k.shards.kept m x)
     e)
     ∙ (sym c.in_ok-take.ensures.verdict ∙ c.in-Held.is) in
     let t =
     c.in_ok-take.ensures.ok
     ∙ ap
-    (λ (k : Holding g.row.D.Denot g.row.A.Denot). after (kept.rules_of hash k.shards.epochs)
+    (λ (k : Holding g.row.D.Denot g.row.A.Denot). gathered_after
+    (kept.chunk_rules hash k.shards.epochs)
     k.shards m x)
     e in
     let known = c.shards_stand.ensures.known hash h.shards s (came_of h) c.requires.shards m x in
     let foreign =
     c.shards_stand.ensures.foreign hash h.shards s (came_of h) c.requires.shards m x in
     let tally =
-    row_stands hash h.tally r (with_came (state_of h) (take_part (came_of h) true (Row m x)))
+    row_stands hash h.tally r (with_came (holding_state h) (take_part (came_of h) true (Row m x)))
     h.epochs h.id m x.index (sym c.requires.tally.epochs) c.requires.id
-    (c.standing_is_kept.ensures.own_chunk hash h.tally r (state_of h) c.requires.tally m x)
-    (c.standing_is_kept.ensures.other_chunk hash h.tally r (state_of h) c.requires.tally m
+    (c.standing_is_kept.ensures.own_chunk hash h.tally r (holding_state h) c.requires.tally m x)
+    (c.standing_is_kept.ensures.other_chunk hash h.tally r (holding_state h) c.requires.tally m
     x) in
     let chunks = c.shards_stand.ensures.taken hash h.shards s (came_of h) c.requires.shards m x in
     let row : Arrival = record { commitment = m; block = None } in
@@ -355,7 +363,7 @@ returns-in_ok-add_last_row-in-Held-clause-new g c =
     let accepts = g.A.Application.accepts in
     let r = rules_of hash accepts h in
     let s = cut_rules hash accepts h in
-    let q = kept.rules_of hash h.shards.epochs in
+    let q = kept.chunk_rules hash h.shards.epochs in
     let m = c.args.commitment.now in
     let x = c.args.chunk in
     let e = c.self.view_is in
@@ -363,23 +371,24 @@ returns-in_ok-add_last_row-in-Held-clause-new g c =
     sym
     (ap
     (λ (k : Holding g.row.D.Denot g.row.A.Denot). verdict
-    (kept.rules_of hash k.shards.epochs) k.shards.kept m x)
+    (kept.chunk_rules hash k.shards.epochs) k.shards.kept m x)
     e)
     ∙ (sym c.in_ok-take.ensures.verdict ∙ c.in-Held.is) in
     let t =
     c.in_ok-take.ensures.ok
     ∙ ap
-    (λ (k : Holding g.row.D.Denot g.row.A.Denot). after (kept.rules_of hash k.shards.epochs)
+    (λ (k : Holding g.row.D.Denot g.row.A.Denot). gathered_after
+    (kept.chunk_rules hash k.shards.epochs)
     k.shards m x)
     e in
     let known = c.shards_stand.ensures.known hash h.shards s (came_of h) c.requires.shards m x in
     let foreign =
     c.shards_stand.ensures.foreign hash h.shards s (came_of h) c.requires.shards m x in
     let tally =
-    row_stands hash h.tally r (with_came (state_of h) (take_part (came_of h) true (Row m x)))
+    row_stands hash h.tally r (with_came (holding_state h) (take_part (came_of h) true (Row m x)))
     h.epochs h.id m x.index (sym c.requires.tally.epochs) c.requires.id
-    (c.standing_is_kept.ensures.own_chunk hash h.tally r (state_of h) c.requires.tally m x)
-    (c.standing_is_kept.ensures.other_chunk hash h.tally r (state_of h) c.requires.tally m
+    (c.standing_is_kept.ensures.own_chunk hash h.tally r (holding_state h) c.requires.tally m x)
+    (c.standing_is_kept.ensures.other_chunk hash h.tally r (holding_state h) c.requires.tally m
     x) in
     let chunks = c.shards_stand.ensures.taken hash h.shards s (came_of h) c.requires.shards m x in
     let row : Arrival = record { commitment = m; block = None } in

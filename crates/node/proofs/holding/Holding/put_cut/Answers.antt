@@ -19,11 +19,11 @@ returns g c =
     let cut = sym c.requires in
     let own =
     c.in_ok-own.ensures.commitment
-    ∙ (ap (λ (k : Holding g.row.D.Denot g.row.A.Denot). commit (kept.rules_of hash k.epochs) b) e
+    ∙ (ap (λ (k : Holding g.row.D.Denot g.row.A.Denot). commit (kept.chunk_rules hash k.epochs) b) e
     ∙ ap (λ t. commit (ruled t hash h.epochs h.backlog (accepts h.app)) b) cut) in
     let all =
     c.in_ok-own.ensures.chunks
-    ∙ (ap (λ (k : Holding g.row.D.Denot g.row.A.Denot). chunks (kept.rules_of hash k.epochs) b) e
+    ∙ (ap (λ (k : Holding g.row.D.Denot g.row.A.Denot). chunks (kept.chunk_rules hash k.epochs) b) e
     ∙ ap (λ t. chunks (ruled t hash h.epochs h.backlog (accepts h.app)) b) cut) in
     let list =
     c.members.ensures.value

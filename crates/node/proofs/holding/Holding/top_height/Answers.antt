@@ -1,7 +1,7 @@
 use Rattle.std.proofs.Common.{Bor, ap, option_map, sym, ◌∙◌}
 use Rattle.std.specs.Option.{option_map_or}
 use Rattle.cw_types.specs.Block.{Block}
-use Rattle.marshal.specs.Finding.{final_blocks, highest}
+use Rattle.marshal.specs.Finding.{final_blocks, highest_block}
 use Rattle.node.proofs.Tops.{highest_height}
 use Rattle.node.specs.Holding.{Holding, rules_of}
 use Rattle.node.specs.Store.{stored_notes, stored_rules}
@@ -17,7 +17,7 @@ returns-in-Some-clause-value g c =
     let found =
     c.highest.ensures
     ∙ ap
-    (λ (k : Holding g.row.D.Denot g.row.A.Denot). highest
+    (λ (k : Holding g.row.D.Denot g.row.A.Denot). highest_block
     (final_blocks (stored_rules hash k.store) (stored_notes k.store)))
     c.self.view_is in
     c.height.ensures.value
@@ -34,7 +34,7 @@ returns-in-None-clause-value g c =
     let found =
     c.highest.ensures
     ∙ ap
-    (λ (k : Holding g.row.D.Denot g.row.A.Denot). highest
+    (λ (k : Holding g.row.D.Denot g.row.A.Denot). highest_block
     (final_blocks (stored_rules hash k.store) (stored_notes k.store)))
     c.self.view_is in
     sym (ap (λ o. option_map_or height (option_map now o) 0) c.in-None.is)

@@ -9,7 +9,7 @@ use Rattle.node.proofs.Working.{at_work}
 use Rattle.node.specs.Disks.{HasTried}
 use Rattle.node.specs.Holding as holding
 use Rattle.node.specs.Holding.{member_of}
-use Rattle.node.specs.State.{NodeState, notes_of_step, rules_of}
+use Rattle.node.specs.State.{NodeState, notes_of_step, node_rules}
 use Rattle.node.proofs.member.Member.step.Goals as goal
 
 pub returns-in-Ok-clause-step : goal.returns-in-Ok-clause-step
@@ -23,7 +23,7 @@ returns-in-Ok-clause-step g c =
     ∙ ((λ i. step (holding.rules_of hash accepts h) h.id signed (member_of (live i) h)
     c.args.event.now)
     ∙ ap
-    (λ (n : NodeState g.row.D.Denot g.row.A.Denot). step (rules_of hash accepts n) n.id signed
+    (λ (n : NodeState g.row.D.Denot g.row.A.Denot). step (node_rules hash accepts n) n.id signed
     n.member c.args.event.now)
     c.self.view_is)
 
@@ -51,6 +51,6 @@ returns-in-Err-clause-disk g c alive =
     c.in-Err.ensures.disk in
     subst
     (λ (n : NodeState g.row.D.Denot g.row.A.Denot). HasTried g.D.Disk.state g.D.Disk.continues
-    n.member.frames (notes_of_step (rules_of hash accepts n) signed n c.args.event.now)
+    n.member.frames (notes_of_step (node_rules hash accepts n) signed n c.args.event.now)
     error n.log c.act.new.self.log)
     c.self.view_is first

@@ -1,5 +1,5 @@
 use Rattle.std.proofs.Common.{◌≡◌, ◌++◌, [], ◌∷◌, length, map, false, refl, sym, ◌∙◌, ap, subst, rules}
-use Rattle.node_disk.specs.Record.{request_of, entry_of, held_after, outcome_at, is_done}
+use Rattle.node_disk.specs.Record.{request_of, recorded_of, held_after, outcome_at, has_succeeded}
 use Rattle.node_disk.specs.Memory.{MemoryState, HasCalled, next_outcome}
 use Rattle.node_disk.specs.declared.record.Call.{Call}
 use Rattle.node_disk.proofs.Called.{called_by, keeps_now, outcome_was}
@@ -11,7 +11,7 @@ invariant_of-self-2 c =
     let o = c.outcome_of-outcome.result in
     let old : MemoryState =
     record {
-      calls = map entry_of m.calls.items;
+      calls = map recorded_of m.calls.items;
       reopened = m.reopened;
       stop = m.stop;
       failing = m.failing.items;
@@ -20,7 +20,7 @@ invariant_of-self-2 c =
     } in
     let new : MemoryState =
     record {
-      calls = map entry_of c.add_call.new.calls.items;
+      calls = map recorded_of c.add_call.new.calls.items;
       reopened = false;
       stop = m.stop;
       failing = m.failing.items;
@@ -46,7 +46,7 @@ returns-clause-called c =
     let o = c.outcome_of-outcome.result in
     let old : MemoryState =
     record {
-      calls = map entry_of m.calls.items;
+      calls = map recorded_of m.calls.items;
       reopened = m.reopened;
       stop = m.stop;
       failing = m.failing.items;
@@ -55,7 +55,7 @@ returns-clause-called c =
     } in
     let new : MemoryState =
     record {
-      calls = map entry_of c.add_call.new.calls.items;
+      calls = map recorded_of c.add_call.new.calls.items;
       reopened = false;
       stop = m.stop;
       failing = m.failing.items;
@@ -76,7 +76,7 @@ returns-clause-done c =
     let o = c.outcome_of-outcome.result in
     let old : MemoryState =
     record {
-      calls = map entry_of m.calls.items;
+      calls = map recorded_of m.calls.items;
       reopened = m.reopened;
       stop = m.stop;
       failing = m.failing.items;
@@ -85,7 +85,7 @@ returns-clause-done c =
     } in
     let new : MemoryState =
     record {
-      calls = map entry_of c.add_call.new.calls.items;
+      calls = map recorded_of c.add_call.new.calls.items;
       reopened = false;
       stop = m.stop;
       failing = m.failing.items;
@@ -100,6 +100,7 @@ returns-clause-done c =
     pushed refl known refl refl refl refl refl refl in
     c.is_done.ensures
     ∙ sym
-    (outcome_was (request_of c.args.action) old new called o m.calls.items (is_done o) known refl
+    (outcome_was (request_of c.args.action) old new called o m.calls.items (has_succeeded o) known
+    refl
     refl)
-    ∙ ap (λ (s : MemoryState). is_done (next_outcome s)) c.self.view_is
+    ∙ ap (λ (s : MemoryState). has_succeeded (next_outcome s)) c.self.view_is

@@ -1,5 +1,5 @@
 use Rattle.std.proofs.Common.{◌≡◌, ◌∙◌, ◌++◌, ◌∷◌, [], List, None, ap, subst, sym, ℕ}
-use Rattle.shards.specs.Index.{AreIndexed, chunks_at, with_index}
+use Rattle.shards.specs.Index.{AreChunksIndexed, chunks_at, with_index}
 use Rattle.cw_rules.specs.Rules.{Chunk}
 use Rattle.shards.proofs.BlockLemmas.{SetsIndex, chunks_pushed, indexed_pushed}
 use Rattle.shards.proofs.block.BlockChunks.push.Goals as goal
@@ -15,7 +15,7 @@ invariant_of-self-2 c =
     c.push_reserved.ensures.items
     ∙ (ap (λ (is : List ℕ). is ++ c.index-index.result ∷ []) c.in_ok-reserve.ensures.items
     ∙ ap (λ i. came ++ i ∷ []) c.index-index.ensures) in
-    subst (AreIndexed c.insert.new.self.entries) (sym items)
+    subst (AreChunksIndexed c.insert.new.self.entries) (sym items)
     (indexed_pushed old c.insert.new.self.entries x
     (subst (λ i. SetsIndex i x old c.insert.new.self.entries) c.index-index.ensures
     c.in_ok-insert.ensures.updates.0) came c.self.invariant none)

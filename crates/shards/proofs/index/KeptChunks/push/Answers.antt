@@ -1,6 +1,6 @@
 use Rattle.std.proofs.Common.{◌≡◌, ◌∙◌, ◌++◌, ◌∷◌, [], List, ap, subst, sym}
 use Rattle.shards.specs.Index.{AreGathered, IsNewChunk, all_gathered}
-use Rattle.shards.specs.Kept.{is_known, with_chunk}
+use Rattle.shards.specs.Kept.{is_kept_chunk, with_chunk}
 use Rattle.shards.specs.declared.index.ChunkKey.{ChunkKey}
 use Rattle.shards.proofs.IndexLemmas.{gathered_more, gathered_stay, one_more, new_unknown}
 use Rattle.shards.proofs.index.KeptChunks.push.Goals as goal
@@ -9,7 +9,7 @@ pub add-requires : goal.add-requires
 add-requires c =
     new_unknown c.self.inside.chunks.entries c.self.inside.order.items c.args.commitment.now
     c.args.chunk c.self.invariant
-    (ap (λ kept. is_known kept c.args.commitment.now c.args.chunk) c.self.view_is ∙ c.requires)
+    (ap (λ kept. is_kept_chunk kept c.args.commitment.now c.args.chunk) c.self.view_is ∙ c.requires)
 
 pub invariant_of-self-in_err-add : goal.invariant_of-self-in_err-add
 invariant_of-self-in_err-add c =
@@ -27,7 +27,7 @@ invariant_of-self-2 c =
     let order : List ChunkKey = c.self.inside.order.items in
     let is_new : IsNewChunk es d x =
     new_unknown es order d x c.self.invariant
-    (ap (λ kept. is_known kept d x) c.self.view_is ∙ c.requires) in
+    (ap (λ kept. is_kept_chunk kept d x) c.self.view_is ∙ c.requires) in
     let items : c.push_reserved.new.self.items
     ≡ order ++ record { commitment = d; index = x.index } ∷ [] =
     c.push_reserved.ensures.items
@@ -47,7 +47,7 @@ returns-clause-ok c =
     let order : List ChunkKey = c.self.inside.order.items in
     let is_new : IsNewChunk es d x =
     new_unknown es order d x c.self.invariant
-    (ap (λ kept. is_known kept d x) c.self.view_is ∙ c.requires) in
+    (ap (λ kept. is_kept_chunk kept d x) c.self.view_is ∙ c.requires) in
     let items : c.push_reserved.new.self.items
     ≡ order ++ record { commitment = d; index = x.index } ∷ [] =
     c.push_reserved.ensures.items

@@ -1,6 +1,6 @@
 use Rattle.std.proofs.Common.{◌≡◌, ◌∙◌, false, subst, sym, true}
 use Rattle.cw_rules.specs.Accepted.{is_chunk_of}
-use Rattle.shards.specs.Kept.{AreTakenOnce, Gathered, is_known, rules_of}
+use Rattle.shards.specs.Kept.{AreTakenOnce, Gathered, is_kept_chunk, chunk_rules}
 use Rattle.shards.specs.Verdicts.{kept_verdict, verdict}
 use Rattle.shards.proofs.Answered.{verdict_taken}
 use Rattle.shards.proofs.KeptLemmas.{keep_more}
@@ -11,7 +11,7 @@ keep-requires g c = sym c.has.ensures ∙ c.if-has.false
 
 pub invariant_of-self-2 : goal.invariant_of-self-2
 invariant_of-self-2 g c =
-    let r = rules_of g.H.Hasher.digest_of c.self.inside.committees in
+    let r = chunk_rules g.H.Hasher.digest_of c.self.inside.committees in
     subst (AreTakenOnce r) (sym c.in_ok-keep.ensures.ok)
     (keep_more r c.self.inside.kept c.args.commitment.now c.args.chunk c.self.invariant
     (sym c.has.ensures ∙ c.if-has.false)
@@ -20,8 +20,8 @@ invariant_of-self-2 g c =
 pub returns-clause-verdict : goal.returns-clause-verdict
 returns-clause-verdict g c =
     let hash = g.H.Hasher.digest_of in
-    let r = rules_of hash c.self.inside.committees in
-    let new : is_known c.self.inside.kept c.args.commitment.now c.args.chunk ≡ false =
+    let r = chunk_rules hash c.self.inside.committees in
+    let new : is_kept_chunk c.self.inside.kept c.args.commitment.now c.args.chunk ≡ false =
     sym c.has.ensures ∙ c.if-has.false in
     let taken : is_chunk_of r c.args.commitment.now c.args.chunk ≡ true =
     sym c.is_chunk_of.ensures.value ∙ c.if-not-is_chunk_of.false in
@@ -31,7 +31,7 @@ returns-clause-verdict g c =
     c.in_ok-keep.ensures.same
     ∙ subst
     (λ (t : Gathered). c.in_ok-verdict.verdict
-    ≡ verdict (rules_of hash t.epochs) t.kept c.args.commitment.now c.args.chunk)
+    ≡ verdict (chunk_rules hash t.epochs) t.kept c.args.commitment.now c.args.chunk)
     c.self.view_is
     (verdict_taken r c.self.inside.kept c.args.commitment.now c.args.chunk c.in_ok-verdict.verdict
     new taken kept)

@@ -2,7 +2,7 @@ use Rattle.std.proofs.Common.{◌++◌, ◌∷◌, [], List, subst, sym}
 use Rattle.cw_types.specs.declared.commitment.Commitment.{Commitment}
 use Rattle.cw_rules.specs.Held.{pruned_height}
 use Rattle.cw_rules.specs.Notes.{entered}
-use Rattle.voter.specs.Facts.{HasSettled}
+use Rattle.voter.specs.Facts.{HasFirstSettled}
 use Rattle.note_scans.specs.declared.key.VoteKey.{VoteKey}
 use Rattle.voter.proofs.Settling.{greatest_with}
 use Rattle.voter.proofs.facts.Facts.take.Goals as goal
@@ -12,7 +12,7 @@ returns-clause-ok c = λ notes have there. record {
   saying = c.write.ensures.said notes have.saying there.said;
   settling =
       subst
-      (λ (es : List (VoteKey × Commitment)). HasSettled (notes ++ c.args.note.now ∷ []) es)
+      (λ (es : List (VoteKey × Commitment)). HasFirstSettled (notes ++ c.args.note.now ∷ []) es)
       (sym c.write.ensures.settled)
       (c.in_ok-take.ensures.ok notes have.settling);
   ending_views = c.write.ensures.ended notes have.ending_views there.ended;

@@ -2,7 +2,7 @@ use Rattle.std.proofs.Common.{◌++◌, ◌∷◌, [], List, subst, sym}
 use Rattle.cw_types.specs.declared.commitment.Commitment.{Commitment}
 use Rattle.cw_rules.specs.Held.{pruned_height}
 use Rattle.cw_rules.specs.Notes.{entered}
-use Rattle.voter.specs.Facts.{HasSettled}
+use Rattle.voter.specs.Facts.{HasFirstSettled}
 use Rattle.note_scans.specs.declared.key.VoteKey.{VoteKey}
 use Rattle.voter.proofs.Settling.{greatest_with, settled_same}
 use Rattle.voter.proofs.facts.Facts.take_unsettling.Goals as goal
@@ -12,7 +12,7 @@ returns c = λ notes have there none. record {
   saying = c.write.ensures.said notes have.saying there.said;
   settling =
       subst
-      (λ (es : List (VoteKey × Commitment)). HasSettled (notes ++ c.args.note.now ∷ []) es)
+      (λ (es : List (VoteKey × Commitment)). HasFirstSettled (notes ++ c.args.note.now ∷ []) es)
       (sym c.write.ensures.settled)
       (settled_same c.args.self.now.settled.by_key.entries notes c.args.note.now have.settling
       none);

@@ -6,7 +6,7 @@ use Rattle.std.specs.Str.{bytes_eq}
 use Rattle.note_scans.specs.Keys.{key_of, same_key}
 use Rattle.note_scans.specs.declared.key.VoteKey.{VoteKey}
 use Rattle.note_scans.proofs.Keys.{found_key}
-use Rattle.voter.specs.Lists.{is_listed}
+use Rattle.voter.specs.Lists.{has_signers_list}
 use Rattle.voter.proofs.Listed.{Sets, Signers, less_apart, less_by, less_none, list_less, listed_there, lists_changed}
 use Rattle.voter.proofs.signer_lists.SignerLists.remove.Goals as goal
 
@@ -36,6 +36,6 @@ returns-in_default c = λ v l.
     let none : lookup (same_key (key_of w)) es ≡ None =
     ap (λ (q : VoteKey). lookup (same_key q) es) (sym c.new-key.ensures)
     ∙ (sym (found_key es c.new-key.result) ∙ sym c.in_default.ensures.value) in
-    ap (λ (m : BTreeMap VoteKey (BTreeSet Signers)). is_listed m.entries v l)
+    ap (λ (m : BTreeMap VoteKey (BTreeSet Signers)). has_signers_list m.entries v l)
     c.get_mut.follows.holds-at-none
     ∙ less_none es w c.args.signers.now none v l

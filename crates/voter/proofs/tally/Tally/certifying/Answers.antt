@@ -3,7 +3,7 @@ use Rattle.std.specs.List.{list_all}
 use Rattle.cw_types.specs.Epochs.{is_committee, members_in}
 use Rattle.cw_types.specs.Votes.{vote_epoch}
 use Rattle.cw_rules.specs.Owed.{knows}
-use Rattle.voter.specs.Known.{Known, state_of}
+use Rattle.voter.specs.Known.{Known, known_state}
 use Rattle.voter.specs.Standing.{are_signers, is_signed}
 use Rattle.voter.proofs.Signers.{chosen_few, chosen_sign}
 use Rattle.voter.proofs.tally.Tally.certifying.Goals as goal
@@ -28,7 +28,7 @@ returns-clause-signed g c =
     (sym c.in_ok-signers.ensures)
     (chosen_sign c.args.self.now.epochs c.args.vote.now c.self.inside.committees.total
     c.args.self.now.ballots
-    (knows c.args.self.now.id (state_of c.args.self.now) c.args.vote.now) committee signed)
+    (knows c.args.self.now.id (known_state c.args.self.now) c.args.vote.now) committee signed)
 
 pub returns-clause-few : goal.returns-clause-few
 returns-clause-few g c =
@@ -49,6 +49,6 @@ returns-clause-few g c =
     let few = subst (λ xs. length xs ≤ c.self.inside.committees.total) (sym c.in_ok-signers.ensures)
     (chosen_few c.args.self.now.epochs c.args.vote.now c.self.inside.committees.total
     c.args.self.now.ballots
-    (knows c.args.self.now.id (state_of c.args.self.now) c.args.vote.now) committee signed) in
+    (knows c.args.self.now.id (known_state c.args.self.now) c.args.vote.now) committee signed) in
     let fits = c.total-total.type_inv in
     omega (arith, few, c.total-total.ensures)

@@ -2,7 +2,7 @@ use Rattle.std.proofs.Common.{◌∙◌, ap, filter, length, option_map, sym}
 use Rattle.cw_types.specs.Epochs.{members_in}
 use Rattle.cw_types.specs.Votes.{vote_epoch}
 use Rattle.cw_rules.specs.Owed as rule
-use Rattle.voter.specs.Known.{state_of}
+use Rattle.voter.specs.Known.{known_state}
 use Rattle.voter.proofs.KnownSigners.{unless_none, unless_some}
 use Rattle.voter.proofs.tally.Tally.count_known.Goals as goal
 
@@ -12,7 +12,7 @@ returns-in-Some g c =
     ∙ sym
     (ap length
     (unless_some
-    (filter (rule.knows c.args.self.now.id (state_of c.args.self.now) c.args.vote.now)
+    (filter (rule.knows c.args.self.now.id (known_state c.args.self.now) c.args.vote.now)
     (members_in c.args.self.now.epochs (vote_epoch c.args.vote.now)))
     c.in-Some.signers.now.keys
     (sym c.signers.ensures ∙ ap (option_map (λ signers. signers.now.keys)) c.in-Some.is)))
@@ -22,6 +22,6 @@ returns-in-None g c =
     sym
     (ap length
     (unless_none
-    (filter (rule.knows c.args.self.now.id (state_of c.args.self.now) c.args.vote.now)
+    (filter (rule.knows c.args.self.now.id (known_state c.args.self.now) c.args.vote.now)
     (members_in c.args.self.now.epochs (vote_epoch c.args.vote.now)))
     (sym c.signers.ensures ∙ ap (option_map (λ signers. signers.now.keys)) c.in-None.is)))

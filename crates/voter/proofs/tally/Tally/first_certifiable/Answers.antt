@@ -7,7 +7,7 @@ use Rattle.cw_types.specs.Same.{same_vote}
 use Rattle.cw_types.proofs.Same.{same_vote-true}
 use Rattle.cw_rules.specs.Notes.{has_cert}
 use Rattle.cw_rules.specs.Owed as rule
-use Rattle.voter.specs.Known.{Known, state_of, vote_rules}
+use Rattle.voter.specs.Known.{Known, known_state, vote_rules}
 use Rattle.voter.specs.Owing.{owes_cert}
 use Rattle.voter.specs.Waiting.{AreWaiting}
 use Rattle.voter.proofs.Once.{find_two}
@@ -37,4 +37,4 @@ returns g c =
     ∙ find_two same_vote same_vote-true (has_cert t.notes) w.votes_came.items
     w.votes_noted.items (map rule.ballot_vote t.ballots) (filter_map rule.note_vote t.notes)
     are.votes_of_came are.votes_of_notes (owes_cert g.H.Hasher.digest_of t)
-    (λ v h. vote_left (vote_rules g.H.Hasher.digest_of t.epochs) t.id (state_of t) v h))
+    (λ v h. vote_left (vote_rules g.H.Hasher.digest_of t.epochs) t.id (known_state t) v h))

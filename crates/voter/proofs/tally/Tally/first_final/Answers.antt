@@ -1,5 +1,5 @@
 use Rattle.std.proofs.Common.{sym}
-use Rattle.voter.specs.Known.{vote_rules, state_of}
+use Rattle.voter.specs.Known.{vote_rules, known_state}
 use Rattle.voter.specs.Owing.{owes_finalize}
 use Rattle.voter.proofs.Voted.{finalize_found, finalize_missing}
 use Rattle.voter.proofs.tally.Tally.first_final.Goals as goal
@@ -9,7 +9,7 @@ unfolding owes_finalize
 returns-in-Some g c =
     sym
     (finalize_found (vote_rules g.H.Hasher.digest_of c.args.self.now.epochs) c.args.self.now.id
-    (state_of c.args.self.now) c.first_to_finalize.result c.in-Some.proposal
+    (known_state c.args.self.now) c.first_to_finalize.result c.in-Some.proposal
     c.first_to_finalize.ensures c.in-Some.is)
 
 pub returns-in-None : goal.returns-in-None
@@ -17,5 +17,5 @@ unfolding owes_finalize
 returns-in-None g c =
     sym
     (finalize_missing (vote_rules g.H.Hasher.digest_of c.args.self.now.epochs)
-    c.args.self.now.id (state_of c.args.self.now) c.first_to_finalize.result
+    c.args.self.now.id (known_state c.args.self.now) c.first_to_finalize.result
     c.first_to_finalize.ensures c.in-None.is)

@@ -9,7 +9,7 @@ use Rattle.cw_types.specs.Votes.{proposal_of}
 use Rattle.cw_rules.specs.Owed as rule
 use Rattle.voter.specs.Known.{Known}
 use Rattle.voter.specs.Owing.{owes_notarize}
-use Rattle.voter.specs.Waiting.{AreWaiting, is_done}
+use Rattle.voter.specs.Waiting.{AreWaiting, owes_nothing}
 use Rattle.voter.proofs.Once.{find_two}
 use Rattle.voter.proofs.Undone.{owes_notarize_left}
 use Rattle.voter.proofs.tally.Tally.first_to_notarize.Goals as goal
@@ -33,7 +33,7 @@ returns g c =
     (YieldsList-from_copied (YieldsList-from_slice w.noted.items (cc))))
     c.chain.ensures.first_done c.chain.ensures.second_done)
     (λ x b q k. search (rules, tests))
-    ∙ find_two same_proposal same_proposal-true (is_done t.epochs t.id t.notes) w.came.items
+    ∙ find_two same_proposal same_proposal-true (owes_nothing t.epochs t.id t.notes) w.came.items
     w.noted.items (filter_map (λ b. proposal_of (rule.ballot_vote b)) t.ballots)
     (filter_map rule.note_proposal t.notes)
     are.of_came are.of_notes (owes_notarize g.H.Hasher.digest_of t)

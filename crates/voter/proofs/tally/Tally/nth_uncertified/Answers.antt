@@ -7,7 +7,7 @@ use Rattle.cw_rules.specs.Owed as rule
 use Rattle.voter.specs.Facts.{HasSaid}
 use Rattle.voter.specs.Known.{Known}
 use Rattle.voter.specs.Owing.{is_candidate, is_uncertified}
-use Rattle.voter.specs.Waiting.{AreWaiting, is_done, is_uncertified_by}
+use Rattle.voter.specs.Waiting.{AreWaiting, owes_nothing, is_uncertified_by}
 use Rattle.voter.proofs.Once.{filter_same_test, pick_two}
 use Rattle.voter.proofs.Undone.{uncertified_by, uncertified_left}
 use Rattle.voter.proofs.tally.Tally.nth_uncertified.Goals as goal
@@ -31,7 +31,7 @@ returns g c =
     (filter_same_test (is_uncertified_by said) (is_uncertified t.notes)
     (uncertified_by t.epochs t.id t.notes said has)
     (w.came.items ++ filter (λ p. not (list_any (same_proposal p) w.came.items)) w.noted.items)
-    ∙ pick_two same_proposal same_proposal-true (is_done t.epochs t.id t.notes) w.came.items
+    ∙ pick_two same_proposal same_proposal-true (owes_nothing t.epochs t.id t.notes) w.came.items
     w.noted.items (filter_map (λ b. proposal_of (rule.ballot_vote b)) t.ballots)
     (filter_map rule.note_proposal t.notes) are.of_came are.of_notes (is_uncertified t.notes)
     (uncertified_left t.epochs t.id t.notes))

@@ -9,7 +9,7 @@ use Rattle.cw_types.proofs.Same.{same_proposal-true}
 use Rattle.cw_rules.specs.Owed as rule
 use Rattle.voter.specs.Known.{Known}
 use Rattle.voter.specs.Owing.{is_candidate, is_votable}
-use Rattle.voter.specs.Waiting.{AreWaiting, is_done}
+use Rattle.voter.specs.Waiting.{AreWaiting, owes_nothing}
 use Rattle.voter.proofs.Once.{pick_two}
 use Rattle.voter.proofs.Undone.{votable_left}
 use Rattle.voter.proofs.tally.Tally.nth_votable.Goals as goal
@@ -40,7 +40,7 @@ returns g c =
     c.chain.ensures.first_done c.chain.ensures.second_done))
     c.filter.ensures.closure (λ x r q k. search (rules, tests)))
     ∙ ap (λ ps. slice_get ps c.args.index)
-    (pick_two same_proposal same_proposal-true (is_done t.epochs t.id t.notes) w.came.items
+    (pick_two same_proposal same_proposal-true (owes_nothing t.epochs t.id t.notes) w.came.items
     w.noted.items (filter_map (λ b. proposal_of (rule.ballot_vote b)) t.ballots)
     (filter_map rule.note_proposal t.notes) are.of_came are.of_notes (is_votable t)
     (votable_left t)))

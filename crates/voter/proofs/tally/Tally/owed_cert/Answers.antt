@@ -1,6 +1,6 @@
 use Rattle.std.proofs.Common.{Some, ap, ◌∙◌, sym}
 use Rattle.cw_types.specs.declared.note.Note.{Note}
-use Rattle.voter.specs.Known.{vote_rules, state_of}
+use Rattle.voter.specs.Known.{vote_rules, known_state}
 use Rattle.voter.specs.Owing.{owes_cert}
 use Rattle.voter.proofs.Certified.{cert_found, cert_missing}
 use Rattle.voter.proofs.tally.Tally.owed_cert.Goals as goal
@@ -14,7 +14,7 @@ returns-in_ok-signers-in-Some-clause-value g c =
     }))) c.in_ok-signers-in-Some.ensures.value
     ∙ sym
     (cert_found (vote_rules g.H.Hasher.digest_of c.args.self.now.epochs) c.args.self.now.id
-    (state_of c.args.self.now) c.first_owing.result c.in-Some.vote
+    (known_state c.args.self.now) c.first_owing.result c.in-Some.vote
     c.first_owing.ensures.value c.in-Some.is)
 
 pub returns-in-None-clause-value : goal.returns-in-None-clause-value
@@ -22,5 +22,5 @@ unfolding owes_cert
 returns-in-None-clause-value g c =
     sym
     (cert_missing (vote_rules g.H.Hasher.digest_of c.args.self.now.epochs) c.args.self.now.id
-    (state_of c.args.self.now) c.first_owing.result c.first_owing.ensures.value
+    (known_state c.args.self.now) c.first_owing.result c.first_owing.ensures.value
     c.in-None.is)

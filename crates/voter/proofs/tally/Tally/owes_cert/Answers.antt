@@ -1,5 +1,5 @@
 use Rattle.std.proofs.Common.{◌∙◌, sym}
-use Rattle.voter.specs.Known.{vote_rules, state_of}
+use Rattle.voter.specs.Known.{vote_rules, known_state}
 use Rattle.voter.specs.Owing.{owes_cert}
 use Rattle.voter.proofs.Certified.{cert_where}
 use Rattle.voter.proofs.tally.Tally.owes_cert.Goals as goal
@@ -10,4 +10,4 @@ returns g c =
     c.is_certifiable.ensures
     ∙ sym
     (cert_where (vote_rules g.H.Hasher.digest_of c.args.self.now.epochs) c.args.self.now.id
-    (state_of c.args.self.now) c.args.vote.now)
+    (known_state c.args.self.now) c.args.vote.now)

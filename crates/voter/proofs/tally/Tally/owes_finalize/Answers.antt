@@ -1,5 +1,5 @@
 use Rattle.std.proofs.Common.{◌∙◌, sym}
-use Rattle.voter.specs.Known.{vote_rules, state_of}
+use Rattle.voter.specs.Known.{vote_rules, known_state}
 use Rattle.voter.specs.Owing.{owes_finalize}
 use Rattle.voter.proofs.Voted.{finalize_where}
 use Rattle.voter.proofs.tally.Tally.owes_finalize.Goals as goal
@@ -10,4 +10,4 @@ returns g c =
     c.can_finalize.ensures
     ∙ sym
     (finalize_where (vote_rules g.H.Hasher.digest_of c.args.self.now.epochs) c.args.self.now.id
-    (state_of c.args.self.now) c.args.proposal.now)
+    (known_state c.args.self.now) c.args.proposal.now)

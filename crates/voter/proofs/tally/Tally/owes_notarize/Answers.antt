@@ -1,6 +1,6 @@
 use Rattle.std.proofs.Common.{◌∙◌, sym}
 use Rattle.cw_rules.specs.Owed.{all_nullified}
-use Rattle.voter.specs.Known.{vote_rules, state_of}
+use Rattle.voter.specs.Known.{vote_rules, known_state}
 use Rattle.voter.specs.Owing.{is_ready, is_turn, is_votable, owes_notarize}
 use Rattle.voter.proofs.Voted.{notarize_where, payload_last}
 use Rattle.voter.proofs.tally.Tally.owes_notarize.Goals as goal
@@ -15,4 +15,4 @@ returns g c =
     (payload_last (is_turn t p) (is_ready g.H.Hasher.digest_of t p)
     (all_nullified t.notes p.epoch p.parent p.view))
     ∙ sym
-    (notarize_where (vote_rules g.H.Hasher.digest_of t.epochs) t.id (state_of t) p))
+    (notarize_where (vote_rules g.H.Hasher.digest_of t.epochs) t.id (known_state t) p))

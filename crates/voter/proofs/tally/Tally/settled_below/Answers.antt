@@ -3,7 +3,7 @@ use Rattle.std.specs.Option.{option_or}
 use Rattle.cw_types.specs.Commit.{genesis_commitment}
 use Rattle.cw_types.specs.declared.commitment.Commitment.{Commitment}
 use Rattle.cw_rules.specs.Notes.{settled}
-use Rattle.voter.specs.Facts.{HasSettled}
+use Rattle.voter.specs.Facts.{HasFirstSettled}
 use Rattle.voter.specs.Known.{Known}
 use Rattle.voter.proofs.ParentOver.{settled_apart}
 use Rattle.voter.proofs.tally.Tally.settled_below.Goals as goal
@@ -14,7 +14,7 @@ returns-in-Some g c =
     let notes = c.args.self.now.notes in
     let has =
     subst
-    (λ (k : Known). HasSettled k.notes c.self.inside.index.facts.settled.by_key.entries)
+    (λ (k : Known). HasFirstSettled k.notes c.self.inside.index.facts.settled.by_key.entries)
     c.self.view_is c.self.invariant.facts.settling in
     ap
     (λ (o : Option (ℕ × Commitment)). option_or o
@@ -29,7 +29,7 @@ returns-in-None g c =
     let notes = c.args.self.now.notes in
     let has =
     subst
-    (λ (k : Known). HasSettled k.notes c.self.inside.index.facts.settled.by_key.entries)
+    (λ (k : Known). HasFirstSettled k.notes c.self.inside.index.facts.settled.by_key.entries)
     c.self.view_is c.self.invariant.facts.settling in
     c.root_below.ensures
     ∙ (ap
