@@ -99,9 +99,9 @@ impl Digest for Digest32 {
     ghost told_by_bytes = { λ a b same. ap (λ bytes. record { 0 = bytes }) same };
 }
 
-// Rows of fewer bytes in all are hashed on the caller's thread, whatever the strategy is: to start
-// the threads takes longer than they save there (docs/SPEED.md).
-const FEW_BYTES: usize = 32768;
+/// Rows of fewer bytes in all are hashed on the caller's thread, whatever the strategy is: to start
+/// the threads takes longer than they save there (docs/SPEED.md).
+pub const FEW_BYTES: usize = 32768;
 
 /// A hash function from byte texts to digests.
 ///

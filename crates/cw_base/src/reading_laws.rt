@@ -1,6 +1,7 @@
-//! Numbers and configs read back as they were written: laws of the formats, which take no work.
+//! Laws of bytes and of the formats, which take no work: numbers and configs read back as they were
+//! written.
 
-ghost use Rattle.std.specs.Prelude.{ℕ, ◌≡◌, ◌<◌, ◌^◌, [], ◌∷◌, List, length};
+ghost use Rattle.std.specs.Prelude.{ℕ, ◌≡◌, ◌<◌, ◌^◌, [], ◌∷◌, List, length, slice_index};
 ghost use Rattle.cw_base.specs.Bytes.{be16, be32, be64, varint};
 ghost use Rattle.cw_base.specs.Reading.{byte_at, bytes_at, be16_at, be32_at, be64_at, varint_at};
 ghost use Rattle.cw_base.specs.Reading.{config_at};
@@ -17,4 +18,9 @@ pub fn numbers_read_back()
     ensures eight { ReadsBack be64 (λ n. n < 2 ^ 64) be64_at }
     ensures short_form { ReadsBack varint (λ n. n < 2 ^ 32) varint_at }
     ensures config { ReadsBack config_bytes IsConfig config_at }
+{}
+
+/// Each byte is below 256, as its type says.
+pub fn bytes_fit(bytes: &[u8])
+    ensures { (i : ℕ) → slice_index bytes.now i < 256 }
 {}

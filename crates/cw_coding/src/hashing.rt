@@ -5,12 +5,9 @@ ghost use Rattle.std.specs.Prelude.{slice_index_or, true, false, IfOk};
 ghost use Rattle.cw_base.specs.Rows.{row_of, row_hashes};
 ghost use Rattle.cw_coding.specs.Digests.{AreDigestsAt, IsOneOf};
 
-use cw_base::{Digest, Hasher, NoMemory, Strategy};
+use cw_base::{Digest, FEW_BYTES, Hasher, NoMemory, Strategy};
 use std::alloc::Global;
 use std::thread::Threads;
-
-// Rows of fewer bytes in all are hashed on the caller's thread, as by `Hasher::hash_many`.
-const FEW_BYTES: usize = 32768;
 
 // The digest of each row, of which some are given: those of the rows at these indices.
 pub(crate) fn hash_others<H: Hasher, R: Threads + Sync, S: Strategy>(
@@ -102,7 +99,7 @@ fn marks(alloc: Global, total: u16, listed: &[u16]) -> Result<Vec<bool>, NoMemor
     Ok(marks)
 }
 
-// The digests of the rows at these indices, by a strategy.
+// The digests of the rows at these indices: by a strategy, but for few bytes.
 fn hash_at<H: Hasher, R: Threads + Sync, S: Strategy>(
     rt: &R,
     alloc: Global,

@@ -1,12 +1,12 @@
 //! The layout of data in shards, and the rows of its codeword.
 
 ghost use Rattle.std.specs.Prelude.{◌≡◌, ℕ, ◌+◌, ◌-◌, ◌*◌, ◌^◌, ◌<◌, ◌≤◌, ◌%◌, ◌++◌, length};
-ghost use Rattle.std.specs.Prelude.{replicate, slice_index, List, take, IfOk, OnOk};
+ghost use Rattle.std.specs.Prelude.{replicate, List, take, IfOk, OnOk};
 ghost use Rattle.rs_code.specs.Rows.{joined, code_row};
 ghost use Rattle.cw_tree.specs.Widths.{shard_len};
 ghost use Rattle.cw_coding.specs.Layout.{layout, row_at};
 
-use cw_base::{NoMemory, Strategy, put_be32, put_bytes};
+use cw_base::{NoMemory, Strategy, bytes_fit, put_be32, put_bytes};
 use cw_tree::canonical_shard_len;
 use rs_code::laws::prove_rows;
 use rs_code::{add_recoveries, add_recoveries_here};
@@ -166,8 +166,3 @@ pub(crate) fn rows_of_text_here(
     let originals = lay_originals(alloc, k, m, text)?;
     codeword_here(alloc, k, m, originals)
 }
-
-// That bytes are below 256, as their type says.
-pub(crate) fn bytes_fit(bytes: &[u8])
-    ensures { (i : ℕ) → slice_index bytes.now i < 256 }
-{}

@@ -9,10 +9,11 @@ ghost use Rattle.rs_code.specs.Field.{times};
 ghost use Rattle.rs_code.specs.Rows.{symbol};
 ghost use Rattle.rs_code.specs.Symbols.{symbol_in};
 
-use crate::columns::{Columns, bytes_fit};
+use crate::columns::Columns;
 use crate::lanes::{
     Eight, each_by_2, each_by_4, each_by_16, each_by_256, sum_of_three, sum_of_two,
 };
+use cw_base::bytes_fit;
 use std::alloc::{AllocError, Global};
 
 // Eight factors' products with each lower byte of a symbol, and with each upper byte.

@@ -9,9 +9,10 @@ ghost use Rattle.rs_code.specs.Field.{times};
 ghost use Rattle.rs_code.specs.Rows.{symbol};
 ghost use Rattle.rs_code.specs.Symbols.{symbol_in};
 
-use crate::columns::{Columns, bytes_fit};
+use crate::columns::Columns;
 use crate::eights::{spread_short, wide_sums, zeros};
 use crate::lanes::{Eight, each_by_16, each_by_256, sum_of_three};
+use cw_base::bytes_fit;
 use std::alloc::{AllocError, Global};
 
 // Fewer columns than these are narrow.

@@ -8,9 +8,10 @@ ghost use Rattle.rs_code.specs.Field.{times};
 ghost use Rattle.rs_code.specs.Rows.{symbol};
 ghost use Rattle.rs_code.specs.Symbols.{symbol_in};
 
-use crate::columns::{Columns, bytes_fit};
+use crate::columns::Columns;
 use crate::eights::{spread, zeros};
 use crate::lanes::{Eight, each_by_256};
+use cw_base::bytes_fit;
 use std::alloc::{AllocError, Global};
 
 /// An element for each of two targets.

@@ -9,10 +9,11 @@ ghost use Rattle.rs_code.specs.Rows.{symbol, symbol_bytes, joined};
 ghost use Rattle.rs_code.specs.Symbols.{symbol_in};
 ghost use Rattle.rs_code.specs.Transform.{combined};
 
-use crate::columns::{Columns, bytes_fit};
+use crate::columns::Columns;
 use crate::products::symbols_fit;
 use crate::subspaces::{STEPS, scales};
 use crate::transform::{Part, forward, inverse, size};
+use cw_base::bytes_fit;
 use std::alloc::{AllocError, Global};
 
 // How many coefficients are worked on at once. A factor's tables are made anew for each piece of the
