@@ -82,123 +82,126 @@ stands_taken c root p u CommitmentMismatch h = absurd h
 
 module _ (checks : EncodingsCheck hash content) (back : EncodingsReadBack hash content 32)
     (k m : ℕ) (root text : List ℕ) (all : List (List ℕ)) (e : AreChunksOfText k m root text all)
-    where
-  abbrev Among : Piece Digest32 → Type 0
-  Among p = (i : ℕ) × (slice_get e.pieces i ≡ Some p)
+  where
+    abbrev Among : Piece Digest32 → Type 0
+    Among p = (i : ℕ) × (slice_get e.pieces i ≡ Some p)
 
-  reads : (p : Piece Digest32) → Among p → IsChunk k (chunk_bytes content p) p
-  reads p a =
-      ap (chunk_at 32 (widest k (2 ^ 32 - 1))) (sym (append-nil (chunk_bytes content p)))
-      ∙ (back (config_of_numbers k m) text (digest_of_bytes root) e.pieces (2 ^ 32 - 1) e.some
-      e.scheme
-      e.scheme.codable.short a.0 p a.1).again []
+    reads : (p : Piece Digest32) → Among p → IsChunk k (chunk_bytes content p) p
+    reads p a =
+        ap (chunk_at 32 (widest k (2 ^ 32 - 1))) (sym (append-nil (chunk_bytes content p)))
+        ∙ (back (config_of_numbers k m) text (digest_of_bytes root) e.pieces (2 ^ 32 - 1) e.some
+        e.scheme
+        e.scheme.codable.short a.0 p a.1).again []
 
-  under : (p : Piece Digest32) → Among p
-      → IsUnder hash content (config_of_numbers k m) (digest_of_bytes root) p.index p
-  under p a =
-      let there = checks (config_of_numbers k m) text (digest_of_bytes root) e.pieces e.some
-      e.scheme a.0 p a.1 in
-      subst (λ (i : ℕ). IsUnder hash content (config_of_numbers k m) (digest_of_bytes root) i p)
-      (sym there.same) there
+    under : (p : Piece Digest32) → Among p
+        → IsUnder hash content (config_of_numbers k m) (digest_of_bytes root) p.index p
+    under p a =
+        let there = checks (config_of_numbers k m) text (digest_of_bytes root) e.pieces e.some
+        e.scheme a.0 p a.1 in
+        subst (λ (i : ℕ). IsUnder hash content (config_of_numbers k m) (digest_of_bytes root) i p)
+        (sym there.same) there
 
-  row : (p : Piece Digest32) → Among p → p.shard ≡ row_at k text p.index
-  row p a =
-      let place =
-      listed_get (k + m) (piece_of hash content (config_of_numbers k m) text) a.0 p
-      (rw e.scheme.each at a.1)
-      in
-      ap (λ (q : Piece Digest32). q.shard) place.1
-      ∙ ap (row_at k text) (sym (ap (λ (q : Piece Digest32). q.index) place.1))
+    row : (p : Piece Digest32) → Among p → p.shard ≡ row_at k text p.index
+    row p a =
+        let place =
+        listed_get (k + m) (piece_of hash content (config_of_numbers k m) text) a.0 p
+        (rw e.scheme.each at a.1)
+        in
+        ap (λ (q : Piece Digest32). q.shard) place.1
+        ∙ ap (row_at k text) (sym (ap (λ (q : Piece Digest32). q.index) place.1))
 
-  -- bytes among those of some chunks are one of them
-  found : (before after : List (List ℕ)) (bytes : List ℕ) (ps : List (Piece Digest32))
-      → All Among ps → before ++ bytes ∷ after ≡ map (chunk_bytes content) ps
-      → (p : Piece Digest32) × Among p × (bytes ≡ chunk_bytes content p)
-  found [] after bytes [] a same = absurd (omega (arith, ap length same))
-  found [] after bytes (p ∷ ps) a same =
-      (p, a 0 p (omega arith), ap (λ xs. get_or xs 0 []) same)
-  found (b ∷ before) after bytes [] a same = absurd (omega (arith, ap length same))
-  found (b ∷ before) after bytes (p ∷ ps) a same =
-      found before after bytes ps (λ i d l. a (suc i) d (omega arith)) (ap (drop 1) same)
+    -- bytes among those of some chunks are one of them
+    found : (before after : List (List ℕ)) (bytes : List ℕ) (ps : List (Piece Digest32))
+        → All Among ps → before ++ bytes ∷ after ≡ map (chunk_bytes content) ps
+        → (p : Piece Digest32) × Among p × (bytes ≡ chunk_bytes content p)
+    found [] after bytes [] a same = absurd (omega (arith, ap length same))
+    found [] after bytes (p ∷ ps) a same =
+        (p, a 0 p (omega arith), ap (λ xs. get_or xs 0 []) same)
+    found (b ∷ before) after bytes [] a same = absurd (omega (arith, ap length same))
+    found (b ∷ before) after bytes (p ∷ ps) a same =
+        found before after bytes ps (λ i d l. a (suc i) d (omega arith)) (ap (drop 1) same)
 
-  refused : (bytes : List ℕ) (p : Piece Digest32) (code : ℕ) → Among p
-      → bytes ≡ chunk_bytes content p
-      → IsCheckStatus (config_of_numbers k m) root (λ q. q.index) bytes code → code ≡ 1
-  refused bytes p code a is why =
-      let here : IsChunk k bytes p = rw is (reads p a) in
-      ⊎_elim (λ memory. memory)
-      (⊎_elim (λ none. absurd (none.1 p here)) (λ read. stopped read.0 read.1 read.2)) why
-    where
-      stopped : (q : Piece Digest32) → IsChunk k bytes q
-          → IsNotTaken (config_of_numbers k m) root q.index q code → code ≡ 1
-      stopped q read said =
-          let same : p ≡ q = one_chunk k bytes p q (rw is (reads p a)) read in
-          let stands : IsUnder hash content (config_of_numbers k m) (digest_of_bytes root) q.index q
-          =
-          subst (λ (x : Piece Digest32). IsUnder hash content (config_of_numbers k m)
-          (digest_of_bytes root) x.index x)
-          same (under p a) in
-          said.2 ∙ ap status
-          (stands_taken (config_of_numbers k m) (digest_of_bytes root) q stands said.0 said.1)
+    refused : (bytes : List ℕ) (p : Piece Digest32) (code : ℕ) → Among p
+        → bytes ≡ chunk_bytes content p
+        → IsCheckStatus (config_of_numbers k m) root (λ q. q.index) bytes code → code ≡ 1
+    refused bytes p code a is why =
+        let here : IsChunk k bytes p = rw is (reads p a) in
+        ⊎_elim (λ memory. memory)
+        (⊎_elim (λ none. absurd (none.1 p here)) (λ read. stopped read.0 read.1 read.2)) why
+      where
+        stopped : (q : Piece Digest32) → IsChunk k bytes q
+            → IsNotTaken (config_of_numbers k m) root q.index q code → code ≡ 1
+        stopped q read said =
+            let same : p ≡ q = one_chunk k bytes p q (rw is (reads p a)) read in
+            let stands : IsUnder hash content (config_of_numbers k m) (digest_of_bytes root) q.index
+            q
+            =
+            subst (λ (x : Piece Digest32). IsUnder hash content (config_of_numbers k m)
+            (digest_of_bytes root) x.index x)
+            same (under p a) in
+            said.2 ∙ ap status
+            (stands_taken (config_of_numbers k m) (digest_of_bytes root) q stands said.0 said.1)
 
-  -- none of the chunks is refused but for want of memory
-  pub never_stopped : (code : ℕ) → IsFirstNotTaken (config_of_numbers k m) root all code → code ≡ 1
-  never_stopped code s =
-      let one =
-      found s.before s.after s.bytes e.chosen e.among (sym s.are ∙ e.are) in
-      refused s.bytes one.0 code one.1 one.2 s.cause
+    -- none of the chunks is refused but for want of memory
+    pub never_stopped : (code : ℕ) → IsFirstNotTaken (config_of_numbers k m) root all code → code
+        ≡ 1
+    never_stopped code s =
+        let one =
+        found s.before s.after s.bytes e.chosen e.among (sym s.are ∙ e.are) in
+        refused s.bytes one.0 code one.1 one.2 s.cause
 
-  taken_of : (bs : List (List ℕ)) (xs : List (Checked Digest32)) (ps : List (Piece Digest32))
-      → All Among ps → bs ≡ map (chunk_bytes content) ps
-      → AreTaken (config_of_numbers k m) root bs xs
-      → All (IsChunkOf (config_of_numbers k m) text (digest_of_bytes root)) xs
-      × (indices_of xs ≡ map (λ (p : Piece Digest32). p.index) ps)
-  taken_of [] [] [] a same are = (λ i d l. absurd (omega arith), refl)
-  taken_of [] [] (p ∷ ps) a same are = absurd (omega (arith, ap length same))
-  taken_of [] (x ∷ xs) ps a same are = absurd are
-  taken_of (b ∷ bs) [] ps a same are = absurd are
-  taken_of (b ∷ bs) (x ∷ xs) [] a same are = absurd (omega (arith, ap length same))
-  taken_of (b ∷ bs) (x ∷ xs) (p ∷ ps) a same are =
-      let rest = taken_of bs xs ps (λ i d l. a (suc i) d (omega arith)) (ap (drop 1) same) are.1 in
-      let among = a 0 p (omega arith) in
-      let is : b ≡ chunk_bytes content p = ap (λ ys. get_or ys 0 []) same in
-      let it = are.0 in
-      let q : p ≡ it.piece = one_chunk k b p it.piece (rw is (reads p among)) it.read in
-      let index : x.index ≡ p.index =
-      ap (λ (y : Checked Digest32). y.index) it.is
-      ∙ sym (ap (λ (y : Piece Digest32). y.index) q) in
-      let shard : x.shard ≡ p.shard =
-      ap (λ (y : Checked Digest32). y.shard) it.is
-      ∙ sym (ap (λ (y : Piece Digest32). y.shard) q) in
-      let stands = under p among in
-      let one : IsChunkOf (config_of_numbers k m) text (digest_of_bytes root) x =
-      record {
-        rooted = ap (λ (y : Checked Digest32). y.root) it.is;
-        within = rw index stands.within;
-        row = shard ∙ row p among ∙ ap (row_at k text) (sym index);
-      } in
-      (first x xs one rest.0, rw index (ap (λ is. p.index ∷ is) rest.1))
-    where
-      first : (y : Checked Digest32) (ys : List (Checked Digest32))
-          → IsChunkOf (config_of_numbers k m) text (digest_of_bytes root) y
-          → All (IsChunkOf (config_of_numbers k m) text (digest_of_bytes root)) ys
-          → All (IsChunkOf (config_of_numbers k m) text (digest_of_bytes root)) (y ∷ ys)
-      first y ys h hs zero d l = h
-      first y ys h hs (suc i) d l = hs i d (omega arith)
+    taken_of : (bs : List (List ℕ)) (xs : List (Checked Digest32)) (ps : List (Piece Digest32))
+        → All Among ps → bs ≡ map (chunk_bytes content) ps
+        → AreTaken (config_of_numbers k m) root bs xs
+        → All (IsChunkOf (config_of_numbers k m) text (digest_of_bytes root)) xs
+        × (indices_of xs ≡ map (λ (p : Piece Digest32). p.index) ps)
+    taken_of [] [] [] a same are = (λ i d l. absurd (omega arith), refl)
+    taken_of [] [] (p ∷ ps) a same are = absurd (omega (arith, ap length same))
+    taken_of [] (x ∷ xs) ps a same are = absurd are
+    taken_of (b ∷ bs) [] ps a same are = absurd are
+    taken_of (b ∷ bs) (x ∷ xs) [] a same are = absurd (omega (arith, ap length same))
+    taken_of (b ∷ bs) (x ∷ xs) (p ∷ ps) a same are =
+        let rest = taken_of bs xs ps (λ i d l. a (suc i) d (omega arith)) (ap (drop 1) same) are.1
+        in
+        let among = a 0 p (omega arith) in
+        let is : b ≡ chunk_bytes content p = ap (λ ys. get_or ys 0 []) same in
+        let it = are.0 in
+        let q : p ≡ it.piece = one_chunk k b p it.piece (rw is (reads p among)) it.read in
+        let index : x.index ≡ p.index =
+        ap (λ (y : Checked Digest32). y.index) it.is
+        ∙ sym (ap (λ (y : Piece Digest32). y.index) q) in
+        let shard : x.shard ≡ p.shard =
+        ap (λ (y : Checked Digest32). y.shard) it.is
+        ∙ sym (ap (λ (y : Piece Digest32). y.shard) q) in
+        let stands = under p among in
+        let one : IsChunkOf (config_of_numbers k m) text (digest_of_bytes root) x =
+        record {
+          rooted = ap (λ (y : Checked Digest32). y.root) it.is;
+          within = rw index stands.within;
+          row = shard ∙ row p among ∙ ap (row_at k text) (sym index);
+        } in
+        (first x xs one rest.0, rw index (ap (λ is. p.index ∷ is) rest.1))
+      where
+        first : (y : Checked Digest32) (ys : List (Checked Digest32))
+            → IsChunkOf (config_of_numbers k m) text (digest_of_bytes root) y
+            → All (IsChunkOf (config_of_numbers k m) text (digest_of_bytes root)) ys
+            → All (IsChunkOf (config_of_numbers k m) text (digest_of_bytes root)) (y ∷ ys)
+        first y ys h hs zero d l = h
+        first y ys h hs (suc i) d l = hs i d (omega arith)
 
-  -- what they are decoded to
-  pub enough_decode : AnyEnoughDecode hash content → (xs : List (Checked Digest32))
-      → AreTaken (config_of_numbers k m) root all xs
-      → AreDecodedTo hash content (config_of_numbers k m) (digest_of_bytes root) xs text
-  enough_decode law xs are =
-      let these = taken_of all xs e.chosen e.among e.are are in
-      law (config_of_numbers k m) text (digest_of_bytes root) e.pieces xs e.some e.bytes e.scheme
-      these.0
-      (rw these.1 e.different)
-      (omega (
-        arith,
-        e.enough,
-        ap length these.1,
-        length-map xs (λ (x : Checked Digest32). x.index),
-        length-map e.chosen (λ (p : Piece Digest32). p.index),
-      ))
+    -- what they are decoded to
+    pub enough_decode : AnyEnoughDecode hash content → (xs : List (Checked Digest32))
+        → AreTaken (config_of_numbers k m) root all xs
+        → AreDecodedTo hash content (config_of_numbers k m) (digest_of_bytes root) xs text
+    enough_decode law xs are =
+        let these = taken_of all xs e.chosen e.among e.are are in
+        law (config_of_numbers k m) text (digest_of_bytes root) e.pieces xs e.some e.bytes e.scheme
+        these.0
+        (rw these.1 e.different)
+        (omega (
+          arith,
+          e.enough,
+          ap length these.1,
+          length-map xs (λ (x : Checked Digest32). x.index),
+          length-map e.chosen (λ (p : Piece Digest32). p.index),
+        ))

@@ -6,7 +6,7 @@ use Rattle.cw_tree.specs.Chunks.{Piece}
 use Rattle.cw_tree.specs.Sizes.{IsHeight}
 use Rattle.cw_tree.specs.Widths.{shard_len}
 use Rattle.cw_coding.specs.Laws.{EncodingsFit}
-use Rattle.coding_c.specs.Calls.{hash, content, config_of_numbers, digest_of_bytes, size_of, HoldsChunks}
+use Rattle.coding_c.specs.Calls.{HoldsChunks, config_of_numbers, content, digest_of_bytes, hash, size_of}
 
 -- one more item's size
 pub size_more : {X : Type 0} (size : X → ℕ) (xs : List X) (i : ℕ) (x : X) (before after : List ℕ)

@@ -130,14 +130,14 @@ AreTaken c root _ _ = ⊥
 
 -- the first bytes among these that aren't taken, and why
 pub record IsFirstNotTaken (c : Counts) (root : List ℕ) (all : List (List ℕ)) (code : ℕ) : Type 0
-    where
-  pub before : List (List ℕ)
-  pub bytes : List ℕ
-  pub after : List (List ℕ)
-  pub are : all ≡ before ++ bytes ∷ after
-  pub taken : List (Checked Digest32)
-  pub each : AreTaken c root before taken
-  pub cause : IsCheckStatus c root (λ p. p.index) bytes code
+  where
+    pub before : List (List ℕ)
+    pub bytes : List ℕ
+    pub after : List (List ℕ)
+    pub are : all ≡ before ++ bytes ∷ after
+    pub taken : List (Checked Digest32)
+    pub each : AreTaken c root before taken
+    pub cause : IsCheckStatus c root (λ p. p.index) bytes code
 
 -- why bytes aren't decoded: no memory, the first that aren't taken, or what the scheme refuses in
 -- all of them

@@ -8,7 +8,7 @@ ghost use Rattle.cw_coding.specs.Checking.{IsUnder};
 ghost use Rattle.coding_c.specs.Calls.{content, config_of_numbers, digest_of_bytes, hash, size_of, AreNoConfig};
 ghost use Rattle.coding_c.specs.Calls.{IsEncodeStatus, IsPut, IsEncoded, IsChunk, IsNoChunk};
 ghost use Rattle.coding_c.specs.Calls.{IsNotTaken, IsCheckStatus, IsTaken, AreTaken, IsFirstNotTaken};
-ghost use Rattle.coding_c.specs.Calls.{IsDecodeStatus, IsDecoded, AreChunksOfText};
+ghost use Rattle.coding_c.specs.Calls.{AreChunksOfText, IsDecodeStatus, IsDecoded};
 
 use crate::status::{NO_CHUNK, NO_CONFIG, NO_MEMORY, status_of};
 use cw_base::{CodecError, Config, Digest32, NoMemory, Reader, Sequential, Sha256};

@@ -14,7 +14,7 @@ ghost use Rattle.cw_tree.specs.Sizes.{IsHeight};
 ghost use Rattle.cw_coding.specs.Encoding.{IsEncodable};
 ghost use Rattle.coding_c.specs.Calls.{config_of_numbers, AreNoConfig, IsEncodeStatus, IsPut, IsEncoded};
 ghost use Rattle.coding_c.specs.Calls.{HasNoRoom, HoldsChunks, StandsUnder, IsCheckStatus, HasRoot};
-ghost use Rattle.coding_c.specs.Calls.{IsDecodeStatus, IsDecoded, AreChunksOfText};
+ghost use Rattle.coding_c.specs.Calls.{AreChunksOfText, IsDecodeStatus, IsDecoded};
 
 use answers::{Span, checked, chunk_of, config_of, decoded, encode, put_front};
 use cw_base::Sha256;
@@ -119,8 +119,8 @@ pub extern "C" fn buz_decode(
     ensures refused { result ≢ 0 → ((result ≡ 2) × AreNoConfig k m)
         ⊎ ((result ≡ 5) × (found : List ℕ) × HasRoot (config_of_numbers k m) root.now found
         × (length text.old < length found))
-        ⊎ IsDecodeStatus (config_of_numbers k m) root.now (map (λ s. s.bytes.now) chunks.now) result
-        }
+        ⊎ IsDecodeStatus (config_of_numbers k m) root.now (map (λ s. s.bytes.now) chunks.now)
+        result }
     ensures any_enough { (found : List ℕ)
         → AreChunksOfText k m root.now found (map (λ s. s.bytes.now) chunks.now)
         → ((result ≡ 0) × IsPut found text.old text.new × (size.new ≡ length found))

@@ -15,8 +15,8 @@ use Rattle.cw_coding.specs.Totals.{total_of}
 use Rattle.cw_rules.proofs.Codewords.{all_taken, apart_taken}
 use Rattle.shards.specs.Kept.{chunks_of}
 use Rattle.shards.specs.declared.pieces.KeptChunk.{KeptChunk}
-use Rattle.cw_archive.specs.Archived.{by_index, kept_chunk_at, chunks_of_least_index}
-use Rattle.cw_archive.specs.Keys.{IsInOrder, at_key, commitment_of, kept_at_keys, chunk_key, same_chunk_key}
+use Rattle.cw_archive.specs.Archived.{by_index, chunks_of_least_index, kept_chunk_at}
+use Rattle.cw_archive.specs.Keys.{IsInOrder, at_key, chunk_key, commitment_of, kept_at_keys, same_chunk_key}
 use Rattle.cw_archive.specs.declared.key.ChunkKey.{ChunkKey}
 use Rattle.cw_archive.proofs.KeyLemmas.{same_key_self}
 use Rattle.cw_archive.proofs.OrderLemmas.{Entries, Full, chunk_at_found, filled}

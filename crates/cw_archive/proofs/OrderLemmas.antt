@@ -14,7 +14,7 @@ use Rattle.cw_types.specs.declared.commitment.Commitment.{Commitment}
 use Rattle.cw_rules.specs.Rules.{Chunk}
 use Rattle.cw_archive.specs.Archived.{kept_chunk_at}
 use Rattle.shards.specs.Kept.{is_kept_chunk, with_chunk}
-use Rattle.cw_archive.specs.Keys.{IsInOrder, at_key, commitment_of, kept_at_keys, kept_by, chunk_key, same_chunk_key}
+use Rattle.cw_archive.specs.Keys.{IsInOrder, at_key, chunk_key, commitment_of, kept_at_keys, kept_by, same_chunk_key}
 use Rattle.shards.specs.declared.pieces.KeptChunk.{KeptChunk}
 use Rattle.cw_archive.specs.declared.key.ChunkKey.{ChunkKey}
 use Rattle.cw_archive.proofs.KeyLemmas.{at_key_found, key_cmp, key_tests, same_key-true, same_key_equiv, same_key_self, same_key_symm}

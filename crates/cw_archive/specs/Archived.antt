@@ -12,7 +12,7 @@ use Rattle.cw_rules.specs.Rules.{Chunk, block_of, rows_under}
 use Rattle.cw_coding.specs.Totals.{total_of}
 use Rattle.cw_rules_coded.specs.Coded.{root_over}
 use Rattle.shards.specs.Enough.{is_under_root, no_committees}
-use Rattle.shards.specs.Kept.{chunks_of, is_kept_chunk, chunk_rules, with_chunk}
+use Rattle.shards.specs.Kept.{chunk_rules, chunks_of, is_kept_chunk, with_chunk}
 use Rattle.shards.specs.declared.pieces.KeptChunk.{KeptChunk}
 use Rattle.cw_archive.specs.declared.put.Put.{Put}
 use Rattle.cw_archive.specs.declared.put.Put.TheVariants.{Foreign, Kept, Known, TooLarge}

@@ -2,7 +2,7 @@
 
 ghost use Rattle.std.specs.Prelude.{◌≡◌, ◌≤◌, ◌+◌, ◌↔◌, [], IfOk, OnErr, OnOk, Some, length};
 ghost use Rattle.cw_types.specs.Block.{Block};
-ghost use Rattle.cw_archive.specs.Archived.{after_put, given_back, chunks_of_least_index, put_answer};
+ghost use Rattle.cw_archive.specs.Archived.{after_put, chunks_of_least_index, given_back, put_answer};
 ghost use Rattle.cw_archive.specs.Archived.{used_of, within_limit};
 ghost use Rattle.cw_archive.specs.Showing.{HasNewest, Shows};
 ghost use Rattle.shards.specs.Kept.{chunks_of};

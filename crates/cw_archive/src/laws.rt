@@ -17,8 +17,8 @@ use cw_rules_coded::coded_laws;
 /// are rows, and which the commitment names.
 pub fn archives_show()
     // the chunks of least index are of different indices
-    ensures apart
-        { (c : Commitment) (kept : List KeptChunk) → AreApart (chunks_of_least_index c kept) }
+    ensures apart { (c : Commitment) (kept : List KeptChunk)
+        → AreApart (chunks_of_least_index c kept) }
     // a block that chunks give back is one that they show
     ensures shown { (hash : List ℕ → Digest32) (c : Commitment) (chunks : List Chunk) (b : Block)
         → shown_by_chunks hash c chunks ≡ Some b → Shows hash c chunks b }

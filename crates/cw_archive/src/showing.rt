@@ -2,7 +2,7 @@
 
 ghost use Rattle.std.specs.Prelude.{◌≡◌, ◌≢◌, ◌&&◌, IfNone, IfOk, IfSome, IsNone, map};
 ghost use Rattle.std.specs.Prelude.{option_and_then};
-ghost use Rattle.cw_archive.specs.Archived.{if_named, chunks_of_least_index, name_of, shown_by_chunks};
+ghost use Rattle.cw_archive.specs.Archived.{chunks_of_least_index, if_named, name_of, shown_by_chunks};
 ghost use Rattle.cw_archive.specs.Showing.{AreSufficient, IsOfNoBlock};
 ghost use Rattle.cw_types.specs.Encoding.{block_bytes};
 ghost use Rattle.cw_types.specs.Reading.{block_in};

@@ -1,7 +1,7 @@
 //! Laws of bytes and of the formats, which take no work: numbers and configs read back as they were
 //! written.
 
-ghost use Rattle.std.specs.Prelude.{ℕ, ◌≡◌, ◌<◌, ◌^◌, [], ◌∷◌, List, length, slice_index};
+ghost use Rattle.std.specs.Prelude.{[], ℕ, ◌<◌, ◌^◌, ◌∷◌, ◌≡◌, List, length, slice_index};
 ghost use Rattle.cw_base.specs.Bytes.{be16, be32, be64, varint};
 ghost use Rattle.cw_base.specs.Reading.{byte_at, bytes_at, be16_at, be32_at, be64_at, varint_at};
 ghost use Rattle.cw_base.specs.Reading.{config_at};

@@ -9,7 +9,7 @@ use Rattle.cw_tree.specs.Chunks.{Piece}
 use Rattle.cw_coding.specs.declared.error.ReedSolomonError.{ReedSolomonError}
 use Rattle.cw_coding.specs.declared.error.ReedSolomonError.TheVariants.{NoMemory}
 use Rattle.cw_coding.specs.Checked.{Checked}
-use Rattle.cw_coding.specs.Checking.{IsVerdictOn, AllStand, Checks, AllCheck}
+use Rattle.cw_coding.specs.Checking.{AllCheck, AllStand, Checks, IsVerdictOn}
 
 module _ {D : Type 0} (hash : List ℕ → D) (content : D → List ℕ) (c : Counts) (root : D) where
   -- what a map answers to chunks at their indices

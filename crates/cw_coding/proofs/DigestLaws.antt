@@ -3,14 +3,14 @@ use Rattle.std.proofs.Common.{◌≡◌, ℕ, zero, suc, ◌+◌, ◌/◌, ◌<�
 use Rattle.std.specs.List.{flat_map}
 use Rattle.std.proofs.lemmas.Bool.{cases_eq, cases_lt}
 use Rattle.std.proofs.lemmas.Grind.{get_or-set_at}
-use Rattle.std.proofs.lemmas.List.{take_more, take_all, get_or-map, get_or-set_other, length-map, length-append}
-use Rattle.cw_base.specs.Rows.{listed, row_of, row_hashes}
-use Rattle.cw_base.proofs.Listed.{listed_none, listed_more}
+use Rattle.std.proofs.lemmas.List.{get_or-map, get_or-set_other, length-append, length-map, take_all, take_more}
+use Rattle.cw_base.specs.Rows.{listed, row_hashes, row_of}
+use Rattle.cw_base.proofs.Listed.{listed_more, listed_none}
 use Rattle.cw_coding.specs.Checked.{Checked}
 use Rattle.cw_coding.specs.Digests.{AreDigests, AreDigestsAt, IsOneOf}
 use Rattle.cw_base.specs.Counts.{Counts}
-use Rattle.cw_coding.specs.Decoding.{AreDecodable, indices_of, in_order, width_of}
-use Rattle.cw_coding.proofs.OrderLaws.{flat_row, all_in_order}
+use Rattle.cw_coding.specs.Decoding.{AreDecodable, in_order, indices_of, width_of}
+use Rattle.cw_coding.proofs.OrderLaws.{all_in_order, flat_row}
 
 -- a list by its elements
 pub as_listed : {A : Type 0} (n : ℕ) (f : ℕ → A) (xs : List A) → length xs ≡ n

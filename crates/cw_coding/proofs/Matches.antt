@@ -1,5 +1,5 @@
 -- What holds of results, carried over.
-use Rattle.std.proofs.Common.{Option, Some, None, Result, Ok, Err, IfOk, MatchOption}
+use Rattle.std.proofs.Common.{Err, IfOk, MatchOption, None, Ok, Option, Result, Some}
 
 -- more of what is answered
 pub ok_more : {T E : Type 0} (P Q : T → Type 0) (r : Result T E) → IfOk r P

@@ -1,17 +1,17 @@
 -- The text that rows come of, and the rows of its codeword.
 use Rattle.std.proofs.Common.{◌≡◌, ℕ, zero, suc, ◌+◌, ◌-◌, ◌*◌, ◌/◌, ◌^◌, ◌<◌, ◌≤◌, List, [], ◌∷◌, ◌++◌, length, drop, take, get_or, replicate, refl, sym, ap, ◌∙◌, arith, append_assoc, Some}
-use Rattle.std.specs.Int.{w32, from_be_bytes, to_be_bytes}
+use Rattle.std.specs.Int.{from_be_bytes, to_be_bytes, w32}
 use Rattle.std.proofs.lemmas.Nat.{be_bytes_4}
-use Rattle.std.proofs.lemmas.List.{length-take-le, length-drop, length-replicate, drop-take, take-take, drop_at, take-append-drop, get_or-take, take_rest}
+use Rattle.std.proofs.lemmas.List.{drop-take, drop_at, get_or-take, length-drop, length-replicate, length-take-le, take-append-drop, take-take, take_rest}
 use Rattle.cw_base.specs.Bytes.{be32}
 use Rattle.cw_base.specs.Counts.{Counts}
-use Rattle.cw_base.specs.Rows.{row_of, row_hashes}
+use Rattle.cw_base.specs.Rows.{row_hashes, row_of}
 use Rattle.cw_base.proofs.Listed.{length-listed}
 use Rattle.rs_code.specs.Rows.{joined}
 use Rattle.rs_code.proofs.IndexLaws.{AreSound-in_range}
 use Rattle.cw_tree.specs.Tree.{root_of}
 use Rattle.cw_tree.specs.Widths.{shard_len}
-use Rattle.cw_coding.specs.Layout.{layout, counted_text, row_at, row_digests}
+use Rattle.cw_coding.specs.Layout.{counted_text, layout, row_at, row_digests}
 use Rattle.cw_coding.specs.Totals.{total_of}
 use Rattle.cw_coding.specs.Digests.{AreDigests, AreDigestsAt}
 use Rattle.cw_coding.specs.Decoding.{AreRecoverable, Fits}

@@ -1,5 +1,5 @@
 -- Digests of rows.
-use Rattle.std.specs.Prelude.{◌≡◌, ℕ, ◌/◌, ◌<◌, List, length, slice_index, slice_index_or}
+use Rattle.std.specs.Prelude.{ℕ, ◌/◌, ◌<◌, ◌≡◌, List, length, slice_index, slice_index_or}
 use Rattle.cw_base.specs.Rows.{row_of}
 
 -- a number that a list has

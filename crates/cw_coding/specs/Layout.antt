@@ -1,5 +1,5 @@
 -- The layout of a text, and the rows of its codeword.
-use Rattle.std.specs.Prelude.{ℕ, ◌+◌, ◌-◌, ◌*◌, List, ◌++◌, length, take, drop, replicate}
+use Rattle.std.specs.Prelude.{ℕ, ◌*◌, ◌++◌, ◌+◌, ◌-◌, List, drop, length, replicate, take}
 use Rattle.cw_base.specs.Bytes.{be32}
 use Rattle.cw_base.specs.Rows.{listed}
 use Rattle.rs_code.specs.Rows.{code_row}

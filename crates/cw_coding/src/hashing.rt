@@ -1,6 +1,6 @@
 //! The digests of rows.
 
-ghost use Rattle.std.specs.Prelude.{◌≡◌, ℕ, ◌/◌, ◌<◌, ◌≤◌, ◌⊎◌, length, slice_index};
+ghost use Rattle.std.specs.Prelude.{ℕ, ◌/◌, ◌<◌, ◌≡◌, ◌≤◌, ◌⊎◌, length, slice_index};
 ghost use Rattle.std.specs.Prelude.{slice_index_or, true, false, IfOk};
 ghost use Rattle.cw_base.specs.Rows.{row_of, row_hashes};
 ghost use Rattle.cw_coding.specs.Digests.{AreDigestsAt, IsOneOf};

@@ -1,6 +1,6 @@
 //! From rows to the text that they come of.
 
-ghost use Rattle.std.specs.Prelude.{◌≡◌, ◌≢◌, ℕ, ◌+◌, ◌-◌, ◌*◌, ◌%◌, ◌^◌, ◌<◌, ◌≤◌, ◌↔◌, List};
+ghost use Rattle.std.specs.Prelude.{ℕ, ◌%◌, ◌*◌, ◌+◌, ◌-◌, ◌<◌, ◌^◌, ◌↔◌, ◌≡◌, ◌≢◌, ◌≤◌, List};
 ghost use Rattle.std.specs.Prelude.{length, slice_index, take, replicate, Some, IfOk, IsTrue};
 ghost use Rattle.std.specs.Prelude.{MatchOption};
 ghost use Rattle.rs_code.specs.Rows.{joined, code_row};
@@ -8,7 +8,7 @@ ghost use Rattle.cw_base.specs.Rows.{row_of};
 ghost use Rattle.rs_code.specs.Indices.{AreSound};
 ghost use Rattle.cw_tree.specs.Widths.{shard_len};
 ghost use Rattle.cw_tree.specs.Tree.{root_of};
-ghost use Rattle.cw_coding.specs.Layout.{layout, counted_text};
+ghost use Rattle.cw_coding.specs.Layout.{counted_text, layout};
 ghost use Rattle.cw_coding.specs.Decoding.{AreRecoverable, Fits};
 ghost use Rattle.cw_coding.specs.Digests.{AreDigests};
 ghost use Rattle.cw_coding.specs.Totals.{total_of};

@@ -37,7 +37,7 @@ use Rattle.cw_rules.proofs.Runs.{Gave, IsClearRun, clear_reached, handed_parts, 
 use Rattle.cw_types.proofs.Same.{same_block-true, same_block_self, same_commitment-true}
 use Rattle.cw_rules.proofs.Worlds.{IsWorldKept, get-map, kept_keep, kept_lawful, signed_backs}
 use Rattle.cw_light.specs.Believing.{IsLinkAt}
-use Rattle.cw_light.specs.Checking.{light_answer, broken_at, broken_below, is_named_by, is_parent_of, path_answer}
+use Rattle.cw_light.specs.Checking.{broken_at, broken_below, is_named_by, is_parent_of, light_answer, path_answer}
 use Rattle.cw_light.specs.declared.check.Answer.{Answer}
 use Rattle.cw_light.specs.declared.check.Answer.TheVariants.{BadSigners, Broken, EmptyPath, NotFinal, Yes}
 use Rattle.cw_rules.proofs.Reports.{links_end}

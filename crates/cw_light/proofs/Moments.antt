@@ -26,7 +26,7 @@ use Rattle.cw_rules.proofs.Changes.{flags_kept}
 use Rattle.cw_rules.proofs.Written.{known_written}
 use Rattle.cw_rules_coded.proofs.Told.{told_apart}
 use Rattle.cw_light.specs.Believing.{AreWritten, IsBelieved, IsLinkAt}
-use Rattle.cw_light.specs.Checking.{light_answer, broken_at, path_answer}
+use Rattle.cw_light.specs.Checking.{broken_at, light_answer, path_answer}
 use Rattle.cw_light.specs.declared.check.Answer.{Answer}
 use Rattle.cw_light.specs.declared.check.Answer.TheVariants.{BadSigners, Broken, EmptyPath, NotFinal, Yes}
 use Rattle.cw_light.proofs.Believed.{AreTwo, Told, believed, told}

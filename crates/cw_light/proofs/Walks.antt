@@ -12,7 +12,7 @@ use Rattle.cw_types.specs.declared.vote.Proposal.{Proposal}
 use Rattle.cw_types.specs.declared.vote.Vote.{Vote}
 use Rattle.cw_rules.specs.Accepted.{is_valid}
 use Rattle.cw_rules.specs.Rules.{Rules, digest}
-use Rattle.cw_light.specs.Checking.{light_answer, broken_at, broken_below, is_named_by, is_parent_of, path_answer}
+use Rattle.cw_light.specs.Checking.{broken_at, broken_below, is_named_by, is_parent_of, light_answer, path_answer}
 use Rattle.cw_light.specs.declared.check.Answer.TheVariants.{BadSigners, Broken, EmptyPath, NotFinal, Yes}
 
 drop_get : (xs : List Block) (i : ℕ) (x : Block) → slice_get xs i ≡ Some x

@@ -114,8 +114,8 @@ payloads =
     filter_map (λ s. option_and_then (λ p. last_or None p.payload.block.0) (proposal_in s.message))
 
 -- how many notes each member has, and how many blocks it handed out since its start
-abbrev pub note_counts : World → List (ℕ × ℕ)
-note_counts w =
+abbrev pub totals : World → List (ℕ × ℕ)
+totals w =
     map (λ o. option_map_or (λ m. (length (member_notes m), length m.given)) o (0, 0)) w.members
 
 -- to whom a message goes: 100 stands for all

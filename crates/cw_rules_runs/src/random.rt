@@ -4,7 +4,7 @@
 
 ghost use Rattle.std.specs.Prelude.{◌≡◌, ℕ, List, [], ◌∷◌};
 ghost use Rattle.cw_rules.specs.World.{world_of};
-ghost use Rattle.cw_rules_runs.specs.Toy.{note_counts, told_short};
+ghost use Rattle.cw_rules_runs.specs.Toy.{told_short, totals};
 ghost use Rattle.cw_rules_runs.specs.Faults.{outsiders_rules, outsiders_script, full_epoch_rules};
 ghost use Rattle.cw_rules_runs.specs.Faults.{full_epoch_script, two_by_two_rules};
 ghost use Rattle.cw_rules_runs.specs.Faults.{two_by_two_script, finalized_twice_rules};
@@ -38,8 +38,7 @@ pub fn members_outside_the_committee_follow()
         (3 ∷ 100 ∷ 1 ∷ 3 ∷ 1 ∷ 1 ∷ 1 ∷ []) ∷ (4 ∷ 100 ∷ 1 ∷ 4 ∷ 1 ∷ 1 ∷ 1 ∷ []) ∷
         (5 ∷ 100 ∷ 1 ∷ 5 ∷ 1 ∷ 1 ∷ 1 ∷ []) ∷ (1 ∷ 100 ∷ 0 ∷ 0 ∷ []) ∷ (1 ∷ 2 ∷ 0 ∷ 1 ∷ []) ∷
         (1 ∷ 4 ∷ 0 ∷ 2 ∷ []) ∷ (1 ∷ 5 ∷ 0 ∷ 3 ∷ []) ∷ (1 ∷ 100 ∷ 1 ∷ 1 ∷ 0 ∷ 0 ∷ 1 ∷ []) ∷ [] }
-    ensures counts
-        { note_counts (world_of outsiders_rules outsiders_script) ≡ (7, 2) ∷ (0, 0) ∷ (10, 2)
+    ensures counts { totals (world_of outsiders_rules outsiders_script) ≡ (7, 2) ∷ (0, 0) ∷ (10, 2)
         ∷ (7, 2) ∷ (10, 2) ∷ (9, 2) ∷ [] }
 {}
 
@@ -77,7 +76,7 @@ pub fn three_blocks_fill_an_epoch()
         (0 ∷ 100 ∷ 2 ∷ 3 ∷ 2 ∷ 0 ∷ 4 ∷ []) ∷ (2 ∷ 100 ∷ 2 ∷ 3 ∷ 2 ∷ 0 ∷ 4 ∷ []) ∷
         (0 ∷ 100 ∷ 1 ∷ 0 ∷ 1 ∷ 1 ∷ 1 ∷ []) ∷ (2 ∷ 100 ∷ 1 ∷ 2 ∷ 1 ∷ 1 ∷ 1 ∷ []) ∷
         (3 ∷ 100 ∷ 1 ∷ 3 ∷ 1 ∷ 1 ∷ 1 ∷ []) ∷ [] }
-    ensures counts { note_counts (world_of full_epoch_rules full_epoch_script) ≡ (25, 3) ∷ (0, 0) ∷
+    ensures counts { totals (world_of full_epoch_rules full_epoch_script) ≡ (25, 3) ∷ (0, 0) ∷
         (25, 3) ∷ (24, 2) ∷ [] }
 {}
 
@@ -109,7 +108,7 @@ pub fn a_restart_sends_the_last_vote_again()
         (2 ∷ 100 ∷ 1 ∷ 2 ∷ 2 ∷ 1 ∷ 1 ∷ []) ∷ (3 ∷ 100 ∷ 1 ∷ 3 ∷ 0 ∷ 1 ∷ 1 ∷ []) ∷
         (3 ∷ 100 ∷ 0 ∷ 3 ∷ []) ∷ (2 ∷ 100 ∷ 1 ∷ 2 ∷ 0 ∷ 1 ∷ 2 ∷ []) ∷
         (3 ∷ 100 ∷ 2 ∷ 3 ∷ 0 ∷ 1 ∷ 1 ∷ []) ∷ (3 ∷ 100 ∷ 1 ∷ 3 ∷ 2 ∷ 1 ∷ 1 ∷ []) ∷ [] }
-    ensures counts { note_counts (world_of vote_again_rules vote_again_script) ≡ (11, 2) ∷ (13, 2) ∷
+    ensures counts { totals (world_of vote_again_rules vote_again_script) ≡ (11, 2) ∷ (13, 2) ∷
         (16, 2) ∷ (16, 2) ∷ [] }
 {}
 
@@ -143,7 +142,7 @@ pub fn two_blocks_in_each_of_two_epochs()
         (2 ∷ 0 ∷ 0 ∷ 0 ∷ []) ∷ (2 ∷ 1 ∷ 0 ∷ 1 ∷ []) ∷ (2 ∷ 100 ∷ 0 ∷ 2 ∷ []) ∷ (2 ∷ 3 ∷ 0 ∷ 3 ∷ [])
         ∷ (2 ∷ 100 ∷ 1 ∷ 2 ∷ 0 ∷ 1 ∷ 2 ∷ []) ∷ (2 ∷ 100 ∷ 0 ∷ 2 ∷ []) ∷ (0 ∷ 100 ∷ 0 ∷ 0 ∷ []) ∷
         (1 ∷ 100 ∷ 2 ∷ 3 ∷ 0 ∷ 1 ∷ 1 ∷ []) ∷ (1 ∷ 100 ∷ 1 ∷ 1 ∷ 2 ∷ 1 ∷ 1 ∷ []) ∷ [] }
-    ensures counts { note_counts (world_of two_by_two_rules two_by_two_script) ≡ (18, 3) ∷ (21, 3) ∷
+    ensures counts { totals (world_of two_by_two_rules two_by_two_script) ≡ (18, 3) ∷ (21, 3) ∷
         (22, 3) ∷ (0, 0) ∷ [] }
 {}
 
@@ -174,8 +173,7 @@ pub fn a_block_is_proposed_again_in_each_epoch()
         (1 ∷ 100 ∷ 1 ∷ 1 ∷ 0 ∷ 1 ∷ 2 ∷ []) ∷ (0 ∷ 100 ∷ 2 ∷ 3 ∷ 0 ∷ 1 ∷ 1 ∷ []) ∷
         (0 ∷ 100 ∷ 1 ∷ 0 ∷ 2 ∷ 1 ∷ 1 ∷ []) ∷ (0 ∷ 100 ∷ 1 ∷ 0 ∷ 0 ∷ 1 ∷ 2 ∷ []) ∷
         (3 ∷ 100 ∷ 2 ∷ 3 ∷ 0 ∷ 1 ∷ 2 ∷ []) ∷ (3 ∷ 100 ∷ 1 ∷ 3 ∷ 2 ∷ 1 ∷ 2 ∷ []) ∷ [] }
-    ensures counts
-        { note_counts (world_of again_twice_rules again_twice_script) ≡ (13, 2) ∷ (15, 2) ∷
+    ensures counts { totals (world_of again_twice_rules again_twice_script) ≡ (13, 2) ∷ (15, 2) ∷
         (17, 3) ∷ (21, 3) ∷ [] }
 {}
 
@@ -209,7 +207,7 @@ pub fn the_last_block_is_finalized_in_two_views()
         (2 ∷ 100 ∷ 1 ∷ 2 ∷ 2 ∷ 0 ∷ 3 ∷ []) ∷ (3 ∷ 100 ∷ 1 ∷ 3 ∷ 0 ∷ 1 ∷ 1 ∷ []) ∷
         (3 ∷ 100 ∷ 0 ∷ 3 ∷ []) ∷ (2 ∷ 100 ∷ 0 ∷ 2 ∷ []) ∷ (1 ∷ 100 ∷ 2 ∷ 3 ∷ 2 ∷ 0 ∷ 3 ∷ []) ∷
         (2 ∷ 100 ∷ 1 ∷ 2 ∷ 0 ∷ 1 ∷ 1 ∷ []) ∷ [] }
-    ensures counts { note_counts (world_of finalized_twice_rules finalized_twice_script) ≡ (0, 0) ∷
+    ensures counts { totals (world_of finalized_twice_rules finalized_twice_script) ≡ (0, 0) ∷
         (23, 2) ∷ (22, 1) ∷ (20, 2) ∷ [] }
 {}
 
@@ -243,7 +241,7 @@ pub fn a_faulty_member_in_each_of_two_committees()
         (4 ∷ 1 ∷ 0 ∷ 1 ∷ []) ∷ (4 ∷ 3 ∷ 0 ∷ 2 ∷ []) ∷ (4 ∷ 100 ∷ 0 ∷ 3 ∷ []) ∷
         (4 ∷ 100 ∷ 1 ∷ 4 ∷ 0 ∷ 0 ∷ 1 ∷ []) ∷ (0 ∷ 100 ∷ 1 ∷ 0 ∷ 0 ∷ 2 ∷ 1 ∷ []) ∷
         (3 ∷ 100 ∷ 4 ∷ 4 ∷ []) ∷ (3 ∷ 100 ∷ 0 ∷ 3 ∷ []) ∷ [] }
-    ensures counts { note_counts (world_of two_faulty_rules two_faulty_script) ≡ (18, 1) ∷ (22, 3) ∷
+    ensures counts { totals (world_of two_faulty_rules two_faulty_script) ≡ (18, 1) ∷ (22, 3) ∷
         (0, 0) ∷ (13, 2) ∷ (0, 0) ∷ [] }
 {}
 
@@ -269,8 +267,7 @@ pub fn a_committee_of_four_is_followed_by_one_of_six()
         (5 ∷ 100 ∷ 0 ∷ 5 ∷ []) ∷ (3 ∷ 100 ∷ 0 ∷ 3 ∷ []) ∷ (2 ∷ 100 ∷ 1 ∷ 2 ∷ 0 ∷ 1 ∷ 1 ∷ []) ∷
         (2 ∷ 100 ∷ 0 ∷ 2 ∷ []) ∷ (5 ∷ 100 ∷ 1 ∷ 5 ∷ 0 ∷ 1 ∷ 1 ∷ []) ∷
         (0 ∷ 100 ∷ 1 ∷ 0 ∷ 0 ∷ 1 ∷ 1 ∷ []) ∷ [] }
-    ensures counts
-        { note_counts (world_of four_to_six_rules four_to_six_script) ≡ (8, 2) ∷ (10, 2) ∷
+    ensures counts { totals (world_of four_to_six_rules four_to_six_script) ≡ (8, 2) ∷ (10, 2) ∷
         (11, 2) ∷ (7, 2) ∷ (9, 2) ∷ (9, 2) ∷ [] }
 {}
 
@@ -297,8 +294,7 @@ pub fn a_silent_leader_is_passed_over_in_each_epoch()
         (0 ∷ 100 ∷ 1 ∷ 0 ∷ 0 ∷ 1 ∷ 2 ∷ []) ∷ (1 ∷ 0 ∷ 0 ∷ 0 ∷ []) ∷ (1 ∷ 100 ∷ 0 ∷ 1 ∷ []) ∷
         (1 ∷ 2 ∷ 0 ∷ 2 ∷ []) ∷ (1 ∷ 3 ∷ 0 ∷ 3 ∷ []) ∷ (1 ∷ 100 ∷ 1 ∷ 1 ∷ 0 ∷ 0 ∷ 2 ∷ []) ∷
         (2 ∷ 100 ∷ 0 ∷ 2 ∷ []) ∷ [] }
-    ensures counts
-        { note_counts (world_of silent_leader_rules silent_leader_script) ≡ (15, 2) ∷ (0, 0) ∷
+    ensures counts { totals (world_of silent_leader_rules silent_leader_script) ≡ (15, 2) ∷ (0, 0) ∷
         (17, 2) ∷ (14, 2) ∷ [] }
 {}
 
@@ -329,7 +325,7 @@ pub fn an_acknowledged_block_is_not_handed_out_again()
         (3 ∷ 100 ∷ 2 ∷ 3 ∷ 2 ∷ 0 ∷ 2 ∷ []) ∷ (1 ∷ 100 ∷ 2 ∷ 3 ∷ 2 ∷ 0 ∷ 2 ∷ []) ∷
         (1 ∷ 0 ∷ 0 ∷ 0 ∷ []) ∷ (1 ∷ 100 ∷ 0 ∷ 1 ∷ []) ∷ (1 ∷ 2 ∷ 0 ∷ 2 ∷ []) ∷ (1 ∷ 3 ∷ 0 ∷ 3 ∷ [])
         ∷ (1 ∷ 100 ∷ 1 ∷ 1 ∷ 0 ∷ 1 ∷ 1 ∷ []) ∷ (3 ∷ 100 ∷ 0 ∷ 3 ∷ []) ∷ [] }
-    ensures counts { note_counts (world_of acked_rules acked_script) ≡ (14, 3) ∷ (18, 3) ∷ (15, 2) ∷
+    ensures counts { totals (world_of acked_rules acked_script) ≡ (14, 3) ∷ (18, 3) ∷ (15, 2) ∷
         (16, 3) ∷ [] }
 {}
 
@@ -361,7 +357,7 @@ pub fn two_blocks_fill_an_epoch()
         (1 ∷ 100 ∷ 0 ∷ 1 ∷ []) ∷ (1 ∷ 2 ∷ 0 ∷ 2 ∷ []) ∷ (1 ∷ 3 ∷ 0 ∷ 3 ∷ []) ∷
         (1 ∷ 100 ∷ 1 ∷ 1 ∷ 0 ∷ 1 ∷ 1 ∷ []) ∷ (0 ∷ 100 ∷ 0 ∷ 0 ∷ []) ∷
         (0 ∷ 100 ∷ 1 ∷ 0 ∷ 0 ∷ 1 ∷ 1 ∷ []) ∷ (1 ∷ 100 ∷ 0 ∷ 1 ∷ []) ∷ [] }
-    ensures counts { note_counts (world_of two_blocks_rules two_blocks_script) ≡ (16, 3) ∷ (17, 3) ∷
+    ensures counts { totals (world_of two_blocks_rules two_blocks_script) ≡ (16, 3) ∷ (17, 3) ∷
         (15, 3) ∷ (14, 3) ∷ [] }
 {}
 
@@ -390,7 +386,6 @@ pub fn a_member_of_a_later_committee_follows()
         (4 ∷ 100 ∷ 0 ∷ 3 ∷ []) ∷ (1 ∷ 100 ∷ 2 ∷ 3 ∷ 2 ∷ 0 ∷ 2 ∷ []) ∷
         (1 ∷ 100 ∷ 1 ∷ 1 ∷ 0 ∷ 0 ∷ 3 ∷ []) ∷ (5 ∷ 100 ∷ 2 ∷ 3 ∷ 0 ∷ 0 ∷ 3 ∷ []) ∷
         (4 ∷ 100 ∷ 2 ∷ 3 ∷ 0 ∷ 0 ∷ 3 ∷ []) ∷ (4 ∷ 100 ∷ 1 ∷ 4 ∷ 2 ∷ 0 ∷ 3 ∷ []) ∷ [] }
-    ensures counts
-        { note_counts (world_of later_member_rules later_member_script) ≡ (11, 2) ∷ (11, 2) ∷
+    ensures counts { totals (world_of later_member_rules later_member_script) ≡ (11, 2) ∷ (11, 2) ∷
         (0, 0) ∷ (11, 2) ∷ (14, 1) ∷ (8, 1) ∷ [] }
 {}

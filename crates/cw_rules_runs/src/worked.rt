@@ -13,9 +13,9 @@ ghost use Rattle.cw_rules.specs.Reached.{IsCluster, ReachesClear};
 ghost use Rattle.cw_rules.specs.Report.{report_of};
 ghost use Rattle.cw_rules.specs.Rules.{commit, digest, genesis, genesis_commitment};
 ghost use Rattle.cw_rules.specs.World.{opening, world_of};
-ghost use Rattle.cw_rules_runs.specs.Toy.{note_counts, kinds, payloads, signers, told_from, told_short};
+ghost use Rattle.cw_rules_runs.specs.Toy.{kinds, payloads, signers, told_from, told_short, totals};
 ghost use Rattle.cw_rules_runs.specs.Toy.{toy_block_bytes};
-ghost use Rattle.cw_rules_runs.specs.Scenes.{adding, proposed_again, ascending, chain_heights, colliding};
+ghost use Rattle.cw_rules_runs.specs.Scenes.{adding, ascending, chain_heights, colliding, proposed_again};
 ghost use Rattle.cw_rules_runs.specs.Scenes.{cut_run, descending, finalized_run, first_block, four};
 ghost use Rattle.cw_rules_runs.specs.Scenes.{fresh, next_epoch, proposed_next, short_epochs};
 ghost use Rattle.cw_rules_runs.specs.Scenes.{steps_from, three_epochs, tickets_of, timeouts};
@@ -38,7 +38,7 @@ pub fn timeouts_and_a_block_in_the_next_view()
         (4, None, 2 ∷ [], []) ∷ (5, None, [], []) ∷ (6, None, 3 ∷ [], []) ∷
         (7, None, 4 ∷ 5 ∷ 6 ∷ 7 ∷ 8 ∷ [], []) ∷ (8, None, 9 ∷ [], []) ∷ (9, None, 10 ∷ [], []) ∷
         (10, None, 11 ∷ [], []) ∷ [] }
-    ensures counts { note_counts (world_of four timeouts) ≡ (3, 1) ∷ (1, 1) ∷ (5, 1) ∷ (0, 1) ∷ [] }
+    ensures counts { totals (world_of four timeouts) ≡ (3, 1) ∷ (1, 1) ∷ (5, 1) ∷ (0, 1) ∷ [] }
     ensures chain { chain_heights four timeouts ≡ 0 ∷ [] }
 {}
 
@@ -53,8 +53,7 @@ pub fn a_block_is_finalized()
         (7, None, 8 ∷ [], []) ∷ (8, None, 9 ∷ 10 ∷ [], []) ∷ (9, None, 11 ∷ 12 ∷ [], []) ∷
         (10, None, 13 ∷ 14 ∷ [], []) ∷ (11, None, 15 ∷ [], []) ∷ (12, None, [], []) ∷
         (13, None, 16 ∷ [], 1 ∷ []) ∷ [] }
-    ensures counts
-        { note_counts (world_of four finalized_run) ≡ (5, 1) ∷ (6, 1) ∷ (6, 2) ∷ (0, 1) ∷ [] }
+    ensures counts { totals (world_of four finalized_run) ≡ (5, 1) ∷ (6, 1) ∷ (6, 2) ∷ (0, 1) ∷ [] }
 {}
 
 /// The last step is cut: its notes are lost, or stay, and the restart sends what the last frame
@@ -63,14 +62,12 @@ pub fn a_cut_leaves_all_or_none()
     ensures lost { kinds (world_of four (cut_run 0)).pool
         ≡ (1, 0) ∷ (1, 0) ∷ (1, 0) ∷ (1, 0) ∷ (1, 1) ∷ (0, 0) ∷ (0, 1) ∷ (2, 0) ∷ (2, 1) ∷ (0, 2) ∷
         (0, 1) ∷ (1, 2) ∷ (1, 1) ∷ (2, 2) ∷ (2, 3) ∷ (2, 1) ∷ (2, 1) ∷ [] }
-    ensures lost_counts
-        { note_counts (world_of four (cut_run 0)) ≡ (5, 1) ∷ (6, 1) ∷ (5, 1) ∷ (0, 1)
+    ensures lost_counts { totals (world_of four (cut_run 0)) ≡ (5, 1) ∷ (6, 1) ∷ (5, 1) ∷ (0, 1)
         ∷ [] }
     ensures kept { kinds (world_of four (cut_run 1)).pool
         ≡ (1, 0) ∷ (1, 0) ∷ (1, 0) ∷ (1, 0) ∷ (1, 1) ∷ (0, 0) ∷ (0, 1) ∷ (2, 0) ∷ (2, 1) ∷ (0, 2) ∷
         (0, 1) ∷ (1, 2) ∷ (1, 1) ∷ (2, 2) ∷ (2, 3) ∷ (2, 1) ∷ (2, 2) ∷ [] }
-    ensures kept_counts
-        { note_counts (world_of four (cut_run 1)) ≡ (5, 1) ∷ (6, 1) ∷ (6, 2) ∷ (0, 1)
+    ensures kept_counts { totals (world_of four (cut_run 1)) ≡ (5, 1) ∷ (6, 1) ∷ (6, 2) ∷ (0, 1)
         ∷ [] }
     ensures lost_chain { chain_heights four (cut_run 0) ≡ 0 ∷ [] }
     ensures kept_chain { chain_heights four (cut_run 1) ≡ 0 ∷ 1 ∷ [] }
@@ -117,8 +114,7 @@ pub fn a_faulty_leader_offers_two_blocks()
         (3, None, 5 ∷ 6 ∷ 7 ∷ 8 ∷ 9 ∷ [], []) ∷ (4, None, 10 ∷ [], []) ∷ (5, None, 11 ∷ [], []) ∷
         (6, None, 12 ∷ [], []) ∷ (7, None, 13 ∷ [], []) ∷ (8, None, 14 ∷ [], []) ∷
         (9, None, 15 ∷ [], []) ∷ (10, None, 16 ∷ 17 ∷ [], []) ∷ (11, None, [], []) ∷ [] }
-    ensures counts
-        { note_counts (world_of four two_offers) ≡ (2, 1) ∷ (0, 0) ∷ (1, 1) ∷ (1, 1) ∷ [] }
+    ensures counts { totals (world_of four two_offers) ≡ (2, 1) ∷ (0, 0) ∷ (1, 1) ∷ (1, 1) ∷ [] }
     ensures chain { chain_heights four two_offers ≡ 0 ∷ [] }
 {}
 
@@ -152,7 +148,7 @@ pub fn the_next_epochs_leader_proposes()
     ensures sent { told_from 17 (world_of two_committees next_epoch).pool
         ≡ (2 ∷ 1 ∷ 0 ∷ 0 ∷ []) ∷ (2 ∷ 100 ∷ 0 ∷ 1 ∷ []) ∷ (2 ∷ 3 ∷ 0 ∷ 2 ∷ []) ∷
         (2 ∷ 4 ∷ 0 ∷ 3 ∷ []) ∷ (2 ∷ 100 ∷ 1 ∷ 2 ∷ 0 ∷ 1 ∷ 1 ∷ 0 ∷ []) ∷ [] }
-    ensures counts { note_counts (world_of two_committees next_epoch) ≡ (5, 1) ∷ (6, 1) ∷ (10, 2) ∷
+    ensures counts { totals (world_of two_committees next_epoch) ≡ (5, 1) ∷ (6, 1) ∷ (10, 2) ∷
         (0, 1) ∷ (0, 1) ∷ [] }
     ensures chain { chain_heights two_committees next_epoch ≡ 0 ∷ 1 ∷ [] }
     // the header has two more lines, of the committees
@@ -184,8 +180,7 @@ pub fn three_epochs_follow_one_another()
         (2 ∷ 3 ∷ 0 ∷ 2 ∷ [])
         ∷ (2 ∷ 4 ∷ 0 ∷ 3 ∷ []) ∷ (2 ∷ 100 ∷ 1 ∷ 2 ∷ 0 ∷ 2 ∷ 1 ∷ []) ∷
         (4 ∷ 100 ∷ 2 ∷ 3 ∷ 2 ∷ 1 ∷ 1 ∷ []) ∷ [] }
-    ensures counts
-        { note_counts (world_of two_committees three_epochs) ≡ (5, 1) ∷ (13, 2) ∷ (18, 3) ∷
+    ensures counts { totals (world_of two_committees three_epochs) ≡ (5, 1) ∷ (13, 2) ∷ (18, 3) ∷
         (0, 1) ∷ (10, 3) ∷ [] }
     ensures clear { outcome two_committees (opening two_committees three_epochs) three_epochs ≡ Ends
         (world_of two_committees three_epochs) }
@@ -207,8 +202,7 @@ pub fn a_whole_block_is_notarized()
     ensures entries { steps_from 0 whole_four whole_voted ≡ (2, None, 0 ∷ 1 ∷ [], []) ∷
         (3, None, [], []) ∷ (4, None, 2 ∷ [], []) ∷ (5, None, [], []) ∷ (6, None, 3 ∷ [], []) ∷
         (7, None, 4 ∷ 5 ∷ [], []) ∷ [] }
-    ensures counts
-        { note_counts (world_of whole_four whole_voted) ≡ (5, 1) ∷ (3, 1) ∷ (2, 1) ∷ (0, 1)
+    ensures counts { totals (world_of whole_four whole_voted) ≡ (5, 1) ∷ (3, 1) ∷ (2, 1) ∷ (0, 1)
         ∷ [] }
     ensures chain { chain_heights whole_four whole_voted ≡ 0 ∷ [] }
 {}
@@ -218,7 +212,7 @@ pub fn a_whole_block_is_notarized()
 pub fn a_whole_block_is_finalized()
     ensures entries { steps_from 6 whole_four whole_finalized ≡ (8, None, 6 ∷ 7 ∷ [], []) ∷
         (9, None, 8 ∷ 9 ∷ [], []) ∷ (10, None, [], []) ∷ (11, None, 10 ∷ [], 1 ∷ []) ∷ [] }
-    ensures counts { note_counts (world_of whole_four whole_finalized) ≡ (5, 1) ∷ (6, 1) ∷ (6, 2) ∷
+    ensures counts { totals (world_of whole_four whole_finalized) ≡ (5, 1) ∷ (6, 1) ∷ (6, 2) ∷
         (0, 1) ∷ [] }
     ensures chain { chain_heights whole_four whole_finalized ≡ 0 ∷ 1 ∷ [] }
     ensures cut { steps_from 9 whole_four whole_cut ≡ (11, None, [], []) ∷

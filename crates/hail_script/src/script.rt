@@ -44,7 +44,7 @@ pub struct Script {
 impl Model for Script {
     ghost use Rattle.std.specs.Prelude.{◌≡◌, ◌≤◌};
     ghost use Rattle.hail_script.specs.Scenario.{Scenario};
-    ghost use Rattle.hail_script.specs.Grammar.{IsRunnable, first_event, faulty_marks};
+    ghost use Rattle.hail_script.specs.Grammar.{IsRunnable, faulty_marks, first_event};
 
     ghost Value = { Scenario };
 

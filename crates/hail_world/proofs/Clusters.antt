@@ -21,12 +21,12 @@ use Rattle.hail_script.specs.declared.error.RunError.{RunError}
 use Rattle.hail_world.specs.declared.blocks.KnownBlocks.{KnownBlocks}
 use Rattle.hail_world.specs.declared.place.Place.{Place}
 use Rattle.hail_world.specs.declared.report.Report.{Report}
-use Rattle.hail_world.specs.Clusters.{Cluster, IsUnderWay, ClusterStands, row_at, rows_at, steps_in, world_in}
+use Rattle.hail_world.specs.Clusters.{Cluster, ClusterStands, IsUnderWay, row_at, rows_at, steps_in, world_in}
 use Rattle.hail_world.specs.Known.{AreKnown}
 use Rattle.hail_world.specs.Places.{SitAs, WorkBy, script_rules}
 use Rattle.hail_world.specs.Played.{Begin, HavePlayed, IsReportOf, lines_of}
 use Rattle.hail_world.specs.Runs.{GoesBy, IsStopped, opened}
-use Rattle.hail_world.specs.Seats.{Seat}
+use Rattle.hail_world.specs.LiveNodes.{LiveNode}
 use Rattle.hail_world.proofs.Colliding.{knows_opened}
 use Rattle.hail_world.proofs.Opening.{flags_open}
 use Rattle.hail_world.proofs.Turned.{lines_more, played_none, stopped_behind}
@@ -147,7 +147,8 @@ begins r lines turns at line there cluster =
 
 -- before the first line
 pub opens : (hash : List ℕ → Digest32) (travel : Travel) (s : Scenario) (opening : List Entry)
-    (turns : List (ℕ × ℕ)) (steps : List Entry) (places : List (Place Seat)) (known : KnownBlocks)
+    (turns : List (ℕ × ℕ)) (steps : List Entry) (places : List (Place LiveNode))
+    (known : KnownBlocks)
     (faulty : List Bool)
     → s.travel ≡ travel → opening ≡ opening_entries (script_rules hash s) s.lines → turns ≡ []
     → steps ≡ [] → SitAs places (opened hash s).members → WorkBy (script_rules hash s) 0 places
@@ -171,7 +172,7 @@ opens hash travel s opening turns steps places known faulty way told no_turns no
 
 -- behind one line more
 pub turned : (hash : List ℕ → Digest32) (travel : Travel) (s : Scenario) (opening : List Entry)
-    (turns more : List (ℕ × ℕ)) (steps told : List Entry) (places : List (Place Seat))
+    (turns more : List (ℕ × ℕ)) (steps told : List Entry) (places : List (Place LiveNode))
     (known : KnownBlocks) (faulty : List Bool) (number at : ℕ) (line : Line) (entry : Entry)
     → s.travel ≡ travel → opening ≡ opening_entries (script_rules hash s) s.lines
     → slice_get s.lines at ≡ Some line
@@ -204,12 +205,12 @@ turned hash travel s opening turns more steps told places known faulty number at
 
 -- the same, whatever its places and marks are called
 pub same_played : (r : Rules) (w : World) (rows : List (ℕ × Line)) (steps : List Entry)
-    (places places' : List (Place Seat)) (known : KnownBlocks) (faulty faulty' : List Bool)
+    (places places' : List (Place LiveNode)) (known : KnownBlocks) (faulty faulty' : List Bool)
     → places' ≡ places → faulty' ≡ faulty → HavePlayed r w rows steps places known faulty
     → HavePlayed r w rows steps places' known faulty'
 same_played r w rows steps places places' known faulty faulty' p f h =
     subst (λ (l : List Bool). HavePlayed r w rows steps places' known l) (sym f)
-    (subst (λ (l : List (Place Seat)). HavePlayed r w rows steps l known faulty) (sym p) h)
+    (subst (λ (l : List (Place LiveNode)). HavePlayed r w rows steps l known faulty) (sym p) h)
 
 -- a cluster by its fields and as it is seen
 module _ (hash : List ℕ → Digest32) (s : Scenario) (turns : List (ℕ × ℕ)) (over : Bool)
@@ -272,7 +273,8 @@ module _ (hash : List ℕ → Digest32) (s : Scenario) (turns : List (ℕ × ℕ
 
   -- the report of its lines
   pub seen_end : {H W : Type 0} (travel : Travel) (opening steps : List Entry)
-      (places : List (Place Seat)) (known : KnownBlocks) (faulty : List Bool) (report : Report H W)
+      (places : List (Place LiveNode)) (known : KnownBlocks) (faulty : List Bool)
+      (report : Report H W)
       → ClusterStands hash travel s opening (rows_at s.lines turns) over steps places known faulty
       → c.over ≡ false
       → ((r : Rules) (w : World) → GoesBy hash r → WorkBy r 0 places → SitAs places w.members

@@ -18,7 +18,7 @@ use Rattle.hail_world.specs.declared.place.Place.{Place}
 use Rattle.hail_world.specs.declared.place.Place.TheVariants as place
 use Rattle.hail_world.specs.Places.{SitAs, SitsAs, notes_at}
 use Rattle.hail_world.specs.Runs.{HasGrown, notes_of_place}
-use Rattle.hail_world.specs.Seats.{Seat}
+use Rattle.hail_world.specs.LiveNodes.{LiveNode}
 use Rattle.hail_world.proofs.Playing.{seated_notes}
 
 -- ---- what is done only adds notes
@@ -206,33 +206,34 @@ line_grown r w (rule.Faulty i fault) old o at count =
     same_grown w (happens r w (rule.Faulty i fault)) i old o refl at count
 
 -- who sits in a place, and the member that it is
-record IsSeated (ps : List (Place Seat)) (os : List (Option Member)) (i : ℕ) : Type 0 where
-  place : Place Seat
+record IsSeated (ps : List (Place LiveNode)) (os : List (Option Member)) (i : ℕ) : Type 0 where
+  place : Place LiveNode
   member : Option Member
-  seat : slice_get ps i ≡ Some place
+  live_node : slice_get ps i ≡ Some place
   there : slice_get os i ≡ Some member
   is : SitsAs place member
 
-seated : (ps : List (Place Seat)) (os : List (Option Member)) (i : ℕ) → SitAs ps os → i < length ps
+seated : (ps : List (Place LiveNode)) (os : List (Option Member)) (i : ℕ) → SitAs ps os
+    → i < length ps
     → IsSeated ps os i
 seated [] os i h lt = absurd (omega arith)
 seated (p ∷ ps) [] i h lt = absurd h
 seated (p ∷ ps) (o ∷ os) zero h lt =
-    record { place = p; member = o; seat = refl; there = refl; is = h.0 }
+    record { place = p; member = o; live_node = refl; there = refl; is = h.0 }
 seated (p ∷ ps) (o ∷ os) (suc i) h lt =
     let more = seated ps os i h.1 (omega arith) in
     record {
       place = more.place;
       member = more.member;
-      seat = more.seat;
+      live_node = more.live_node;
       there = more.there;
       is = more.is;
     }
 
 -- a line adds notes to its member's alone
-pub grown : (r : Rules) (w : World) (line : Line) (ps : List (Place Seat)) (i old : ℕ)
+pub grown : (r : Rules) (w : World) (line : Line) (ps : List (Place LiveNode)) (i old : ℕ)
     → SitAs ps w.members → i < length ps → i ≡ line_member line
-    → ((p : Place Seat) → slice_get ps i ≡ Some p → old ≡ length (notes_at p))
+    → ((p : Place LiveNode) → slice_get ps i ≡ Some p → old ≡ length (notes_at p))
     → HasGrown w (happens r w line) i old
 grown r w line ps i old members lt named count =
     let at = seated ps w.members i members lt in
@@ -240,7 +241,7 @@ grown r w line ps i old members lt named count =
     ap (λ (k : ℕ). slice_get w.members k) (sym named) ∙ at.there in
     subst (λ (k : ℕ). HasGrown w (happens r w line) k old) (sym named)
     (line_grown r w line old at.member there
-    (count at.place at.seat
+    (count at.place at.live_node
     ∙ ap (λ (l : List Note). length l) (seated_notes at.place at.member at.is)))
 
 -- ---- noted blocks are under their digests

@@ -8,16 +8,16 @@ use Rattle.cw_rules.specs.Report.{Entry, opening_entry}
 use Rattle.cw_rules.specs.Rules.{Rules}
 use Rattle.cw_rules.specs.Step.{Member, start}
 use Rattle.cw_rules.specs.World.{Line, faults}
-use Rattle.hail_script.specs.Grammar.{is_faulty_in, faulty_marks}
+use Rattle.hail_script.specs.Grammar.{faulty_marks, is_faulty_in}
 use Rattle.hail_report.proofs.Numbered.{map_joined, range_more}
 use Rattle.hail_world.specs.declared.place.Place.{Place}
 use Rattle.hail_world.specs.Offers.{some_of}
-use Rattle.hail_world.specs.Places.{SitAs, WorkBy, SitsAs, WorksBy, is_faulty_member}
+use Rattle.hail_world.specs.Places.{SitAs, SitsAs, WorkBy, WorksBy, is_faulty_member}
 use Rattle.hail_world.specs.Runs.{seat_of}
-use Rattle.hail_world.specs.Seats.{Seat}
+use Rattle.hail_world.specs.LiveNodes.{LiveNode}
 
 -- the places up to a number, and their entries
-pub record AreOpened (r : Rules) (lines : List Line) (n : ℕ) (places : List (Place Seat))
+pub record AreOpened (r : Rules) (lines : List Line) (n : ℕ) (places : List (Place LiveNode))
     (entries : List Entry) : Type 0 where
   pub members : SitAs places (map (seat_of r lines) (range_with_len 0 n))
   pub sound : WorkBy r 0 places
@@ -27,7 +27,7 @@ pub record AreOpened (r : Rules) (lines : List Line) (n : ℕ) (places : List (P
 pub opened_none : (r : Rules) (lines : List Line) → AreOpened r lines 0 [] []
 opened_none r lines = record { members = tt; sound = tt; count = refl; told = refl }
 
-members_push : (ps : List (Place Seat)) (os : List (Option Member)) (p : Place Seat)
+members_push : (ps : List (Place LiveNode)) (os : List (Option Member)) (p : Place LiveNode)
     (o : Option Member)
     → SitAs ps os → SitsAs p o → SitAs (ps ++ p ∷ []) (os ++ o ∷ [])
 members_push [] [] p o h m = (m, tt)
@@ -35,7 +35,7 @@ members_push [] (x ∷ os) p o h m = absurd h
 members_push (q ∷ ps) [] p o h m = absurd h
 members_push (q ∷ ps) (x ∷ os) p o h m = (h.0, members_push ps os p o h.1 m)
 
-sound_push : (r : Rules) (k n : ℕ) (ps : List (Place Seat)) (p : Place Seat) → WorkBy r k ps
+sound_push : (r : Rules) (k n : ℕ) (ps : List (Place LiveNode)) (p : Place LiveNode) → WorkBy r k ps
     → k + length ps ≡ n → WorksBy r n p → WorkBy r k (ps ++ p ∷ [])
 sound_push r k n [] p h e s =
     let same : n ≡ k = omega (arith, e) in (subst (λ (j : ℕ). WorksBy r j p) same s, tt)
@@ -55,8 +55,8 @@ one_entry r lines n = go (list_any (faults n) lines) refl
     go false e = rw e refl
 
 -- one place more
-pub opened_more : (r : Rules) (lines : List Line) (n : ℕ) (old new : List (Place Seat))
-    (before after : List Entry) (p : Place Seat) (e : Option Entry)
+pub opened_more : (r : Rules) (lines : List Line) (n : ℕ) (old new : List (Place LiveNode))
+    (before after : List Entry) (p : Place LiveNode) (e : Option Entry)
     → AreOpened r lines n old before
     → SitsAs p (seat_of r lines n) → WorksBy r n p → e ≡ opening_entry r lines n
     → new ≡ old ++ p ∷ [] → after ≡ before ++ some_of e → AreOpened r lines (n + 1) new after
@@ -81,17 +81,17 @@ opened_more r lines n old new before after p e h member sound tells places entri
     record {
       members =
           subst
-          (λ (l : List (Place Seat)). SitAs l
+          (λ (l : List (Place LiveNode)). SitAs l
           (map (seat_of r lines) (range_with_len 0 (n + 1))))
           (sym places)
           (subst (λ (l : List (Option Member)). SitAs (old ++ p ∷ []) l) (sym whole)
           (members_push old (map (seat_of r lines) (range_with_len 0 n)) p (seat_of r lines n)
           h.members member));
       sound =
-          subst (λ (l : List (Place Seat)). WorkBy r 0 l) (sym places)
+          subst (λ (l : List (Place LiveNode)). WorkBy r 0 l) (sym places)
           (sound_push r 0 n old p h.sound (omega (arith, count)) sound);
       count =
-          ap (λ (l : List (Place Seat)). length l) places ∙ long_push old p
+          ap (λ (l : List (Place LiveNode)). length l) places ∙ long_push old p
           ∙ ap (λ (k : ℕ). k + 1) count;
       told =
           entries ∙ ap (λ (o : Option Entry). before ++ some_of o) tells
@@ -120,7 +120,7 @@ marked_is lines total n faulty all lt =
         at (low + 1) total n (omega arith)
         ∙ ap (λ (k : ℕ). let o : Option Bool = Some (is_faulty_in lines k) in o) same
 
--- the entry and the seat of a faulty member, and of another
+-- the entry and the live_node of a faulty member, and of another
 pub faulty_entry : (r : Rules) (lines : List Line) (n : ℕ) → list_any (faults n) lines ≡ true
     → (opening_entry r lines n ≡ None) × (seat_of r lines n ≡ None)
 faulty_entry r lines n e = (rw e refl, rw e refl)
@@ -136,7 +136,7 @@ pub honest_entry : (r : Rules) (lines : List Line) (n : ℕ) → list_any (fault
     × (seat_of r lines n ≡ Some (start r n []).member)
 honest_entry r lines n e = (rw e refl, rw e refl)
 
--- the marks are those of the seats
+-- the marks are those of the live_nodes
 pub flags_open : (r : Rules) (lines : List Line) (total : ℕ)
     → faulty_marks lines total ≡ map is_none (map (seat_of r lines) (range_with_len 0 total))
 flags_open r lines total = all (range_with_len 0 total)

@@ -5,8 +5,8 @@ use Rattle.cw_rules.specs.Rules.{Rules}
 use Rattle.cw_rules.specs.Step.{Member}
 use Rattle.cw_rules.specs.World.{Faulty, Line, Sent, line_member}
 use Rattle.hail_world.specs.declared.place.Place.{Place}
-use Rattle.hail_world.specs.Places.{SitsAs, Makes, found_at, world_of_pool, table, turned_by}
-use Rattle.hail_world.specs.Seats.{Seat}
+use Rattle.hail_world.specs.Places.{Makes, SitsAs, found_at, table, turned_by, world_of_pool}
+use Rattle.hail_world.specs.LiveNodes.{LiveNode}
 
 -- a line that isn't of a faulty member
 abbrev pub IsHonest : Line → Type 0
@@ -15,9 +15,9 @@ IsHonest _ = Unit {0}
 
 -- one place is another, and what it gave is what the rules make of the member who sat there
 pub record IsPlaced (r : Rules) (faulty : List Bool) (pool : List Sent) (line : Line)
-    (old new : List (Place Seat)) (found : Option ℕ) (out : Option StepOut) : Type 0 where
-  pub before : Place Seat
-  pub after : Place Seat
+    (old new : List (Place LiveNode)) (found : Option ℕ) (out : Option StepOut) : Type 0 where
+  pub before : Place LiveNode
+  pub after : Place LiveNode
   pub was : slice_get old (line_member line) ≡ Some before
   pub becomes : new ≡ slice_set old (line_member line) after
   pub finds : found ≡ found_at line after out

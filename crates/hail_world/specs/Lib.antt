@@ -1,4 +1,4 @@
-pub mod Seats
+pub mod LiveNodes
 pub mod Places
 pub mod Offers
 pub mod Honest

@@ -23,7 +23,7 @@ use Rattle.hail_world.specs.declared.place.Place.{Place}
 use Rattle.hail_world.specs.declared.place.Place.TheVariants as place
 use Rattle.node_disk.specs.Memory.{memory_state}
 use Rattle.hail_world.specs.Places.{script_rules}
-use Rattle.hail_world.specs.Seats.{Seat}
+use Rattle.hail_world.specs.LiveNodes.{LiveNode}
 
 -- the world in which a script begins
 abbrev pub opened : (List ℕ → Digest32) → Scenario → World
@@ -82,7 +82,7 @@ chain_from r w top =
     option_map_or (chain_to r w) (option_and_then (λ x. block_under r w x.commitment) top) []
 
 -- what is handed back of a place: the bytes of its disk, and the node where it is live
-abbrev pub HandsBack : Place Seat → Option (List ℕ × Option Seat) → Type 0
+abbrev pub HandsBack : Place LiveNode → Option (List ℕ × Option LiveNode) → Type 0
 HandsBack place.Faulty closed = closed ≡ None
 HandsBack (place.Live m) closed = closed ≡ Some ((memory_state m.log.disk).now.seen, Some m)
 HandsBack (place.Stopped disk notes) closed = closed ≡ Some ((memory_state disk).now.seen, None)

@@ -11,8 +11,8 @@ ghost use Rattle.cw_rules.specs.World.{World as RulesWorld};
 ghost use Rattle.hail_world.specs.Places.{SitAs, notes_at as notes_in};
 ghost use Rattle.hail_world.specs.Runs.{GoesBy, chain_from, first_named, higher, under};
 
+use crate::live_node::LiveNode;
 use crate::place::Place;
-use crate::seat::Seat;
 use crate::turn::notes_at;
 use cw_base::{Digest32, Hasher, Items, NoMemory};
 use cw_types::{ChainBlock, Commitment, Handed, Note, genesis, genesis_commitment};
@@ -23,7 +23,7 @@ use std::alloc::Global;
 /// The chain up to the block that was handed out at the greatest height.
 pub(crate) fn chain_of<H: Hasher<Digest = Digest32>, W: Way>(
     alloc: Global,
-    places: &[Place<Seat<H, W>>],
+    places: &[Place<LiveNode<H, W>>],
     opening: &[Entry],
     steps: &[Entry],
 ) -> Result<Items<ChainBlock>, NoMemory>
@@ -44,7 +44,7 @@ pub(crate) fn chain_of<H: Hasher<Digest = Digest32>, W: Way>(
 // The blocks from genesis up to one, each under the parent commitment of the one above it.
 fn links_to<H: Hasher<Digest = Digest32>, W: Way>(
     alloc: Global,
-    places: &[Place<Seat<H, W>>],
+    places: &[Place<LiveNode<H, W>>],
     top: Option<ChainBlock>,
 ) -> Result<Items<ChainBlock>, NoMemory>
     ensures { (r : Rules) (w : RulesWorld) → GoesBy H.digest_of r → SitAs places.now w.members
@@ -74,7 +74,7 @@ fn height_of(block: &Option<ChainBlock>) -> u64
 // The block under the parent commitment of one, where some are left.
 fn parent<H: Hasher<Digest = Digest32>, W: Way>(
     alloc: Global,
-    places: &[Place<Seat<H, W>>],
+    places: &[Place<LiveNode<H, W>>],
     block: &ChainBlock,
     left: u64,
 ) -> Result<Option<ChainBlock>, NoMemory>
@@ -92,7 +92,7 @@ fn parent<H: Hasher<Digest = Digest32>, W: Way>(
 // The block of the first note of a commitment, and genesis for its own.
 fn block_under<H: Hasher<Digest = Digest32>, W: Way>(
     alloc: Global,
-    places: &[Place<Seat<H, W>>],
+    places: &[Place<LiveNode<H, W>>],
     commitment: &Commitment,
 ) -> Result<Option<ChainBlock>, NoMemory>
     ensures { (r : Rules) (w : RulesWorld) → GoesBy H.digest_of r → SitAs places.now w.members
@@ -103,7 +103,7 @@ fn block_under<H: Hasher<Digest = Digest32>, W: Way>(
 
 fn named<H: Hasher<Digest = Digest32>, W: Way>(
     alloc: Global,
-    places: &[Place<Seat<H, W>>],
+    places: &[Place<LiveNode<H, W>>],
     commitment: &Commitment,
 ) -> Result<Option<ChainBlock>, NoMemory>
     ensures { IfOk result
@@ -120,7 +120,7 @@ fn named<H: Hasher<Digest = Digest32>, W: Way>(
 
 // The block of the first note of a commitment, by place.
 fn noted_in<'a, H: Hasher<Digest = Digest32>, W: Way>(
-    places: &'a [Place<Seat<H, W>>],
+    places: &'a [Place<LiveNode<H, W>>],
     commitment: &Commitment,
 ) -> Option<&'a ChainBlock>
     ensures { option_map (λ b. b.now) result ≡ first_some (noted_block_of commitment.now)

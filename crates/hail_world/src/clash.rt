@@ -15,8 +15,8 @@ ghost use Rattle.hail_world.specs.Places.{SitAs};
 ghost use Rattle.hail_world.specs.Runs.{HasGrown, encoded};
 
 use crate::blocks::KnownBlocks;
+use crate::live_node::LiveNode;
 use crate::place::Place;
-use crate::seat::Seat;
 use crate::turn::notes_at;
 use cw_base::{Digest32, Hasher, Items, NoMemory};
 use cw_types::Note;
@@ -28,7 +28,7 @@ use std::alloc::Global;
 pub(crate) fn find_clash<H: Hasher<Digest = Digest32>, W: Way>(
     alloc: Global,
     known: &mut KnownBlocks,
-    places: &[Place<Seat<H, W>>],
+    places: &[Place<LiveNode<H, W>>],
     id: usize,
     old: usize,
 ) -> Result<Option<(Items<u8>, Items<u8>)>, NoMemory>

@@ -12,9 +12,9 @@ ghost use Rattle.hail_world.specs.Runs.{IsStopped, opened};
 
 use crate::blocks::KnownBlocks;
 use crate::line_turn::turn_line;
+use crate::live_node::LiveNode;
 use crate::place::Place;
 use crate::report::Ran;
-use crate::seat::Seat;
 use crate::setting::Setting;
 use crate::world::{open_all, report_of};
 use cw_base::{Digest32, Hasher, Items, NoMemory, Strategy};
@@ -34,7 +34,7 @@ pub struct Cluster<H: Hasher<Digest = Digest32>, W: Way> {
     script: Script,
     // of each member, whether some line makes it faulty
     faulty: Vec<bool>,
-    places: Vec<Place<Seat<H, W>>>,
+    places: Vec<Place<LiveNode<H, W>>>,
     known: KnownBlocks,
     opening: Items<Entry>,
     pool: Pool,

@@ -13,7 +13,7 @@ ghost use Rattle.cw_rules.specs.World as rule;
 ghost use Rattle.cw_rules_coded.specs.Coded.{uncut_rules};
 ghost use Rattle.shards.specs.Kept.{chunk_rules as cut_by};
 ghost use Rattle.hail_world.specs.Offers as offers;
-ghost use Rattle.hail_world.specs.Places.{world_of_pool, script_rules};
+ghost use Rattle.hail_world.specs.Places.{script_rules, world_of_pool};
 ghost use Rattle.hail_report.specs.Pool.{sent_in};
 
 use cw_base::{Digest32, Hasher, Items, NoMemory, Reader, Strategy};
@@ -253,8 +253,8 @@ fn offer<H: Hasher<Digest = Digest32>, R: Threads + Sync, S: Strategy>(
     strategy: &S,
 ) -> Result<Items<Out>, NoMemory>
     ensures { IfOk result
-        (λ outs. outs ≡ offers.offer (script_rules H.digest_of script.now) member view payload.now)
-        }
+        (λ outs. outs
+        ≡ offers.offer (script_rules H.digest_of script.now) member view payload.now) }
 {
     let committees = script.committees(alloc)?;
     let block = offered::<H>(alloc, &committees, view, payload.copy(alloc)?)?;

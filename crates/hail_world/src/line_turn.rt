@@ -7,15 +7,15 @@ ghost use Rattle.cw_rules.specs.World.{Line, World as RulesWorld, run};
 ghost use Rattle.hail_world.specs.Played.{lines_of};
 ghost use Rattle.hail_world.specs.Places.{WorkBy, notes_at as notes_in, script_rules};
 ghost use Rattle.hail_world.specs.declared.place.Place.{Place as PlaceValue};
-ghost use Rattle.hail_world.specs.Seats.{Seat as SeatValue};
+ghost use Rattle.hail_world.specs.LiveNodes.{LiveNode as LiveNodeValue};
 ghost use Rattle.hail_world.specs.Runs.{IsStopped};
 ghost use Rattle.hail_world.specs.Played.{Begin, HavePlayed};
 
 use crate::blocks::KnownBlocks;
 use crate::clash::find_clash;
+use crate::live_node::LiveNode;
 use crate::place::Place;
 use crate::play::play;
-use crate::seat::Seat;
 use crate::setting::Setting;
 use crate::turn::notes_at;
 use cw_base::{Digest32, Hasher, Strategy};
@@ -31,7 +31,7 @@ pub(crate) fn turn_line<H: Hasher<Digest = Digest32>, W: Way, R: Threads + Sync,
     rt: &R,
     alloc: Global,
     setting: &Setting<'_>,
-    places: &mut [Place<Seat<H, W>>],
+    places: &mut [Place<LiveNode<H, W>>],
     known: &mut KnownBlocks,
     strategy: &S,
 ) -> Result<Entry, RunError>
@@ -77,10 +77,10 @@ pub(crate) fn turn_line<H: Hasher<Digest = Digest32>, W: Way, R: Threads + Sync,
 
 // How many notes who sits there has.
 fn notes_before<H: Hasher<Digest = Digest32>, W: Way>(
-    places: &[Place<Seat<H, W>>],
+    places: &[Place<LiveNode<H, W>>],
     id: usize,
 ) -> usize
-    ensures { (p : PlaceValue SeatValue) → slice_get places.now id ≡ Some p
+    ensures { (p : PlaceValue LiveNodeValue) → slice_get places.now id ≡ Some p
         → result ≡ length (notes_in p) }
 {
     match places.get(id) {

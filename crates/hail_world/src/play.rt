@@ -8,8 +8,8 @@ ghost use Rattle.hail_world.specs.Places.{SitAs, WorkBy, IsTurn, world_of_pool, 
 ghost use Rattle.hail_report.specs.Pool.{sent_in};
 
 use crate::fault;
+use crate::live_node::LiveNode;
 use crate::place::Place;
-use crate::seat::Seat;
 use crate::setting::Setting;
 use crate::turn::{found_at, take_turn};
 use cw_base::{Digest32, Hasher, NoMemory, Strategy};
@@ -26,7 +26,7 @@ fn turn_place<H: Hasher<Digest = Digest32>, W: Way, R: Threads + Sync, S: Strate
     rt: &R,
     alloc: Global,
     setting: &Setting<'_>,
-    places: &mut [Place<Seat<H, W>>],
+    places: &mut [Place<LiveNode<H, W>>],
     strategy: &S,
 ) -> Result<(Option<u64>, Option<StepOut>), NoMemory>
     requires way { setting.now.script.now.travel ≡ W.travel }
@@ -51,7 +51,7 @@ pub(crate) fn play_member<H: Hasher<Digest = Digest32>, W: Way, R: Threads + Syn
     rt: &R,
     alloc: Global,
     setting: &Setting<'_>,
-    places: &mut [Place<Seat<H, W>>],
+    places: &mut [Place<LiveNode<H, W>>],
     strategy: &S,
 ) -> Result<Entry, NoMemory>
     requires honest { IsHonest setting.now.line.now }
@@ -112,7 +112,7 @@ pub(crate) fn play<H: Hasher<Digest = Digest32>, W: Way, R: Threads + Sync, S: S
     rt: &R,
     alloc: Global,
     setting: &Setting<'_>,
-    places: &mut [Place<Seat<H, W>>],
+    places: &mut [Place<LiveNode<H, W>>],
     strategy: &S,
 ) -> Result<Entry, NoMemory>
     requires way { setting.now.script.now.travel ≡ W.travel }

@@ -4,7 +4,7 @@ ghost use Rattle.std.specs.Prelude.{◌≡◌, IfOk};
 ghost use Rattle.hail_report.specs.Text as spec;
 ghost use Rattle.hail_world.specs.Reports.{shown_report};
 
-use crate::seat::SeatNode;
+use crate::live_node::MemoryNode;
 use cw_base::{Digest32, Hasher, Items, NoMemory};
 use cw_types::ChainBlock;
 use hail_report::{Acked, Entry, text_of_parts};
@@ -20,7 +20,7 @@ pub struct Report<H: Hasher<Digest = Digest32>, W: Way> {
     pub steps: Items<Entry>,
     pub acked: Items<Acked>,
     pub disks: Items<Items<u8>>,
-    pub nodes: Items<Option<SeatNode<H, W>>>,
+    pub nodes: Items<Option<MemoryNode<H, W>>>,
     pub chain: Items<ChainBlock>,
 }
 

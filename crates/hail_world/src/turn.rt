@@ -11,15 +11,15 @@ ghost use Rattle.marshal.specs.Frames.{FindsNotes};
 ghost use Rattle.node_disk.specs.Memory.{is_calm, memory_state};
 ghost use Rattle.hail_world.specs.Places.{DiskHolds, IsPutOut, Makes, SitsAs, WorksBy};
 ghost use Rattle.hail_world.specs.Places.{did, did_cut};
-ghost use Rattle.hail_world.specs.Places.{world_of_pool, script_rules, starts_again, table, turned_by};
+ghost use Rattle.hail_world.specs.Places.{script_rules, starts_again, table, turned_by, world_of_pool};
 ghost use Rattle.hail_world.specs.Places as places;
 ghost use Rattle.hail_world.specs.declared.place.Place.TheVariants.{Live};
 ghost use Rattle.hail_report.specs.Pool.{sent_in};
-ghost use Rattle.hail_world.specs.Seats.{HasStepped, Works, out_of, rules_by};
+ghost use Rattle.hail_world.specs.LiveNodes.{HasStepped, Works, out_of, rules_by};
 
 use crate::event::event_for;
+use crate::live_node::{LiveNode, MemoryNode, start, step};
 use crate::place::Place;
-use crate::seat::{Seat, SeatNode, start, step};
 use crate::setting::Setting;
 use cw_base::{Digest32, Hasher, Items, NoMemory, Strategy};
 use cw_types::{Event, Note, StepOut};
@@ -35,7 +35,7 @@ fn take_event<H: Hasher<Digest = Digest32>, W: Way, R: Threads + Sync, S: Strate
     rt: &R,
     alloc: Global,
     setting: &Setting<'_>,
-    node: &mut SeatNode<H, W>,
+    node: &mut MemoryNode<H, W>,
     event: &Event,
     strategy: &S,
 ) -> Result<StepOut, NoMemory>
@@ -58,8 +58,8 @@ fn take_event<H: Hasher<Digest = Digest32>, W: Way, R: Threads + Sync, S: Strate
 // A member's place once it is stopped.
 fn stopped<H: Hasher<Digest = Digest32>, W: Way>(
     alloc: Global,
-    node: SeatNode<H, W>,
-) -> Result<Place<Seat<H, W>>, NoMemory>
+    node: MemoryNode<H, W>,
+) -> Result<Place<LiveNode<H, W>>, NoMemory>
     requires { (frames : List (List NoteValue))
         × FindsNotes frames (memory_state node.log.disk).now.seen }
     ensures { IfOk result (λ place. IsPutOut node.log.disk place) }
@@ -89,11 +89,11 @@ fn cut_event<H: Hasher<Digest = Digest32>, W: Way, R: Threads + Sync, S: Strateg
     rt: &R,
     alloc: Global,
     setting: &Setting<'_>,
-    mut node: SeatNode<H, W>,
+    mut node: MemoryNode<H, W>,
     stop: Stop,
     event: &Event,
     strategy: &S,
-) -> Result<(Place<Seat<H, W>>, StepOut), NoMemory>
+) -> Result<(Place<LiveNode<H, W>>, StepOut), NoMemory>
     requires works { Works node }
     requires calm { is_calm node.log.disk ≡ true }
     ensures cut { let done = cut_step (rules_by H.digest_of node) node.id
@@ -123,7 +123,7 @@ pub(crate) fn restart<H: Hasher<Digest = Digest32>, W: Way, R: Threads + Sync, S
     id: u16,
     disk: MemoryDisk,
     strategy: &S,
-) -> Result<(Place<Seat<H, W>>, StepOut), NoMemory>
+) -> Result<(Place<LiveNode<H, W>>, StepOut), NoMemory>
     requires way { script.now.travel ≡ W.travel }
     requires known { id < script.now.committees.total }
     requires calm { is_calm disk ≡ true }
@@ -136,8 +136,8 @@ pub(crate) fn restart<H: Hasher<Digest = Digest32>, W: Way, R: Threads + Sync, S
     ensures sound { IfOk result (λ made. WorksBy (script_rules H.digest_of script.now) id made.0) }
 {
     let committees = script.committees(alloc)?;
-    let (seat, out) = start(rt, alloc, id, committees, script.backlog(), disk, strategy)?;
-    Ok((Place::Live(seat), out))
+    let (live_node, out) = start(rt, alloc, id, committees, script.backlog(), disk, strategy)?;
+    Ok((Place::Live(live_node), out))
 }
 
 // A member that runs takes the event that it was asked for.
@@ -145,21 +145,21 @@ fn event_taken<H: Hasher<Digest = Digest32>, W: Way, R: Threads + Sync, S: Strat
     rt: &R,
     alloc: Global,
     setting: &Setting<'_>,
-    seat: Seat<H, W>,
+    live_node: LiveNode<H, W>,
     event: &Event,
     strategy: &S,
-) -> Result<(Seat<H, W>, StepOut), NoMemory>
-    requires works { Works seat }
-    requires calm { is_calm seat.log.disk ≡ true }
+) -> Result<(LiveNode<H, W>, StepOut), NoMemory>
+    requires works { Works live_node }
+    requires calm { is_calm live_node.log.disk ≡ true }
     ensures steps { IfOk result
-        (λ made. HasStepped (rules_by H.digest_of seat)
-        (table setting.now.faulty.now (sent_in setting.now.pool.now)) event.now seat made.0
+        (λ made. HasStepped (rules_by H.digest_of live_node)
+        (table setting.now.faulty.now (sent_in setting.now.pool.now)) event.now live_node made.0
         made.1) }
     ensures calm { IfOk result (λ made. is_calm made.0.log.disk ≡ true) }
 {
-    let Seat { mut node } = seat;
+    let LiveNode { mut node } = live_node;
     match take_event(rt, alloc, setting, &mut node, event, strategy) {
-        Ok(out) => Ok((Seat { node }, out)),
+        Ok(out) => Ok((LiveNode { node }, out)),
         Err(error) => {
             drop(node);
             Err(error)
@@ -173,12 +173,12 @@ fn asked_live<H: Hasher<Digest = Digest32>, W: Way, R: Threads + Sync, S: Strate
     alloc: Global,
     setting: &Setting<'_>,
     id: u16,
-    seat: Seat<H, W>,
+    live_node: LiveNode<H, W>,
     ask: &Ask,
     strategy: &S,
-) -> Result<(Place<Seat<H, W>>, Option<StepOut>), NoMemory>
-    requires sound { WorksBy (script_rules H.digest_of setting.now.script.now) id (Live seat) }
-    ensures makes { (o : Option Member) → SitsAs (Live seat) o
+) -> Result<(Place<LiveNode<H, W>>, Option<StepOut>), NoMemory>
+    requires sound { WorksBy (script_rules H.digest_of setting.now.script.now) id (Live live_node) }
+    ensures makes { (o : Option Member) → SitsAs (Live live_node) o
         → let signed = table setting.now.faulty.now (sent_in setting.now.pool.now) in
         IfOk result
         (λ made. Makes o
@@ -189,15 +189,15 @@ fn asked_live<H: Hasher<Digest = Digest32>, W: Way, R: Threads + Sync, S: Strate
         (λ made. WorksBy (script_rules H.digest_of setting.now.script.now) id made.0) }
 {
     match event_for(alloc, setting.pool, id, ask) {
-        Ok(None) => Ok((Place::Live(seat), None)),
+        Ok(None) => Ok((Place::Live(live_node), None)),
         Ok(Some(event)) => {
-            let made = event_taken(rt, alloc, setting, seat, &event, strategy);
+            let made = event_taken(rt, alloc, setting, live_node, &event, strategy);
             drop(event);
-            let (seat, out) = made?;
-            Ok((Place::Live(seat), Some(out)))
+            let (live_node, out) = made?;
+            Ok((Place::Live(live_node), Some(out)))
         }
         Err(error) => {
-            drop(seat);
+            drop(live_node);
             Err(error)
         }
     }
@@ -209,10 +209,10 @@ fn asked<H: Hasher<Digest = Digest32>, W: Way, R: Threads + Sync, S: Strategy>(
     alloc: Global,
     setting: &Setting<'_>,
     id: u16,
-    place: Place<Seat<H, W>>,
+    place: Place<LiveNode<H, W>>,
     ask: &Ask,
     strategy: &S,
-) -> Result<(Place<Seat<H, W>>, Option<StepOut>), NoMemory>
+) -> Result<(Place<LiveNode<H, W>>, Option<StepOut>), NoMemory>
     requires sound { WorksBy (script_rules H.digest_of setting.now.script.now) id place }
     ensures makes { (o : Option Member) → SitsAs place o
         → let signed = table setting.now.faulty.now (sent_in setting.now.pool.now) in
@@ -225,7 +225,7 @@ fn asked<H: Hasher<Digest = Digest32>, W: Way, R: Threads + Sync, S: Strategy>(
         (λ made. WorksBy (script_rules H.digest_of setting.now.script.now) id made.0) }
 {
     match place {
-        Place::Live(seat) => asked_live(rt, alloc, setting, id, seat, ask, strategy),
+        Place::Live(live_node) => asked_live(rt, alloc, setting, id, live_node, ask, strategy),
         other => Ok((other, None)),
     }
 }
@@ -236,13 +236,13 @@ fn cut_live<H: Hasher<Digest = Digest32>, W: Way, R: Threads + Sync, S: Strategy
     alloc: Global,
     setting: &Setting<'_>,
     id: u16,
-    seat: Seat<H, W>,
+    live_node: LiveNode<H, W>,
     stop: Stop,
     ask: &Ask,
     strategy: &S,
-) -> Result<(Place<Seat<H, W>>, Option<StepOut>), NoMemory>
-    requires sound { WorksBy (script_rules H.digest_of setting.now.script.now) id (Live seat) }
-    ensures makes { (o : Option Member) → SitsAs (Live seat) o
+) -> Result<(Place<LiveNode<H, W>>, Option<StepOut>), NoMemory>
+    requires sound { WorksBy (script_rules H.digest_of setting.now.script.now) id (Live live_node) }
+    ensures makes { (o : Option Member) → SitsAs (Live live_node) o
         → let signed = table setting.now.faulty.now (sent_in setting.now.pool.now) in
         IfOk result
         (λ made. Makes o
@@ -254,16 +254,16 @@ fn cut_live<H: Hasher<Digest = Digest32>, W: Way, R: Threads + Sync, S: Strategy
         (λ made. WorksBy (script_rules H.digest_of setting.now.script.now) id made.0) }
 {
     match event_for(alloc, setting.pool, id, ask) {
-        Ok(None) => Ok((Place::Live(seat), None)),
+        Ok(None) => Ok((Place::Live(live_node), None)),
         Ok(Some(event)) => {
-            let Seat { node } = seat;
+            let LiveNode { node } = live_node;
             let made = cut_event(rt, alloc, setting, node, stop, &event, strategy);
             drop(event);
             let (place, out) = made?;
             Ok((place, Some(out)))
         }
         Err(error) => {
-            drop(seat);
+            drop(live_node);
             Err(error)
         }
     }
@@ -275,11 +275,11 @@ fn cut<H: Hasher<Digest = Digest32>, W: Way, R: Threads + Sync, S: Strategy>(
     alloc: Global,
     setting: &Setting<'_>,
     id: u16,
-    place: Place<Seat<H, W>>,
+    place: Place<LiveNode<H, W>>,
     stop: Stop,
     ask: &Ask,
     strategy: &S,
-) -> Result<(Place<Seat<H, W>>, Option<StepOut>), NoMemory>
+) -> Result<(Place<LiveNode<H, W>>, Option<StepOut>), NoMemory>
     requires sound { WorksBy (script_rules H.digest_of setting.now.script.now) id place }
     ensures makes { (o : Option Member) → SitsAs place o
         → let signed = table setting.now.faulty.now (sent_in setting.now.pool.now) in
@@ -293,7 +293,7 @@ fn cut<H: Hasher<Digest = Digest32>, W: Way, R: Threads + Sync, S: Strategy>(
         (λ made. WorksBy (script_rules H.digest_of setting.now.script.now) id made.0) }
 {
     match place {
-        Place::Live(seat) => cut_live(rt, alloc, setting, id, seat, stop, ask, strategy),
+        Place::Live(live_node) => cut_live(rt, alloc, setting, id, live_node, stop, ask, strategy),
         other => Ok((other, None)),
     }
 }
@@ -304,9 +304,9 @@ fn restarted<H: Hasher<Digest = Digest32>, W: Way, R: Threads + Sync, S: Strateg
     alloc: Global,
     setting: &Setting<'_>,
     id: u16,
-    place: Place<Seat<H, W>>,
+    place: Place<LiveNode<H, W>>,
     strategy: &S,
-) -> Result<(Place<Seat<H, W>>, Option<StepOut>), NoMemory>
+) -> Result<(Place<LiveNode<H, W>>, Option<StepOut>), NoMemory>
     requires way { setting.now.script.now.travel ≡ W.travel }
     requires member { id ≡ line_member setting.now.line.now }
     requires sound { WorksBy (script_rules H.digest_of setting.now.script.now) id place }
@@ -333,9 +333,9 @@ pub(crate) fn take_turn<H: Hasher<Digest = Digest32>, W: Way, R: Threads + Sync,
     alloc: Global,
     setting: &Setting<'_>,
     id: u16,
-    place: Place<Seat<H, W>>,
+    place: Place<LiveNode<H, W>>,
     strategy: &S,
-) -> Result<(Place<Seat<H, W>>, Option<StepOut>), NoMemory>
+) -> Result<(Place<LiveNode<H, W>>, Option<StepOut>), NoMemory>
     requires way { setting.now.script.now.travel ≡ W.travel }
     requires member { id ≡ line_member setting.now.line.now }
     requires sound { WorksBy (script_rules H.digest_of setting.now.script.now) id place }
@@ -358,12 +358,14 @@ pub(crate) fn take_turn<H: Hasher<Digest = Digest32>, W: Way, R: Threads + Sync,
 }
 
 /// The notes of who sits in a place.
-pub(crate) fn notes_at<H: Hasher<Digest = Digest32>, W: Way>(place: &Place<Seat<H, W>>) -> &[Note]
+pub(crate) fn notes_at<H: Hasher<Digest = Digest32>, W: Way>(
+    place: &Place<LiveNode<H, W>>,
+) -> &[Note]
     ensures { result.now ≡ places.notes_at place.now }
 {
     match place {
         Place::Faulty => &[],
-        Place::Live(seat) => seat.node.notes(),
+        Place::Live(live_node) => live_node.node.notes(),
         Place::Stopped(_, notes) => notes.as_slice(),
     }
 }
@@ -371,7 +373,7 @@ pub(crate) fn notes_at<H: Hasher<Digest = Digest32>, W: Way>(place: &Place<Seat<
 /// How many notes a restart found, where it started its member.
 pub(crate) fn found_at<H: Hasher<Digest = Digest32>, W: Way>(
     line: &EventLine,
-    place: &Place<Seat<H, W>>,
+    place: &Place<LiveNode<H, W>>,
     out: &Option<StepOut>,
 ) -> Option<u64>
     ensures { result ≡ places.found_at line.now place.now out.now }

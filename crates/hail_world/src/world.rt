@@ -9,7 +9,7 @@ ghost use Rattle.cw_rules.specs.Rules.{Rules};
 ghost use Rattle.cw_rules.specs.Step.{Member};
 ghost use Rattle.hail_world.specs.Offers.{some_of};
 ghost use Rattle.cw_rules.specs.World.{World as RulesWorld};
-ghost use Rattle.hail_script.specs.Grammar.{first_event, faulty_marks, script_by};
+ghost use Rattle.hail_script.specs.Grammar.{faulty_marks, first_event, script_by};
 ghost use Rattle.hail_world.specs.Places.{SitAs, WorkBy, SitsAs, WorksBy};
 ghost use Rattle.hail_world.specs.Places.{script_rules};
 ghost use Rattle.hail_world.specs.Reports.{AreNodesOf, HoldNotes, IsCause, IsReport, IsRun, honest};
@@ -21,9 +21,9 @@ ghost use Rattle.hail_world.specs.Runs.{opened, seat_of};
 use crate::chain::chain_of;
 use crate::cluster::Cluster;
 use crate::event::is_faulty;
+use crate::live_node::{LiveNode, MemoryNode};
 use crate::place::Place;
 use crate::report::{Ran, Report};
-use crate::seat::{Seat, SeatNode};
 use crate::turn::restart;
 use cw_base::{Digest32, Hasher, Items, NoMemory, Strategy};
 use cw_rules::{clash_laws, report_laws};
@@ -128,7 +128,7 @@ fn play_all<H: Hasher<Digest = Digest32>, W: Way, R: Threads + Sync, S: Strategy
 /// and of the lines, where each honest member stands, the chain, the disks and the nodes.
 pub(crate) fn report_of<H: Hasher<Digest = Digest32>, W: Way>(
     alloc: Global,
-    places: Vec<Place<Seat<H, W>>>,
+    places: Vec<Place<LiveNode<H, W>>>,
     opening: Items<Entry>,
     steps: Items<Entry>,
 ) -> Result<Report<H, W>, NoMemory>
@@ -158,15 +158,15 @@ fn open_one<H: Hasher<Digest = Digest32>, W: Way, R: Threads + Sync, S: Strategy
     faulty: &[bool],
     id: u16,
     strategy: &S,
-) -> Result<(Place<Seat<H, W>>, Option<Entry>), NoMemory>
+) -> Result<(Place<LiveNode<H, W>>, Option<Entry>), NoMemory>
     requires way { script.now.travel ≡ W.travel }
     requires marks { faulty.now ≡ faulty_marks script.now.lines script.now.committees.total }
     requires known { id < script.now.committees.total }
     ensures entry { IfOk result
         (λ made. made.1 ≡ opening_entry (script_rules H.digest_of script.now) script.now.lines id) }
     ensures member { IfOk result
-        (λ made. SitsAs made.0 (seat_of (script_rules H.digest_of script.now) script.now.lines id))
-        }
+        (λ made. SitsAs made.0
+        (seat_of (script_rules H.digest_of script.now) script.now.lines id)) }
     ensures sound { IfOk result (λ made. WorksBy (script_rules H.digest_of script.now) id made.0) }
 {
     if is_faulty(faulty, id) {
@@ -203,7 +203,7 @@ pub(crate) fn open_all<H: Hasher<Digest = Digest32>, W: Way, R: Threads + Sync, 
     script: &Script,
     faulty: &[bool],
     strategy: &S,
-) -> Result<(Items<Entry>, Vec<Place<Seat<H, W>>>), NoMemory>
+) -> Result<(Items<Entry>, Vec<Place<LiveNode<H, W>>>), NoMemory>
     requires way { script.now.travel ≡ W.travel }
     requires flags { faulty.now ≡ faulty_marks script.now.lines script.now.committees.total }
     ensures opening { IfOk result
@@ -226,7 +226,7 @@ pub(crate) fn open_all<H: Hasher<Digest = Digest32>, W: Way, R: Threads + Sync, 
 // Where each honest member stands.
 fn standings<H: Hasher<Digest = Digest32>, W: Way>(
     alloc: Global,
-    places: &[Place<Seat<H, W>>],
+    places: &[Place<LiveNode<H, W>>],
 ) -> Result<Items<Acked>, NoMemory>
     requires { length places.now < 2 ^ 16 }
     ensures { (r : Rules) (w : RulesWorld) → WorkBy r 0 places.now
@@ -254,14 +254,14 @@ fn push_some(acked: &mut Items<Acked>, one: Option<Acked>) -> Result<(), NoMemor
 
 fn standing_of<H: Hasher<Digest = Digest32>, W: Way>(
     member: u16,
-    place: &Place<Seat<H, W>>,
+    place: &Place<LiveNode<H, W>>,
 ) -> Option<Acked>
     ensures { (r : Rules) (o : Option Member) → WorksBy r member place.now → SitsAs place.now o
         → result ≡ acked_at (member, o) }
 {
     match place {
         Place::Faulty => None,
-        Place::Live(seat) => Some(standing(member, true, seat.node.notes())),
+        Place::Live(live_node) => Some(standing(member, true, live_node.node.notes())),
         Place::Stopped(_, notes) => Some(standing(member, false, notes.as_slice())),
     }
 }
@@ -312,8 +312,8 @@ pub(crate) fn copy_bytes(alloc: Global, bytes: &[u8]) -> Result<Items<u8>, NoMem
 // The bytes of the disks, and the nodes.
 fn close_all<H: Hasher<Digest = Digest32>, W: Way>(
     alloc: Global,
-    places: Vec<Place<Seat<H, W>>>,
-) -> Result<(Items<Items<u8>>, Items<Option<SeatNode<H, W>>>), NoMemory>
+    places: Vec<Place<LiveNode<H, W>>>,
+) -> Result<(Items<Items<u8>>, Items<Option<MemoryNode<H, W>>>), NoMemory>
     ensures { (r : Rules) (w : RulesWorld) → WorkBy r 0 places.items
         → SitAs places.items w.members
         → IfOk result (λ closed. HoldNotes (honest w) closed.0
@@ -329,8 +329,8 @@ fn close_all<H: Hasher<Digest = Digest32>, W: Way>(
 
 fn push_closed<H: Hasher<Digest = Digest32>, W: Way>(
     disks: &mut Items<Items<u8>>,
-    nodes: &mut Items<Option<SeatNode<H, W>>>,
-    closed: Option<(Items<u8>, Option<SeatNode<H, W>>)>,
+    nodes: &mut Items<Option<MemoryNode<H, W>>>,
+    closed: Option<(Items<u8>, Option<MemoryNode<H, W>>)>,
 ) -> Result<(), NoMemory>
     ensures disks { OnOk result (disks.new ≡ disks.old ++ map (λ c. c.0) (some_of closed)) }
     ensures nodes { OnOk result (nodes.new ≡ nodes.old ++ map (λ c. c.1) (some_of closed)) }
@@ -350,13 +350,13 @@ fn push_closed<H: Hasher<Digest = Digest32>, W: Way>(
 // The bytes of a member's disk, and its node where it is live.
 fn close<H: Hasher<Digest = Digest32>, W: Way>(
     alloc: Global,
-    place: Place<Seat<H, W>>,
-) -> Result<Option<(Items<u8>, Option<SeatNode<H, W>>)>, NoMemory>
+    place: Place<LiveNode<H, W>>,
+) -> Result<Option<(Items<u8>, Option<MemoryNode<H, W>>)>, NoMemory>
     ensures { IfOk result (λ closed. HandsBack place closed) }
 {
     match place {
         Place::Faulty => Ok(None),
-        Place::Live(Seat { node }) => match copy_bytes(alloc, node.bytes()) {
+        Place::Live(LiveNode { node }) => match copy_bytes(alloc, node.bytes()) {
             Ok(bytes) => Ok(Some((bytes, Some(node)))),
             Err(error) => {
                 drop(node);

@@ -10,7 +10,7 @@ use Rattle.mailbox.specs.declared.call.Call.{Call}
 use Rattle.mailbox.specs.declared.mark.Mark.{Mark}
 use Rattle.mailbox.specs.declared.mark.Mark.TheVariants.{Empty, Filled, Failed}
 use Rattle.mailbox.specs.Calls.{IsFirstFault, none_at, rises_at, holds_in, holds_at, times_in, calls_at, place_holds}
-use Rattle.mailbox.specs.Marks.{is_empty, is_filled, next_mark, mark_behind, marked_by, marked_by_all}
+use Rattle.mailbox.specs.Marks.{is_empty, is_filled, mark_behind, marked_by, marked_by_all, next_mark}
 use Rattle.mailbox.proofs.PlacesHad.{is_same, itself, none_all, none_holds, none_rises, none_times, read_at, some_times, sum_cons, times_cons}
 
 -- before the first call every mark is empty

@@ -4,7 +4,7 @@ ghost use Rattle.std.specs.Prelude.{◌≡◌, ◌≢◌, ◌+◌, ◌-◌, ◌/
 ghost use Rattle.std.specs.Prelude.{IfOk, OnErr, OnOk, length, map, ℕ};
 ghost use Rattle.mailbox.specs.Calls.{AreCalls, HasAddedCall, IsFirstFault, Mail, calls_in};
 ghost use Rattle.mailbox.specs.Calls.{is_entry};
-ghost use Rattle.mailbox.specs.Calls.{mail_joined, lists_of};
+ghost use Rattle.mailbox.specs.Calls.{lists_of, mail_joined};
 ghost use Rattle.mailbox.specs.Replay.{IsReplay, IsReplayToSome};
 ghost use Rattle.mailbox.specs.Turning.{TurnsBy};
 

@@ -19,7 +19,7 @@ use Rattle.cw_rules.specs.Held.{finalization_of, held, noted_block_of}
 use Rattle.cw_rules.specs.Rules.{Rules}
 use Rattle.cw_rules.proofs.Lists.{and_then_some, first_of_both}
 use Rattle.marshal.specs.Finding.{final_block}
-use Rattle.marshal.specs.Reach.{AreAbove, HasFinals, IsLifted, BoundsHeights, final_height, is_final}
+use Rattle.marshal.specs.Reach.{AreAbove, BoundsHeights, HasFinals, IsLifted, final_height, is_final}
 use Rattle.marshal.proofs.Growing.{first_front, held_cases}
 use Rattle.marshal.proofs.Placing.{or_none, position_cons}
 
@@ -295,55 +295,57 @@ every P [] each = tt
 every P (x ∷ xs) each = (each 0 x refl, every P xs (λ i y e. each (suc i) y e))
 
 module _ (r : Rules) (notes : List Note) (reach : List ℕ) (reaches : BoundsHeights notes reach)
-    where
-  final_low : (i : ℕ) (note : Note) (b : Block) → slice_get notes i ≡ Some note
-      → final_block r notes note ≡ Some b → b.height ≤ slice_index_or reach i 0
-  final_low i note b e is =
-      let (p, final, holds) =
-      and_then_some (λ (q : Proposal). held r notes q.payload) (finalization_of note) b is in
-      ⊎_elim (λ g. subst (λ (x : Block). x.height ≤ slice_index_or reach i 0) (sym g.1) (omega arith))
-      (λ h.
-      height_low notes note (slice_index_or reach i 0) p b (reaches.bounds i note e) final h.1)
-      (held_cases r notes p.payload b holds)
+  where
+    final_low : (i : ℕ) (note : Note) (b : Block) → slice_get notes i ≡ Some note
+        → final_block r notes note ≡ Some b → b.height ≤ slice_index_or reach i 0
+    final_low i note b e is =
+        let (p, final, holds) =
+        and_then_some (λ (q : Proposal). held r notes q.payload) (finalization_of note) b is in
+        ⊎_elim (λ g. subst (λ (x : Block). x.height ≤ slice_index_or reach i 0) (sym g.1)
+        (omega arith))
+        (λ h.
+        height_low notes note (slice_index_or reach i 0) p b (reaches.bounds i note e) final h.1)
+        (held_cases r notes p.payload b holds)
 
-  some_low : (P : ℕ → Type 0) (note : Note)
-      → ((b : Block) → final_block r notes note ≡ Some b → P b.height)
-      → IfSome (final_block r notes note) (λ b. P b.height)
-  some_low P note each = go (final_block r notes note) refl
-    where
-      go : (o : Option Block) → final_block r notes note ≡ o → IfSome o (λ b. P b.height)
-      go None e = tt
-      go (Some b) e = each b e
+    some_low : (P : ℕ → Type 0) (note : Note)
+        → ((b : Block) → final_block r notes note ≡ Some b → P b.height)
+        → IfSome (final_block r notes note) (λ b. P b.height)
+    some_low P note each = go (final_block r notes note) refl
+      where
+        go : (o : Option Block) → final_block r notes note ≡ o → IfSome o (λ b. P b.height)
+        go None e = tt
+        go (Some b) e = each b e
 
-  pub low_before : (h k : ℕ) → ((i d : ℕ) → i < k → nat_lt (slice_index_or reach i d) h ≡ true)
-      → AllByRecursion (λ note. IfSome (final_block r notes note) (λ b. b.height < h))
-      (take k notes)
-  low_before h k low =
-      taken (λ note. IfSome (final_block r notes note) (λ b. b.height < h)) k notes
-      (λ i note l e. some_low (λ x. x < h) note
-      (λ b is. omega (
-        arith,
-        final_low i note b e is,
-        ltb-true (slice_index_or reach i 0) h (low i 0 l),
-      )))
+    pub low_before : (h k : ℕ) → ((i d : ℕ) → i < k → nat_lt (slice_index_or reach i d) h ≡ true)
+        → AllByRecursion (λ note. IfSome (final_block r notes note) (λ b. b.height < h))
+        (take k notes)
+    low_before h k low =
+        taken (λ note. IfSome (final_block r notes note) (λ b. b.height < h)) k notes
+        (λ i note l e. some_low (λ x. x < h) note
+        (λ b is. omega (
+          arith,
+          final_low i note b e is,
+          ltb-true (slice_index_or reach i 0) h (low i 0 l),
+        )))
 
-  low_all : (top : ℕ) → Some top ≡ slice_get reach (length reach - 1)
-      → AllByRecursion (λ note. IfSome (final_block r notes note) (λ b. b.height ≤ top)) notes
-  low_all top is =
-      every (λ note. IfSome (final_block r notes note) (λ b. b.height ≤ top)) notes
-      (λ i note e. some_low (λ x. x ≤ top) note
-      (λ b found.
-      let l = slice_get_within notes i note e in
-      let one = reaches.one_each in
-      let at =
-      same_Some _ _ (is ∙ slice_get-get_or reach (length reach - 1) 0 (omega (arith, l, one))) in
-      let on = reaches.rising i (length reach - 1) 0 (omega (arith, l, one)) (omega (arith, l, one))
-      in
-      omega (arith, final_low i note b e found, at, on)))
+    low_all : (top : ℕ) → Some top ≡ slice_get reach (length reach - 1)
+        → AllByRecursion (λ note. IfSome (final_block r notes note) (λ b. b.height ≤ top)) notes
+    low_all top is =
+        every (λ note. IfSome (final_block r notes note) (λ b. b.height ≤ top)) notes
+        (λ i note e. some_low (λ x. x ≤ top) note
+        (λ b found.
+        let l = slice_get_within notes i note e in
+        let one = reaches.one_each in
+        let at =
+        same_Some _ _ (is ∙ slice_get-get_or reach (length reach - 1) 0 (omega (arith, l, one))) in
+        let on = reaches.rising i (length reach - 1) 0 (omega (arith, l, one))
+        (omega (arith, l, one))
+        in
+        omega (arith, final_low i note b e found, at, on)))
 
-  pub low_top : (o : Option ℕ) → o ≡ slice_get reach (length reach - 1)
-      → IfSome o
-      (λ top. AllByRecursion
-      (λ note. IfSome (final_block r notes note) (λ b. b.height ≤ top)) notes)
-  low_top None is = tt
-  low_top (Some top) is = low_all top is
+    pub low_top : (o : Option ℕ) → o ≡ slice_get reach (length reach - 1)
+        → IfSome o
+        (λ top. AllByRecursion
+        (λ note. IfSome (final_block r notes note) (λ b. b.height ≤ top)) notes)
+    low_top None is = tt
+    low_top (Some top) is = low_all top is

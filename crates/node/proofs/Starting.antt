@@ -20,13 +20,13 @@ use Rattle.node_disk.specs.Log.{LogState}
 use Rattle.shards.specs.Kept as kept
 use Rattle.shards.specs.Standing as shards
 use Rattle.node.specs.Asking.{asks}
-use Rattle.node.specs.Holding.{Holding, begun, came_of, member_of, rules_of, holding_state}
+use Rattle.node.specs.Holding.{Holding, begun, came_of, held_state, member_of, rules_of}
 use Rattle.node.specs.Leading.{GoesOnFrom, is_led}
 use Rattle.node.specs.Standing.{PartsStand}
 use Rattle.node.specs.State.{stepped}
 use Rattle.node.specs.Store.{Store, stored_notes}
 use Rattle.node.specs.declared.leads.Led.{Led}
-use Rattle.voter.specs.Known.{Known, unknowing, knows_note}
+use Rattle.voter.specs.Known.{Known, knows_note, unknowing}
 use Rattle.voter.specs.Standing as voter
 use Rattle.std.proofs.lemmas.Bool.{le-ltb}
 use Rattle.marshal.proofs.Floors.{no_notes}
@@ -123,8 +123,8 @@ module _ {D A : Type 0} (hash : List ℕ → Digest32) (accepts : A → Block �
       → out.sent
       ≡ flat_map (note_sends (rules_of hash accepts h) h.id (stored_notes h.store))
       (unwrap_or (last_or None h.store.frames) [])
-      ++ asks h.id (missing (rules_of hash accepts h) (holding_state h)) []
-      → out.handed ≡ deliveries (rules_of hash accepts h) (holding_state h)
+      ++ asks h.id (missing (rules_of hash accepts h) (held_state h)) []
+      → out.handed ≡ deliveries (rules_of hash accepts h) (held_state h)
       → out.tickets ≡ []
       → d
       ≡ record h
@@ -135,7 +135,7 @@ module _ {D A : Type 0} (hash : List ℕ → Digest32) (accepts : A → Block �
       let frames = flat_map (λ (frame : List Note). frame) h.store.frames in
       let notes = ap (λ l. frames ++ l) quiet ∙ append-nil frames in
       let first : State = record { notes = frames; came = nothing_came; given = [] } in
-      let state : holding_state h ≡ first =
+      let state : held_state h ≡ first =
       λ i. record { notes = notes i; came = fresh i; given = given i } in
       let all =
       sent

@@ -31,9 +31,9 @@ first_child xs entries b =
 
 -- before that place no arrival is the block
 pub record IsFirstChild (xs : List Arrival) (entries : List (Commitment × ℕ)) (b : Block) : Type 0
-    where
-  pub within : first_child xs entries b ≤ length xs
-  pub none : list_any (is_whole b) (take (first_child xs entries b) xs) ≡ false
+  where
+    pub within : first_child xs entries b ≤ length xs
+    pub none : list_any (is_whole b) (take (first_child xs entries b) xs) ≡ false
 
 -- two maps have the places of what came whole, under each commitment and over each parent
 pub record ArePlaces (xs : List Arrival) (under over : List (Commitment × ℕ)) : Type 0 where

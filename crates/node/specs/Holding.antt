@@ -56,8 +56,8 @@ came_of h = record {
 }
 
 -- what the rules ask about
-abbrev pub holding_state : {D A : Type 0} → Holding D A → State
-holding_state h = record { notes = stored_notes h.store; came = came_of h; given = h.store.given }
+abbrev pub held_state : {D A : Type 0} → Holding D A → State
+held_state h = record { notes = stored_notes h.store; came = came_of h; given = h.store.given }
 
 -- the rules that are followed
 abbrev pub rules_of : {D A : Type 0} → (List ℕ → Digest32) → (A → Block → Block → Bool)

@@ -10,7 +10,7 @@ use Rattle.node_disk.specs.Disk.{DiskState}
 use Rattle.node_disk.specs.declared.log.StoreError.{StoreError}
 use Rattle.node_disk.specs.declared.log.StoreError.TheVariants as store
 use Rattle.node.specs.Disks.{HasTried}
-use Rattle.node.specs.State.{IsAtWork, IsSameNode, NodeState, notes_of_step, node_rules, stepped}
+use Rattle.node.specs.State.{IsAtWork, IsSameNode, NodeState, node_rules, notes_of_step, stepped}
 
 -- a node, its verifier, and whether an answer of it was lost for want of memory
 pub record SeatState (D A V : Type 0) : Type 0 where

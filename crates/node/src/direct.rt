@@ -12,7 +12,7 @@ ghost use Rattle.cw_rules.specs.Held as held_rule;
 ghost use Rattle.cw_rules.specs.Notes as notes_rule;
 ghost use Rattle.cw_rules.specs.Owed as owed_rule;
 ghost use Rattle.node.specs.Proposing.{is_fit, notes_proposed};
-ghost use Rattle.node.specs.Holding.{knowing, rules_of, holding_state};
+ghost use Rattle.node.specs.Holding.{held_state, knowing, rules_of};
 ghost use Rattle.node.specs.Noting.{HasNoted};
 ghost use Rattle.node.specs.Standing.{PartsStand};
 ghost use Rattle.node.specs.Store.{stored_notes};
@@ -257,7 +257,7 @@ impl<H: Hasher<Digest = Digest32>, D: Disk, A: Application> Holding<H, D, A> {
         requires { PartsStand H.digest_of A.accepts self.old }
         ensures ok { OnOk result (HasNoted H.digest_of A.accepts
             (option_map_or (λ h. NoteValue.Ack h ∷ [])
-            (rule.least (held_rule.pending (holding_state self.old))) []) self.old self.new) }
+            (rule.least (held_rule.pending (held_state self.old))) []) self.old self.new) }
         ensures kept { self.new ≡ knowing self.old self.new }
     {
         match self.store.least_pending() {
@@ -283,7 +283,7 @@ impl<H: Hasher<Digest = Digest32>, D: Disk, A: Application> Holding<H, D, A> {
         requires { PartsStand H.digest_of A.accepts self.old }
         ensures ok { OnOk result (HasNoted H.digest_of A.accepts
             (rule.direct (rules_of H.digest_of A.accepts self.old) self.old.id
-            (holding_state self.old)
+            (held_state self.old)
             (event.Prune height)) self.old self.new) }
         ensures kept { self.new ≡ knowing self.old self.new }
     {
@@ -304,7 +304,7 @@ impl<H: Hasher<Digest = Digest32>, D: Disk, A: Application> Holding<H, D, A> {
         requires { PartsStand H.digest_of A.accepts self.old }
         ensures ok { OnOk result (HasNoted H.digest_of A.accepts
             (rule.direct (rules_of H.digest_of A.accepts self.old) self.old.id
-            (holding_state self.old)
+            (held_state self.old)
             event.now) self.old self.new) }
         ensures kept { self.new ≡ knowing self.old self.new }
     {

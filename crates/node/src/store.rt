@@ -74,8 +74,8 @@ impl<H: Hasher<Digest = Digest32>, D: Disk> Store<H, D> {
     /// A law, of every store: its log is that of its frames, which read back; and unless the disk
     /// is in doubt it is at rest, so that a crash where no device is called leaves the frames.
     pub(crate) fn rests(&self)
-        ensures running
-            { (marshal_log self.now.marshal).failed ≡ (store_of self.now.marshal).failed }
+        ensures running { (marshal_log self.now.marshal).failed
+            ≡ (store_of self.now.marshal).failed }
         ensures frames { (marshal_log self.now.marshal).frames
             ≡ map frame_bytes (store_of self.now.marshal).frames }
         ensures readable { ReadBack (store_of self.now.marshal).frames }

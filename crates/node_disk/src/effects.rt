@@ -7,7 +7,7 @@ ghost use Rattle.cw_base.specs.Memory.{counted};
 ghost use Rattle.node_disk.specs.Disk.{put_at};
 ghost use Rattle.node_disk.specs.Record.{Write, Sync, Held, put_within, torn, put_torn};
 ghost use Rattle.node_disk.specs.Record.{done_writes, write_of, effect, recorded_of, is_to_fail};
-ghost use Rattle.node_disk.specs.Record.{by_number, outcome_at, has_succeeded, request_of};
+ghost use Rattle.node_disk.specs.Record.{by_number, has_succeeded, outcome_at, request_of};
 
 use crate::DiskError;
 use crate::record::{Action, Call, Outcome, Pending, Stop};

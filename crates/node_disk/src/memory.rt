@@ -3,7 +3,7 @@
 ghost use Rattle.std.specs.Prelude.{◌≡◌, ◌+◌, ◌≤◌, [], ◌∷◌, ◌++◌, length, map, true, false, Some};
 ghost use Rattle.std.specs.Prelude.{None, IfOk, OnOk, OnErr};
 ghost use Rattle.node_disk.specs.Images.{IsDurable};
-ghost use Rattle.node_disk.specs.Record.{Write, request_of, has_succeeded};
+ghost use Rattle.node_disk.specs.Record.{Write, has_succeeded, request_of};
 ghost use Rattle.node_disk.specs.Memory.{memory_state, new_disk, reopened_disk, is_stopped};
 ghost use Rattle.node_disk.specs.Memory.{stop_from_now, HasCalled, next_outcome, HasCounted};
 ghost use Rattle.node_disk.specs.Memory.{answer_of};
@@ -43,7 +43,7 @@ pub struct MemoryDisk {
 
 impl Model for MemoryDisk {
     ghost use Rattle.std.specs.Prelude.{map};
-    ghost use Rattle.node_disk.specs.Record.{recorded_of, write_of, held_after};
+    ghost use Rattle.node_disk.specs.Record.{held_after, recorded_of, write_of};
     ghost use Rattle.node_disk.specs.Memory.{MemoryState, IsHeldBy};
 
     ghost Value = { MemoryState };

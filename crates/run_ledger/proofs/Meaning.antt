@@ -11,7 +11,7 @@ use Rattle.cw_rules.specs.declared.travel.Travel.TheVariants as travel
 use Rattle.hail_world.specs.declared.report.Report.{Report}
 use Rattle.hail_world.specs.Places.{script_rules}
 use Rattle.hail_world.specs.Reports.{IsReport, shown_report}
-use Rattle.run_ledger.specs.Giving.{replica_payloads, payloads_of_all}
+use Rattle.run_ledger.specs.Giving.{payloads_of_all, replica_payloads}
 use Rattle.run_ledger.specs.Ledgers.{AreDone, NeverFails, honest_members}
 use Rattle.run_ledger.specs.Text.{ledger_text}
 use Rattle.run_ledger.proofs.Ends.{all_ledgers}

@@ -2,7 +2,7 @@
 
 ghost use Rattle.std.specs.Prelude.{◌≡◌, [], IfOk, OnOk, map};
 ghost use Rattle.std.specs.List.{AllByRecursion};
-ghost use Rattle.run_ledger.specs.Giving.{given_all, given_one, replica_payloads, payloads_of_all};
+ghost use Rattle.run_ledger.specs.Giving.{given_all, given_one, payloads_of_all, replica_payloads};
 ghost use Rattle.run_ledger.specs.Ledgers.{NeverFails, handed_in_entries};
 ghost use Rattle.hail_world.specs.Reports.{shown_report};
 

@@ -29,7 +29,7 @@ use Rattle.cw_rules.proofs.Runs.{IsClearRun, clear_reached, handed_by, opening_h
 use Rattle.cw_types.proofs.Same.{same_block_self, same_commitment_self}
 use Rattle.cw_rules.proofs.Worlds.{kept_keep}
 use Rattle.cw_light.specs.Believing.{IsLinkAt}
-use Rattle.cw_light.specs.Checking.{light_answer, broken_at, broken_below, is_named_by, is_parent_of, path_answer}
+use Rattle.cw_light.specs.Checking.{broken_at, broken_below, is_named_by, is_parent_of, light_answer, path_answer}
 use Rattle.cw_light.specs.declared.check.Answer.{Answer}
 use Rattle.cw_light.specs.declared.check.Answer.TheVariants.{BadSigners, Broken, EmptyPath, NotFinal, Yes}
 use Rattle.cw_light.proofs.Believed.{AreTwo, believed, known_under}

@@ -8,7 +8,7 @@ use Rattle.cw_rules.specs.Report.{Entry, Report as Reported, entries_from, entry
 use Rattle.cw_rules.specs.Rules.{Rules}
 use Rattle.cw_rules.specs.Step.{Member, Stepped, start}
 use Rattle.cw_rules.specs.World.{Cut, Do, Faulty, Line, Restart, Sent, World, done_by, faults, happens, opening, run, sent_now, signed, with_done}
-use Rattle.hail_script.specs.Grammar.{is_faulty_in, faulty_marks}
+use Rattle.hail_script.specs.Grammar.{faulty_marks, is_faulty_in}
 use Rattle.hail_script.specs.Scenario.{Scenario}
 use Rattle.node.specs.declared.way.Chunked.{Chunked}
 use Rattle.hail_world.specs.declared.report.Report.{Report}

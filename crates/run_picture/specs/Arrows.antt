@@ -8,7 +8,7 @@ use Rattle.cw_rules.specs.World.{line_member}
 use Rattle.run_picture.specs.Elements.{arrow_of, bow, straight}
 use Rattle.run_picture.specs.Frame.{x_of, y_of}
 use Rattle.run_picture.specs.Lines.{ask_of_line, number_in}
-use Rattle.run_picture.specs.Steps.{Step, live_after, brought, is_marked}
+use Rattle.run_picture.specs.Steps.{Step, brought, is_marked, live_after}
 use Rattle.run_picture.specs.Told.{class_of, letters}
 use Rattle.run_picture.specs.declared.flights.Flight.{Flight}
 

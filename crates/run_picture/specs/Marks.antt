@@ -5,7 +5,7 @@ use Rattle.cw_rules.specs.World.{Ack, Ask, Cut, Deliver, Do, Faulty, Floor, Hint
 use Rattle.run_picture.specs.Elements.{in_one_text, lined, mark_of}
 use Rattle.run_picture.specs.Frame.{x_of, y_of}
 use Rattle.run_picture.specs.Lines.{is_faulty_line, line_text}
-use Rattle.run_picture.specs.Steps.{Step, acts, live_after, brought, can_be, stops}
+use Rattle.run_picture.specs.Steps.{Step, acts, brought, can_be, live_after, stops}
 use Rattle.run_picture.specs.Told.{class_of, letters}
 use Rattle.run_picture.specs.declared.flights.Flight.{Flight}
 use Rattle.run_picture.specs.declared.told.Said.{Said}

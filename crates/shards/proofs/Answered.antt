@@ -15,7 +15,7 @@ use Rattle.cw_coding.specs.Totals.{total_of}
 use Rattle.cw_types.specs.Numbers.{config_for}
 use Rattle.shards.specs.Enough.{AreEnough, AreUnder}
 use Rattle.cw_rules.specs.declared.travel.Travel.TheVariants.{Chunked}
-use Rattle.shards.specs.Kept.{AreTakenOnce, chunks_of, is_kept_chunk, chunk_rules, with_chunk}
+use Rattle.shards.specs.Kept.{AreTakenOnce, chunk_rules, chunks_of, is_kept_chunk, with_chunk}
 use Rattle.shards.specs.Verdicts.{kept_verdict, of_shown, verdict}
 use Rattle.shards.specs.declared.pieces.KeptChunk.{KeptChunk}
 use Rattle.shards.specs.declared.verdict.Verdict.{Verdict}

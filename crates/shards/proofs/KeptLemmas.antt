@@ -11,7 +11,7 @@ use Rattle.cw_rules.specs.Coding.{AreApart}
 use Rattle.cw_rules.specs.Held.{if_committed, row_of, shown, shown_by, shown_by_rows, whole_of}
 use Rattle.cw_rules.specs.Rules.{Chunk, Rules, block_of}
 use Rattle.cw_rules.specs.declared.travel.Travel.TheVariants.{Chunked}
-use Rattle.shards.specs.Kept.{AreTakenOnce, kept_came, chunks_of, is_kept_chunk, part_of, with_chunk}
+use Rattle.shards.specs.Kept.{AreTakenOnce, chunks_of, is_kept_chunk, kept_came, part_of, with_chunk}
 use Rattle.shards.specs.declared.pieces.KeptChunk.{KeptChunk}
 use Rattle.cw_types.proofs.Same.{same_commitment-true}
 use Rattle.cw_rules.proofs.Lists.{all_both}

@@ -18,7 +18,7 @@ use Rattle.cw_rules.specs.Held.{shown}
 use Rattle.cw_rules.specs.Rules.{Chunk, Rules}
 use Rattle.cw_rules.specs.Step.{nothing_came, taken_came}
 use Rattle.cw_rules_coded.specs.Coded.{coded}
-use Rattle.shards.specs.Kept.{Gathered, kept_came, chunks_of, is_kept_chunk, chunk_rules, with_chunk}
+use Rattle.shards.specs.Kept.{Gathered, chunk_rules, chunks_of, is_kept_chunk, kept_came, with_chunk}
 use Rattle.shards.specs.Standing.{StandsFor, after_event, kept_of}
 use Rattle.shards.specs.Verdicts.{gathered_after, kept_verdict, of_shown, verdict}
 use Rattle.shards.specs.declared.pieces.KeptChunk.{KeptChunk}

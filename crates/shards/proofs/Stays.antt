@@ -13,7 +13,7 @@ use Rattle.cw_rules.specs.Coding.{IsCoder}
 use Rattle.cw_rules.specs.Held.{if_committed, row_of, shown, shown_by, shown_by_rows, whole_of}
 use Rattle.cw_rules.specs.Rules.{Chunk, Rules, block_of}
 use Rattle.cw_rules.specs.declared.travel.Travel.TheVariants.{Chunked}
-use Rattle.shards.specs.Kept.{Gathered, kept_came, chunks_of, is_kept_chunk, chunk_rules, with_chunk}
+use Rattle.shards.specs.Kept.{Gathered, chunk_rules, chunks_of, is_kept_chunk, kept_came, with_chunk}
 use Rattle.shards.specs.Standing.{StandsFor, kept_of}
 use Rattle.shards.specs.Verdicts.{kept_after, of_shown, verdict}
 use Rattle.shards.specs.declared.pieces.KeptChunk.{KeptChunk}

@@ -5,7 +5,7 @@ use Rattle.cw_types.specs.declared.commitment.Commitment.{Commitment}
 use Rattle.cw_rules.specs.Accepted.{is_chunk_of}
 use Rattle.cw_rules.specs.Held.{shown}
 use Rattle.cw_rules.specs.Rules.{Chunk, Rules}
-use Rattle.shards.specs.Kept.{Gathered, kept_came, chunks_of, is_kept_chunk, with_chunk}
+use Rattle.shards.specs.Kept.{Gathered, chunks_of, is_kept_chunk, kept_came, with_chunk}
 use Rattle.shards.specs.declared.pieces.KeptChunk.{KeptChunk}
 use Rattle.shards.specs.declared.verdict.Verdict.{Verdict}
 use Rattle.shards.specs.declared.verdict.Verdict.TheVariants.{Foreign, Garbage, Held, Kept, Known}

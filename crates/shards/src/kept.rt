@@ -5,7 +5,7 @@ ghost use Rattle.std.specs.Map.{lookup};
 ghost use Rattle.std.specs.Prelude.{◌≡◌, ◌<◌, ◌==◌, [], IfErr, IfNone, IfOk, IfSome, IsFalse};
 ghost use Rattle.std.specs.Prelude.{IsTrue, OnErr, OnOk, ℕ, find, nat_eq};
 ghost use Rattle.cw_rules.specs.Accepted.{is_chunk_of};
-ghost use Rattle.shards.specs.Kept.{chunks_of, is_kept_chunk, chunk_rules, with_chunk};
+ghost use Rattle.shards.specs.Kept.{chunk_rules, chunks_of, is_kept_chunk, with_chunk};
 ghost use Rattle.shards.specs.Verdicts.{gathered_after, verdict};
 
 use crate::checks::is_chunk_of;
@@ -98,8 +98,8 @@ impl<H: Hasher<Digest = Digest32>> Shards<H> {
             ≡ gathered_after (chunk_rules H.digest_of self.old.epochs) self.old commitment.now
             chunk) }
         ensures err { OnErr result (self.new ≡ self.old) }
-        ensures new
-            { IfErr result (λ _. IsFalse (is_kept_chunk self.old.kept commitment.now chunk)) }
+        ensures new { IfErr result
+            (λ _. IsFalse (is_kept_chunk self.old.kept commitment.now chunk)) }
         ensures taken { IfErr result
             (λ _. IsTrue (is_chunk_of (chunk_rules H.digest_of self.old.epochs) commitment.now
             chunk)) }

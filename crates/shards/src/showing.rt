@@ -11,7 +11,7 @@ ghost use Rattle.cw_types.specs.Encoding.{block_bytes};
 ghost use Rattle.cw_types.specs.Reading.{block_in};
 ghost use Rattle.cw_types.specs.Same.{same_commitment, same_digest};
 ghost use Rattle.shards.specs.Enough.{AreEnough, AreOfText, IsRooted};
-ghost use Rattle.shards.specs.Kept.{AreTakenOnce, chunks_of, is_kept_chunk, chunk_rules};
+ghost use Rattle.shards.specs.Kept.{AreTakenOnce, chunk_rules, chunks_of, is_kept_chunk};
 ghost use Rattle.shards.specs.Verdicts.{kept_verdict};
 
 use crate::checks::checked_all;
@@ -79,8 +79,8 @@ fn is_committed<H: Hasher<Digest = Digest32>>(
     requires bytes { block_bytes block.now ≡ text.now }
     requires rooted { IsRooted H.digest_of commitment.now text.now }
     ensures { result
-        ≡ same_commitment (commit (chunk_rules H.digest_of committees.now) block.now) commitment.now
-        }
+        ≡ same_commitment (commit (chunk_rules H.digest_of committees.now) block.now)
+        commitment.now }
 {
     coder_laws();
     let config = committees.config(block.context().epoch);

@@ -24,7 +24,7 @@ use Rattle.cw_rules.specs.Rules.{Rules, genesis_commitment}
 use Rattle.cw_rules.specs.declared.travel.Travel.{Travel}
 use Rattle.cw_rules.specs.declared.travel.Travel.TheVariants.{Chunked}
 use Rattle.cw_rules.proofs.Lists.{same_first}
-use Rattle.voter.specs.Known.{Known, is_own_at, vote_rules, known_state}
+use Rattle.voter.specs.Known.{Known, is_own_at, known_state, vote_rules}
 use Rattle.voter.specs.Owing as owing
 use Rattle.voter.specs.Standing.{IsTallyOf, best_from}
 use Rattle.voter.proofs.Candidates.{certified_found, first_when, firsts}

@@ -14,7 +14,7 @@ use Rattle.cw_rules.specs.Accepted.{Ballot, first_some}
 use Rattle.cw_rules.specs.Notes.{has_cert}
 use Rattle.cw_rules.specs.Owed.{ballot_vote, cert_owed, finalize_owed, named_proposals, named_votes, note_proposal, note_vote, notarize_owed, signers_of, when}
 use Rattle.note_scans.specs.Countable.{is_countable}
-use Rattle.voter.specs.Known.{Known, vote_rules, known_state}
+use Rattle.voter.specs.Known.{Known, known_state, vote_rules}
 use Rattle.voter.specs.Owing as owing
 use Rattle.voter.specs.Standing.{is_formed}
 

@@ -16,7 +16,7 @@ use Rattle.cw_rules.specs.Owed.{is_row_at}
 use Rattle.cw_rules.specs.Rules.{Chunk, Rules}
 use Rattle.cw_rules.specs.Step.{nothing_came, with_handed, with_notes}
 use Rattle.cw_types.proofs.Same.{same_commitment-true}
-use Rattle.voter.specs.Known.{Known, known_came, is_own_at, unknowing, with_ballot, knows_note, with_own}
+use Rattle.voter.specs.Known.{Known, is_own_at, known_came, knows_note, unknowing, with_ballot, with_own}
 use Rattle.voter.specs.Standing.{IsTallyOf, with_came}
 
 or_false : (b : Bool) → (b || false) ≡ b

@@ -6,7 +6,7 @@ use Rattle.std.proofs.lemmas.List.{length-append}
 use Rattle.std.proofs.lemmas.List.Elements.{filter-append}
 use Rattle.std.proofs.lemmas.List.Folds.{find-append, list_any-append}
 use Rattle.std.proofs.Math.Seq.{take-append_seam}
-use Rattle.voter.specs.Waiting.{without_repeats, undone, with_named, with_new}
+use Rattle.voter.specs.Waiting.{undone, with_named, with_new, without_repeats}
 
 pub append_nil : {X : Type 0} (ys : List X) → ys ++ [] ≡ ys
 append_nil [] = refl
@@ -387,8 +387,9 @@ module _ {X : Type 0} (same : X → X → Bool) (is : (a b : X) → same a b ≡
         left x k = ap not (h x k)
 
         first : filter u ws ≡ filter u (without_repeats same xs)
-        first = ap (filter u) e
-        ∙ filter_through u (λ x. not (done x)) left (without_repeats same xs)
+        first =
+            ap (filter u) e
+            ∙ filter_through u (λ x. not (done x)) left (without_repeats same xs)
 
         test : (y : X)
             → (not (list_any (same y) ws) && u y) ≡ (not (list_any (same y) xs) && u y)

@@ -15,7 +15,7 @@ use Rattle.cw_types.specs.declared.vote.Vote.TheVariants.{Finalize, Notarize, Nu
 use Rattle.cw_types.proofs.Same.{same_commitment_self}
 use Rattle.cw_rules.specs.Notes.{has_cert, has_certified, is_cert, is_certified}
 use Rattle.cw_rules.specs.Owed.{closes, has_closed, has_voted, votes_in}
-use Rattle.voter.specs.Facts.{HasSaid, IsThere, fact_of, own_fact, note_says}
+use Rattle.voter.specs.Facts.{HasSaid, IsThere, fact_of, note_says, own_fact}
 use Rattle.note_scans.specs.Keys.{in_view, key_of, keyed, no_payload, same_key}
 use Rattle.note_scans.specs.declared.key.VoteKey.{VoteKey}
 use Rattle.note_scans.proofs.Keys.{found_key, key_cmp, keys_of_same, keys_tie, same_key_self, same_key_symm}

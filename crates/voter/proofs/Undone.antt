@@ -22,7 +22,7 @@ use Rattle.voter.specs.Facts.{HasSaid, said_at}
 use Rattle.note_scans.specs.Keys.{in_view, key_of, keyed}
 use Rattle.voter.specs.Known.{Known, known_state, vote_rules}
 use Rattle.voter.specs.Owing.{is_turn, is_uncertified, is_votable, owes_finalize, owes_notarize}
-use Rattle.voter.specs.Waiting.{AreWaiting, owes_nothing, is_done_by, is_uncertified_by, undone, with_named}
+use Rattle.voter.specs.Waiting.{AreWaiting, is_done_by, is_uncertified_by, owes_nothing, undone, with_named}
 use Rattle.note_scans.specs.declared.key.VoteKey.{VoteKey}
 use Rattle.voter.proofs.Certified.{cert_where}
 use Rattle.voter.proofs.Once.{append_nil, filter_same_test, taken_named}

@@ -14,7 +14,7 @@ use Rattle.cw_types.specs.declared.vote.Vote.TheVariants.{Notarize}
 use Rattle.cw_rules.specs.Accepted.{first_some}
 use Rattle.cw_rules.specs.Notes.{epoch_of, has_cert, has_certified, nullified, settled, view_of}
 use Rattle.cw_rules.specs.Owed as rule
-use Rattle.voter.specs.Known.{Known, vote_rules, known_state}
+use Rattle.voter.specs.Known.{Known, known_state, vote_rules}
 
 -- the certificate that is owed
 abbrev pub first_cert_owed : (List ℕ → Digest32) → Known → Option Note

@@ -24,7 +24,7 @@ ghost use Rattle.cw_rules.specs.Rules.{Chunk, Rules};
 ghost use Rattle.cw_rules.specs.declared.travel.Travel.TheVariants.{Chunked};
 ghost use Rattle.cw_rules.specs.Step.{nothing_came, with_handed, with_notes};
 ghost use Rattle.note_scans.specs.Countable.{is_countable};
-ghost use Rattle.voter.specs.Known.{Known, unknowing, with_ballot, knows_note, with_own};
+ghost use Rattle.voter.specs.Known.{Known, knows_note, unknowing, with_ballot, with_own};
 ghost use Rattle.voter.specs.Owing as owing;
 ghost use Rattle.voter.specs.Standing.{IsTallyOf, best_from, is_formed, is_signed, with_came};
 

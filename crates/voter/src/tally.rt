@@ -7,7 +7,7 @@ ghost use Rattle.cw_rules.specs.Notes as rule;
 ghost use Rattle.cw_types.specs.Commit.{genesis_commitment};
 ghost use Rattle.cw_types.specs.Votes as votes;
 ghost use Rattle.note_scans.specs.Countable.{is_countable};
-ghost use Rattle.voter.specs.Known.{unknowing, with_ballot, knows_note, with_own};
+ghost use Rattle.voter.specs.Known.{knows_note, unknowing, with_ballot, with_own};
 ghost use Rattle.voter.specs.Signing.{counted_vote};
 ghost use Rattle.voter.specs.Standing.{are_signers};
 

@@ -293,8 +293,8 @@ impl<H: Hasher<Digest = Digest32>> Tally<H> {
     /// The vote to finalize that the member owes, whatever it owes beside: of the first proposal
     /// that is certified in a view that it hasn't closed. It can be noted. Takes no memory.
     pub fn owed_finalize(&self) -> Option<Vote>
-        ensures value
-            { option_map Note.Vote result ≡ owing.first_finalize_owed H.digest_of self.now }
+        ensures value { option_map Note.Vote result
+            ≡ owing.first_finalize_owed H.digest_of self.now }
         ensures countable { IfSome result (λ vote. IsTrue (is_countable (Note.Vote vote))) }
     {
         let _ = &self.notes;

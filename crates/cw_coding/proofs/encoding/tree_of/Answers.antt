@@ -1,4 +1,4 @@
-use Rattle.std.proofs.Common.{length, ap, ◌∙◌, arith}
+use Rattle.std.proofs.Common.{◌∙◌, ap, arith, length}
 use Rattle.cw_coding.proofs.encoding.tree_of.Goals as goal
 
 pub of-requires-clause-few : goal.of-requires-clause-few

@@ -1,4 +1,4 @@
-use Rattle.std.proofs.Common.{ℕ, [], ◌∷◌, map, nat_lt, not, refl, ap, arith}
+use Rattle.std.proofs.Common.{[], ℕ, ◌∷◌, ap, arith, map, nat_lt, not, refl}
 use Rattle.std.specs.List.{flat_map}
 use Rattle.cw_coding.specs.Checked.{Checked}
 use Rattle.cw_coding.specs.Decoding.{indices_of}

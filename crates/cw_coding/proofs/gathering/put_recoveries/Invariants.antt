@@ -1,4 +1,4 @@
-use Rattle.std.proofs.Common.{◌≡◌, ◌++◌, drop, map, filter, nat_lt, not}
+use Rattle.std.proofs.Common.{◌++◌, ◌≡◌, drop, filter, map, nat_lt, not}
 use Rattle.std.specs.List.{flat_map}
 use Rattle.cw_coding.specs.Decoding.{indices_of}
 use Rattle.cw_coding.proofs.gathering.put_recoveries.Given as goal

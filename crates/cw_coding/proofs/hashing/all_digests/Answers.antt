@@ -1,4 +1,4 @@
-use Rattle.std.proofs.Common.{◌≡◌, ℕ, ◌/◌, length, inl, inr, ⊎_elim, ◌∙◌, arith}
+use Rattle.std.proofs.Common.{ℕ, ⊎_elim, ◌/◌, ◌∙◌, ◌≡◌, arith, inl, inr, length}
 use Rattle.cw_base.specs.Rows.{row_of}
 use Rattle.cw_coding.proofs.DigestLaws.{all_hashes}
 use Rattle.cw_coding.proofs.hashing.all_digests.Goals as goal

@@ -1,4 +1,4 @@
-use Rattle.std.proofs.Common.{ℕ, ap, ◌∙◌}
+use Rattle.std.proofs.Common.{ℕ, ◌∙◌, ap}
 use Rattle.cw_base.specs.Rows.{row_of}
 use Rattle.cw_base.proofs.Hashed.{mapped_items}
 use Rattle.cw_coding.proofs.DigestLaws.{mapped_digests}

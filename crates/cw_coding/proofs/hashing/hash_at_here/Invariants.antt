@@ -1,4 +1,4 @@
-use Rattle.std.proofs.Common.{◌≡◌, take, map}
+use Rattle.std.proofs.Common.{◌≡◌, map, take}
 use Rattle.cw_base.specs.Rows.{row_of}
 use Rattle.cw_coding.proofs.hashing.hash_at_here.Given as goal
 

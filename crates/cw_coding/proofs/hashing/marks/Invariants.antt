@@ -1,4 +1,4 @@
-use Rattle.std.proofs.Common.{◌≡◌, ℕ, true, false, length, get_or}
+use Rattle.std.proofs.Common.{ℕ, ◌≡◌, false, get_or, length, true}
 use Rattle.cw_coding.specs.Digests.{IsOneOf}
 use Rattle.cw_coding.proofs.hashing.marks.Given as goal
 

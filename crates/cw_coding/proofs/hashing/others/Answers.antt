@@ -1,8 +1,8 @@
-use Rattle.std.proofs.Common.{◌≡◌, ◌++◌, ◌∷◌, [], true, false, get_or, sym, ap, ◌∙◌, arith}
+use Rattle.std.proofs.Common.{[], ◌++◌, ◌∙◌, ◌∷◌, ◌≡◌, ap, arith, false, get_or, sym, true}
 use Rattle.std.proofs.lemmas.List.{get_or_default}
-use Rattle.cw_coding.proofs.DigestLaws.{below_more, all_more, all_listed}
+use Rattle.cw_coding.proofs.DigestLaws.{all_listed, all_more, below_more}
 use Rattle.cw_coding.proofs.hashing.others.Goals as goal
-use Rattle.cw_coding.proofs.hashing.others.Goals.{then-not-index+in_ok-push, else-not-index}
+use Rattle.cw_coding.proofs.hashing.others.Goals.{else-not-index, then-not-index+in_ok-push}
 
 pub loop-i-preserved : goal.loop-i-preserved
 loop-i-preserved c =

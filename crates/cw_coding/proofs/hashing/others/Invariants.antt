@@ -1,4 +1,4 @@
-use Rattle.std.proofs.Common.{ℕ, ◌<◌, ◌⊎◌, length, get_or}
+use Rattle.std.proofs.Common.{ℕ, ◌<◌, ◌⊎◌, get_or, length}
 use Rattle.cw_coding.specs.Digests.{IsOneOf}
 use Rattle.cw_coding.proofs.hashing.others.Given as goal
 

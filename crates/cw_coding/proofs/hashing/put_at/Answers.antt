@@ -1,4 +1,4 @@
-use Rattle.std.proofs.Common.{inl, inr, ⊎_elim, sym, ap, ◌∙◌, arith}
+use Rattle.std.proofs.Common.{⊎_elim, ◌∙◌, ap, arith, inl, inr, sym}
 use Rattle.std.proofs.lemmas.List.{length-set}
 use Rattle.cw_coding.proofs.DigestLaws.{put_more}
 use Rattle.cw_coding.proofs.hashing.put_at.Goals as goal

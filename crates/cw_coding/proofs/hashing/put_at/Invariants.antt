@@ -1,4 +1,4 @@
-use Rattle.std.proofs.Common.{◌≡◌, ℕ, ◌<◌, ◌⊎◌, length, get_or}
+use Rattle.std.proofs.Common.{ℕ, ◌<◌, ◌≡◌, ◌⊎◌, get_or, length}
 use Rattle.cw_coding.proofs.hashing.put_at.Given as goal
 
 -- what was right stays so, and the first digests stand at their places

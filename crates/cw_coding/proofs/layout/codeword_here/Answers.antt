@@ -1,6 +1,6 @@
-use Rattle.std.proofs.Common.{length, take, ap, ◌∙◌, refl}
+use Rattle.std.proofs.Common.{◌∙◌, ap, length, refl, take}
 use Rattle.std.proofs.lemmas.List.{take_at}
-use Rattle.cw_coding.proofs.LayoutLaws.{codeword_rows, codeword_long}
+use Rattle.cw_coding.proofs.LayoutLaws.{codeword_long, codeword_rows}
 use Rattle.cw_coding.proofs.layout.codeword_here.Goals as goal
 
 pub returns-clause-first : goal.returns-clause-first

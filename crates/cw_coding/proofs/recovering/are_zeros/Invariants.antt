@@ -1,4 +1,4 @@
-use Rattle.std.proofs.Common.{◌≡◌, take, replicate}
+use Rattle.std.proofs.Common.{◌≡◌, replicate, take}
 use Rattle.cw_coding.proofs.recovering.are_zeros.Given as goal
 
 abbrev pub invariant-loop-i : goal.invariant-loop-i

@@ -1,5 +1,5 @@
-use Rattle.std.proofs.Common.{◌≡◌, ℕ, arith}
-use Rattle.cw_coding.specs.Layout.{layout, counted_text}
+use Rattle.std.proofs.Common.{ℕ, ◌≡◌, arith}
+use Rattle.cw_coding.specs.Layout.{counted_text, layout}
 use Rattle.cw_coding.proofs.DecodingLaws.{fits_layout, same_text}
 use Rattle.cw_coding.proofs.RecoveringLaws.{length-text_in}
 use Rattle.cw_coding.proofs.recovering.candidate.Goals as goal

@@ -1,12 +1,12 @@
-use Rattle.std.proofs.Common.{◌≡◌, ℕ, ◌+◌, ◌*◌, ◌<◌, IsTrue, length, get_or, ap, sym, ◌∙◌, arith, rules}
+use Rattle.std.proofs.Common.{ℕ, ◌*◌, ◌+◌, ◌<◌, ◌∙◌, ◌≡◌, IsTrue, ap, arith, get_or, length, rules, sym}
 use Rattle.cw_base.specs.Rows.{row_of}
 use Rattle.rs_code.specs.Rows.{joined}
 use Rattle.cw_tree.specs.Widths.{shard_len}
-use Rattle.cw_coding.specs.Layout.{row_at, counted_text}
+use Rattle.cw_coding.specs.Layout.{counted_text, row_at}
 use Rattle.cw_coding.specs.Totals.{total_of}
 use Rattle.cw_coding.proofs.DecodingLaws.{no_width}
 use Rattle.cw_coding.proofs.Matches.{found_more}
-use Rattle.cw_coding.proofs.RecoveringLaws.{length-text_in, text_in_front, hashes_count, rows_count, has_given, digests_at, fits_root, fitting}
+use Rattle.cw_coding.proofs.RecoveringLaws.{digests_at, fits_root, fitting, has_given, hashes_count, length-text_in, rows_count, text_in_front}
 use Rattle.cw_coding.proofs.recovering.recovered_here.Goals as goal
 
 pub returns-then-not-is_row_width : goal.returns-then-not-is_row_width

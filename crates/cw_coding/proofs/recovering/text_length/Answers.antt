@@ -1,10 +1,10 @@
-use Rattle.std.proofs.Common.{◌≡◌, ℕ, ◌+◌, ◌≤◌, length, drop, ◌∙◌, ap, arith, rules}
-use Rattle.std.proofs.lemmas.List.{length-take, length-drop}
+use Rattle.std.proofs.Common.{ℕ, ◌+◌, ◌∙◌, ◌≡◌, ◌≤◌, ap, arith, drop, length, rules}
+use Rattle.std.proofs.lemmas.List.{length-drop, length-take}
 use Rattle.cw_tree.specs.Widths.{shard_len}
 use Rattle.cw_coding.proofs.DecodingLaws.{layout_count, layout_room, layout_width}
-use Rattle.cw_coding.proofs.RecoveringLaws.{behind, zeros_again, layout_zeros, laid_out}
+use Rattle.cw_coding.proofs.RecoveringLaws.{behind, laid_out, layout_zeros, zeros_again}
 use Rattle.cw_coding.proofs.recovering.text_length.Goals as goal
-use Rattle.cw_coding.proofs.recovering.text_length.Goals.{then-rest-count-via-then-rest-count, then-rest-count-via-else-rest-count+then-canonical_shard_len-width}
+use Rattle.cw_coding.proofs.recovering.text_length.Goals.{then-rest-count-via-else-rest-count+then-canonical_shard_len-width, then-rest-count-via-then-rest-count}
 
 pub returns-in_default : goal.returns-in_default
 returns-in_default c text short is =

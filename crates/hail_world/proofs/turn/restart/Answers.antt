@@ -4,13 +4,13 @@ use Rattle.cw_types.specs.declared.event.StepOut.{StepOut}
 use Rattle.cw_rules.specs.Step.{Member, start}
 use Rattle.cw_rules.specs.declared.travel.Travel.{Travel}
 use Rattle.cw_rules_coded.specs.Coded.{ruled}
-use Rattle.hail_world.specs.Seats.{out_of}
+use Rattle.hail_world.specs.LiveNodes.{out_of}
 use Rattle.node_disk.specs.MemoryLaws.{calm_stays}
 use Rattle.hail_world.proofs.turn.restart.Goals as goal
 
 pub returns-clause-started : goal.returns-clause-started
 returns-clause-started g c frames held =
-    let h = c.in_ok-seat.ensures frames held in
+    let h = c.in_ok-live_node.ensures frames held in
     let x : Epochs = c.in_ok-committees.committees in
     let who =
     ap
@@ -50,7 +50,7 @@ returns-clause-started g c frames held =
 
 pub returns-clause-sound : goal.returns-clause-sound
 returns-clause-sound g c =
-    let h = c.in_ok-seat.ensures c.requires.holds.0 c.requires.holds.1 in
+    let h = c.in_ok-live_node.ensures c.requires.holds.0 c.requires.holds.1 in
     let who =
     ap (λ (x : Epochs). ruled g.W.Way.travel g.H.Hasher.digest_of x c.backlog.result (λ b a. true))
     c.in_ok-committees.ensures

@@ -1,4 +1,4 @@
-use Rattle.std.proofs.Common.{◌≡◌, ℕ, ◌/◌, ◌%◌, get_or, bit_xor, sym, ap, ap₂, ◌∙◌, arith}
+use Rattle.std.proofs.Common.{ℕ, ◌%◌, ◌/◌, ◌∙◌, ◌≡◌, ap, ap₂, arith, bit_xor, get_or, sym}
 use Rattle.rs_code.specs.Field.{times}
 use Rattle.rs_code.proofs.Steps as Steps
 use Rattle.rs_code.proofs.lanes.by_four_bits.Goals as goal

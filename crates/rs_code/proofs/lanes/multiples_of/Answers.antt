@@ -1,4 +1,4 @@
-use Rattle.std.proofs.Common.{ℕ, get_or, ap, ◌∙◌, arith}
+use Rattle.std.proofs.Common.{ℕ, ◌∙◌, ap, arith, get_or}
 use Rattle.rs_code.specs.Field.{times}
 use Rattle.rs_code.proofs.Steps.{in_turn, two_four}
 use Rattle.rs_code.proofs.lanes.multiples_of.Goals as goal

@@ -1,4 +1,4 @@
-use Rattle.std.proofs.Common.{◌≡◌, ℕ, ◌/◌, ◌%◌, List, get_or, bit_xor, ap, ap₂, ◌∙◌, arith}
+use Rattle.std.proofs.Common.{ℕ, ◌%◌, ◌/◌, ◌∙◌, ◌≡◌, List, ap, ap₂, arith, bit_xor, get_or}
 use Rattle.rs_code.specs.Field.{times}
 use Rattle.rs_code.proofs.Steps as Steps
 use Rattle.rs_code.proofs.lanes.products.Goals as goal

@@ -1,4 +1,4 @@
-use Rattle.std.proofs.Common.{ℕ, ◌<◌, ◌++◌, List, length, take_at, length-append, sym, ap, ap₂, ◌∙◌, arith, subst₂, Vec}
+use Rattle.std.proofs.Common.{ℕ, ◌++◌, ◌<◌, ◌∙◌, List, Vec, ap, ap₂, arith, length, length-append, subst₂, sym, take_at}
 use Rattle.std.specs.declared.alloc.Global.{Global}
 use Rattle.rs_code.specs.Recipes.{made_count, made_row}
 use Rattle.rs_code.specs.Rows.{joined}

@@ -1,4 +1,4 @@
-use Rattle.std.proofs.Common.{◌≡◌, subst, IfOk, Ok, Result}
+use Rattle.std.proofs.Common.{◌≡◌, IfOk, Ok, Result, subst}
 use Rattle.rs_code.proofs.striped.run_with_room.Goals as goal
 
 -- what is said of an Ok is true of what it holds

@@ -3,7 +3,7 @@ use Rattle.std.specs.Option.{option_and_then}
 use Rattle.cw_rules.specs.Held.{if_committed}
 use Rattle.cw_rules.specs.Rules.{block_of}
 use Rattle.shards.specs.Enough.{AreEnough}
-use Rattle.shards.specs.Kept.{chunks_of, chunk_rules}
+use Rattle.shards.specs.Kept.{chunk_rules, chunks_of}
 use Rattle.shards.proofs.Answered.{enough_kept, verdict_shown}
 use Rattle.shards.proofs.showing.kept_verdict.Goals as goal
 

@@ -2,7 +2,7 @@ use Rattle.std.proofs.Common.{◌≡◌, ◌↔◌, IsTrue, Some, arith, subst}
 use Rattle.cw_rules.specs.Coding.{AreBytes}
 use Rattle.cw_rules.specs.Rules.{Chunk}
 use Rattle.cw_types.specs.declared.commitment.Commitment.{Commitment}
-use Rattle.cw_archive.specs.Archived.{Archived, checks, given_back, chunks_of_least_index}
+use Rattle.cw_archive.specs.Archived.{Archived, checks, chunks_of_least_index, given_back}
 use Rattle.cw_archive.specs.Showing.{Shows}
 use Rattle.cw_archive.proofs.CheckLemmas.{few_chunks}
 use Rattle.cw_archive.proofs.IndexLemmas.{all_of, least_all}

@@ -1,6 +1,6 @@
 use Rattle.std.proofs.Common.{◌≡◌, ◌∙◌, ◌++◌, ◌∷◌, [], List, Some, ap, sym, subst}
 use Rattle.shards.specs.Kept.{is_kept_chunk, with_chunk}
-use Rattle.cw_archive.specs.Keys.{IsInOrder, kept_at_keys, chunk_key}
+use Rattle.cw_archive.specs.Keys.{IsInOrder, chunk_key, kept_at_keys}
 use Rattle.cw_archive.specs.declared.key.ChunkKey.{ChunkKey}
 use Rattle.cw_archive.proofs.OrderLemmas.{Sets, absent_from, kept_pushed, order_pushed, sets_of}
 use Rattle.cw_archive.proofs.queue.ChunkQueue.push.Goals as goal

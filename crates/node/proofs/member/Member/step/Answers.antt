@@ -9,7 +9,7 @@ use Rattle.node.proofs.Working.{at_work}
 use Rattle.node.specs.Disks.{HasTried}
 use Rattle.node.specs.Holding as holding
 use Rattle.node.specs.Holding.{member_of}
-use Rattle.node.specs.State.{NodeState, notes_of_step, node_rules}
+use Rattle.node.specs.State.{NodeState, node_rules, notes_of_step}
 use Rattle.node.proofs.member.Member.step.Goals as goal
 
 pub returns-in-Ok-clause-step : goal.returns-in-Ok-clause-step

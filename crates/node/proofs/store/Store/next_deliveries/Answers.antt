@@ -2,7 +2,7 @@ use Rattle.std.proofs.Common.{◌≡◌, List, IfOk, true, subst}
 use Rattle.cw_types.specs.declared.event.Handed.{Handed}
 use Rattle.cw_rules.specs.Step.{deliveries, nothing_came}
 use Rattle.cw_rules.specs.declared.travel.Travel.TheVariants.{Chunked}
-use Rattle.marshal.specs.Stored.{notes_of, marshal_rules, marshal_state}
+use Rattle.marshal.specs.Stored.{marshal_rules, marshal_state, notes_of}
 use Rattle.node.specs.Store.{store_of}
 use Rattle.node.specs.Store.{stored_rules, stored_state}
 use Rattle.marshal.proofs.Applications.{any_deliveries}

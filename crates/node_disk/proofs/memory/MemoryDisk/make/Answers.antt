@@ -1,5 +1,5 @@
 use Rattle.std.proofs.Common.{◌≡◌, ◌++◌, [], ◌∷◌, length, map, false, refl, sym, ◌∙◌, ap, subst, rules}
-use Rattle.node_disk.specs.Record.{request_of, recorded_of, held_after, outcome_at, has_succeeded}
+use Rattle.node_disk.specs.Record.{has_succeeded, held_after, outcome_at, recorded_of, request_of}
 use Rattle.node_disk.specs.Memory.{MemoryState, HasCalled, next_outcome}
 use Rattle.node_disk.specs.declared.record.Call.{Call}
 use Rattle.node_disk.proofs.Called.{called_by, keeps_now, outcome_was}

@@ -1,6 +1,6 @@
 use Rattle.std.proofs.Common.{◌≡◌, ◌∙◌, false, subst, sym, true}
 use Rattle.cw_rules.specs.Accepted.{is_chunk_of}
-use Rattle.shards.specs.Kept.{AreTakenOnce, Gathered, is_kept_chunk, chunk_rules}
+use Rattle.shards.specs.Kept.{AreTakenOnce, Gathered, chunk_rules, is_kept_chunk}
 use Rattle.shards.specs.Verdicts.{kept_verdict, verdict}
 use Rattle.shards.proofs.Answered.{verdict_taken}
 use Rattle.shards.proofs.KeptLemmas.{keep_more}

@@ -1,6 +1,6 @@
 use Rattle.std.proofs.Common.{◌||◌, ◌∙◌, ap, sym}
 use Rattle.std.specs.List.{list_any}
-use Rattle.voter.specs.Facts.{said_at, note_says}
+use Rattle.voter.specs.Facts.{note_says, said_at}
 use Rattle.note_scans.specs.Keys.{in_view}
 use Rattle.voter.proofs.Saying.{said_voted}
 use Rattle.voter.proofs.said.Said.has_voted.Goals as goal

@@ -7,7 +7,7 @@ use Rattle.cw_rules.specs.Owed as rule
 use Rattle.voter.specs.Facts.{HasSaid}
 use Rattle.voter.specs.Known.{Known}
 use Rattle.voter.specs.Owing.{is_candidate, is_uncertified}
-use Rattle.voter.specs.Waiting.{AreWaiting, owes_nothing, is_uncertified_by}
+use Rattle.voter.specs.Waiting.{AreWaiting, is_uncertified_by, owes_nothing}
 use Rattle.voter.proofs.Once.{filter_same_test, pick_two}
 use Rattle.voter.proofs.Undone.{uncertified_by, uncertified_left}
 use Rattle.voter.proofs.tally.Tally.nth_uncertified.Goals as goal

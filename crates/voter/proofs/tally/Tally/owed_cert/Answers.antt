@@ -1,6 +1,6 @@
 use Rattle.std.proofs.Common.{Some, ap, ◌∙◌, sym}
 use Rattle.cw_types.specs.declared.note.Note.{Note}
-use Rattle.voter.specs.Known.{vote_rules, known_state}
+use Rattle.voter.specs.Known.{known_state, vote_rules}
 use Rattle.voter.specs.Owing.{owes_cert}
 use Rattle.voter.proofs.Certified.{cert_found, cert_missing}
 use Rattle.voter.proofs.tally.Tally.owed_cert.Goals as goal

@@ -1,5 +1,5 @@
 use Rattle.std.proofs.Common.{◌∙◌, sym}
-use Rattle.voter.specs.Known.{vote_rules, known_state}
+use Rattle.voter.specs.Known.{known_state, vote_rules}
 use Rattle.voter.specs.Owing.{owes_finalize}
 use Rattle.voter.proofs.Voted.{finalize_where}
 use Rattle.voter.proofs.tally.Tally.owes_finalize.Goals as goal

@@ -1,6 +1,6 @@
 use Rattle.std.proofs.Common.{◌∙◌, sym}
 use Rattle.cw_rules.specs.Owed.{all_nullified}
-use Rattle.voter.specs.Known.{vote_rules, known_state}
+use Rattle.voter.specs.Known.{known_state, vote_rules}
 use Rattle.voter.specs.Owing.{is_ready, is_turn, is_votable, owes_notarize}
 use Rattle.voter.proofs.Voted.{notarize_where, payload_last}
 use Rattle.voter.proofs.tally.Tally.owes_notarize.Goals as goal

@@ -1,5 +1,5 @@
 use Rattle.hail_world.proofs.Seating.{started}
-use Rattle.hail_world.proofs.seat.start.Goals as goal
+use Rattle.hail_world.proofs.live_node.start.Goals as goal
 
 pub returns-in-Ok : goal.returns-in-Ok
 returns-in-Ok g c frames held =

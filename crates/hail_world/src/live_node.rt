@@ -6,8 +6,8 @@ ghost use Rattle.cw_types.specs.declared.note.Note.{Note as NoteValue};
 ghost use Rattle.cw_rules_coded.specs.Coded.{ruled};
 ghost use Rattle.marshal.specs.Frames.{FindsNotes};
 ghost use Rattle.node_disk.specs.Memory.{is_calm, memory_state};
-ghost use Rattle.hail_world.specs.Seats.{HasStarted, HasStepped, WasStopped, Works, rules_by};
-ghost use Rattle.hail_world.specs.Seats as seats;
+ghost use Rattle.hail_world.specs.LiveNodes.{HasStarted, HasStepped, WasStopped, Works, rules_by};
+ghost use Rattle.hail_world.specs.LiveNodes as live_nodes;
 
 use cw_base::{Digest32, Hasher, NoMemory, Strategy};
 use cw_types::{AcceptAll, Committees, Event, StepOut, Verifier};
@@ -18,19 +18,19 @@ use std::marker::Model;
 use std::thread::Threads;
 
 /// A node over a disk in memory, which accepts every block.
-pub type SeatNode<H, W> = Member<H, MemoryDisk, AcceptAll, W>;
+pub type MemoryNode<H, W> = Member<H, MemoryDisk, AcceptAll, W>;
 
 /// A node that takes events.
 #[derive(Drop)]
-pub struct Seat<H: Hasher<Digest = Digest32>, W: Way> {
-    pub(crate) node: SeatNode<H, W>,
+pub struct LiveNode<H: Hasher<Digest = Digest32>, W: Way> {
+    pub(crate) node: MemoryNode<H, W>,
 }
 
-impl<H: Hasher<Digest = Digest32>, W: Way> Model for Seat<H, W> {
+impl<H: Hasher<Digest = Digest32>, W: Way> Model for LiveNode<H, W> {
     ghost use Rattle.std.specs.Prelude.{◌≡◌, true};
-    ghost use Rattle.hail_world.specs.Seats as seats;
+    ghost use Rattle.hail_world.specs.LiveNodes as live_nodes;
 
-    ghost Value = { seats.Seat };
+    ghost Value = { live_nodes.LiveNode };
 
     ghost view = { λ s. s.node };
 
@@ -46,7 +46,7 @@ pub(crate) fn start<H: Hasher<Digest = Digest32>, W: Way, R: Threads + Sync, S: 
     backlog: u64,
     disk: MemoryDisk,
     strategy: &S,
-) -> Result<(Seat<H, W>, StepOut), NoMemory>
+) -> Result<(LiveNode<H, W>, StepOut), NoMemory>
     requires known { id < committees.total }
     requires some { 1 ≤ backlog }
     requires calm { is_calm disk ≡ true }
@@ -61,7 +61,7 @@ pub(crate) fn start<H: Hasher<Digest = Digest32>, W: Way, R: Threads + Sync, S: 
     match Member::start(
         rt, alloc, id, committees, backlog, disk, AcceptAll, strategy,
     ) {
-        Ok((node, out)) => Ok((Seat { node }, out)),
+        Ok((node, out)) => Ok((LiveNode { node }, out)),
         Err((_, StoreError::NoMemory)) => Err(NoMemory),
         Err((_, StoreError::Disk)) => unreachable!(),
         Err(_) => unreachable!(),
@@ -78,7 +78,7 @@ pub(crate) fn step<
 >(
     rt: &R,
     alloc: Global,
-    node: &mut SeatNode<H, W>,
+    node: &mut MemoryNode<H, W>,
     event: &Event,
     verifier: &V,
     strategy: &S,

@@ -1,5 +1,5 @@
 use Rattle.hail_world.proofs.Seating.{steps, stops}
-use Rattle.hail_world.proofs.seat.step.Goals as goal
+use Rattle.hail_world.proofs.live_node.step.Goals as goal
 
 pub returns-clause-ok : goal.returns-clause-ok
 returns-clause-ok g c =

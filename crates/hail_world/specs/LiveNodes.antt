@@ -15,15 +15,15 @@ use Rattle.node_disk.specs.Log.{HasAppended, WasCutShort}
 use Rattle.node_disk.specs.Memory.{Continues, MemoryState, memory_state, stop_from_now}
 
 -- a node over a disk in memory, which accepts every block
-abbrev pub Seat : Type 0
-Seat = NodeState MemoryState AcceptAll
+abbrev pub LiveNode : Type 0
+LiveNode = NodeState MemoryState AcceptAll
 
 -- the rules that a node goes by
-abbrev pub rules_by : (List ℕ → Digest32) → Seat → Rules
+abbrev pub rules_by : (List ℕ → Digest32) → LiveNode → Rules
 rules_by hash m = ruled m.travel hash m.epochs m.backlog (λ b a. true)
 
 -- the node takes events
-abbrev pub Works : Seat → Type 0
+abbrev pub Works : LiveNode → Type 0
 Works m = IsAtWork memory_state m
 
 -- what a step gives, as the code has it
@@ -32,7 +32,7 @@ out_of done = record { sent = done.sent; handed = done.handed; tickets = done.ti
 
 -- a start by these rules on a disk with these frames of notes
 pub record HasStarted (r : Rules) (id : ℕ) (frames : List (List Note)) (disk : MemoryState)
-    (new : Seat) (out : StepOut) : Type 0 where
+    (new : LiveNode) (out : StepOut) : Type 0 where
   pub rules : rules_by r.hash new ≡ r
   pub number : new.id ≡ id
   pub member : new.member ≡ (start r id frames).member
@@ -41,31 +41,31 @@ pub record HasStarted (r : Rules) (id : ℕ) (frames : List (List Note)) (disk :
   pub went_on : Continues disk new.log.disk
 
 -- the notes of a step
-abbrev pub seat_step_notes : Rules → (ℕ → Vote → Bool) → Event → Seat → List Note
-seat_step_notes r signed e s = step_notes r s.id (taken r signed (state_of s.member) e) e
+abbrev pub live_step_notes : Rules → (ℕ → Vote → Bool) → Event → LiveNode → List Note
+live_step_notes r signed e s = step_notes r s.id (taken r signed (state_of s.member) e) e
 
 -- the step of the rules, whose notes are then on the disk as one frame
-pub record HasStepped (r : Rules) (signed : ℕ → Vote → Bool) (e : Event) (old new : Seat)
+pub record HasStepped (r : Rules) (signed : ℕ → Vote → Bool) (e : Event) (old new : LiveNode)
     (out : StepOut) : Type 0 where
   pub rules : rules_by r.hash new ≡ rules_by r.hash old
   pub id : new.id ≡ old.id
   pub member : new.member ≡ (step r old.id signed old.member e).member
   pub gives : out ≡ out_of (step r old.id signed old.member e)
   pub works : Works new
-  pub appended : HasAppended memory_state Continues (frame_bytes (seat_step_notes r signed e old))
+  pub appended : HasAppended memory_state Continues (frame_bytes (live_step_notes r signed e old))
       old.log new.log
 
 -- The disk failed while the notes of the step were written. With them as one frame more the
 -- member's frames read back
 pub record WasStopped (r : Rules) (signed : ℕ → Vote → Bool) (e : Event)
-    (old new : Seat) : Type 0 where
-  pub cut : WasCutShort memory_state Continues (frame_bytes (seat_step_notes r signed e old))
+    (old new : LiveNode) : Type 0 where
+  pub cut : WasCutShort memory_state Continues (frame_bytes (live_step_notes r signed e old))
       old.log
       new.log
-  pub readable : ReadBack (add_frame old.member.frames (seat_step_notes r signed e old))
+  pub readable : ReadBack (add_frame old.member.frames (live_step_notes r signed e old))
 
 -- the same with a stop at a device call from now
-abbrev pub with_stop : ℕ → ℕ → ℕ → Seat → Seat
+abbrev pub with_stop : ℕ → ℕ → ℕ → LiveNode → LiveNode
 with_stop call cut fill s =
     record s {
       log =
