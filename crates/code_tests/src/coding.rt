@@ -8,7 +8,7 @@ mod roots;
 mod striped;
 mod written;
 
-use crate::gate::Gate;
+use crate::gate::FourPieces;
 use cw_base::{Hasher, Sequential, Sha256};
 use cw_coding::{
     CheckedChunk, Chunk, Config, ReedSolomon, ReedSolomonError, RsError, Scheme, find_clash,
@@ -154,7 +154,8 @@ fn an_empty_input_is_decoded(rt: HostRuntime) -> Result<(), Fail> {
     Ok(())
 }
 
-// Originals among recoveries, and recoveries alone, in two orders.
+// An original before recoveries, recoveries alone in two orders, and the originals alone, the last
+// first.
 const PICKED: [[u16; 3]; 4] = [[0, 4, 6], [3, 4, 5], [7, 6, 3], [2, 1, 0]];
 
 #[test]

@@ -68,11 +68,12 @@ uint32_t buz_check(uint16_t k, uint16_t m, const uint8_t root[BUZ_ROOT_LEN], uin
 
 /* The text that has this root, from at least k of its chunks in any order.
  *
- * Each chunk is checked under the root at its own index, and the first that doesn't stand is what is
- * answered, as buz_check does. Put those that may be forged through buz_check before. Then
- * BUZ_TOO_MANY_SHARDS, BUZ_TOO_FEW, BUZ_BAD_WIDTH, BUZ_DUPLICATE, BUZ_INCONSISTENT as the scheme
- * has them, and BUZ_NO_ROOM where the text has more than `room` bytes. k times the size of the
- * largest chunk is always room enough. What is behind the text stays. */
+ * Answers BUZ_OK or the first that holds: BUZ_NO_CONFIG; what buz_check answers to the first chunk
+ * that doesn't stand under the root at its own index; then BUZ_TOO_MANY_SHARDS, BUZ_TOO_FEW,
+ * BUZ_BAD_WIDTH, BUZ_DUPLICATE, BUZ_INCONSISTENT as the scheme has them, and BUZ_NO_ROOM where the
+ * text has more than `room` bytes. BUZ_NO_MEMORY may come at any point. Put chunks that may be
+ * forged through buz_check before. k times the size of the largest chunk is always room enough.
+ * What is behind the text stays. */
 uint32_t buz_decode(uint16_t k, uint16_t m, const uint8_t root[BUZ_ROOT_LEN],
                     const buz_bytes *chunks, size_t count,
                     uint8_t *text, size_t room, size_t *length);

@@ -1,13 +1,15 @@
 //! The scheme's answers, before they are put in a caller's buffers.
 
-ghost use Rattle.std.specs.Prelude.{◌≡◌, ℕ, ◌+◌, ◌-◌, ◌^◌, ◌≤◌, ◌<◌, ◌⊎◌, List, [], ◌++◌, length, map};
-ghost use Rattle.std.specs.Prelude.{drop, IfOk, IfErr, MatchOption, MatchResult};
+ghost use Rattle.std.specs.Prelude.{◌≡◌, ℕ, ◌+◌, ◌-◌, ◌^◌, ◌≤◌, ◌<◌, ◌⊎◌, List, [], ◌++◌, length};
+ghost use Rattle.std.specs.Prelude.{map, drop, IfOk, IfErr, MatchOption, MatchResult};
 ghost use Rattle.std.specs.List.{flat_map};
 ghost use Rattle.cw_tree.specs.Formats.{chunk_bytes};
 ghost use Rattle.cw_coding.specs.Checking.{IsUnder};
-ghost use Rattle.coding_c.specs.Calls.{content, config_of_numbers, digest_of_bytes, hash, size_of, AreNoConfig};
-ghost use Rattle.coding_c.specs.Calls.{IsEncodeStatus, IsPut, IsEncoded, IsChunk, IsNoChunk};
-ghost use Rattle.coding_c.specs.Calls.{IsNotTaken, IsCheckStatus, IsTaken, AreTaken, IsFirstNotTaken};
+ghost use Rattle.coding_c.specs.Calls.{content, config_of_numbers, digest_of_bytes, hash, size_of};
+ghost use Rattle.coding_c.specs.Calls.{AreNoConfig, IsEncodeStatus, IsPut, IsEncoded, IsChunk};
+ghost use Rattle.coding_c.specs.Calls.{IsNoChunk};
+ghost use Rattle.coding_c.specs.Calls.{IsNotTaken, IsCheckStatus, IsTaken, AreTaken};
+ghost use Rattle.coding_c.specs.Calls.{IsFirstNotTaken};
 ghost use Rattle.coding_c.specs.Calls.{AreChunksOfText, IsDecodeStatus, IsDecoded};
 
 use crate::status::{NO_CHUNK, NO_CONFIG, NO_MEMORY, status_of};

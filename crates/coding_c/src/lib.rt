@@ -12,9 +12,10 @@ ghost use Rattle.std.specs.Prelude.{map};
 ghost use Rattle.cw_tree.specs.Widths.{shard_len};
 ghost use Rattle.cw_tree.specs.Sizes.{IsHeight};
 ghost use Rattle.cw_coding.specs.Encoding.{IsEncodable};
-ghost use Rattle.coding_c.specs.Calls.{config_of_numbers, AreNoConfig, IsEncodeStatus, IsPut, IsEncoded};
-ghost use Rattle.coding_c.specs.Calls.{HasNoRoom, HoldsChunks, StandsUnder, IsCheckStatus, HasRoot};
-ghost use Rattle.coding_c.specs.Calls.{AreChunksOfText, IsDecodeStatus, IsDecoded};
+ghost use Rattle.coding_c.specs.Calls.{config_of_numbers, AreNoConfig, IsEncodeStatus, IsPut};
+ghost use Rattle.coding_c.specs.Calls.{IsEncoded, HasNoRoom, HoldsChunks, StandsUnder};
+ghost use Rattle.coding_c.specs.Calls.{IsCheckStatus, HasRoot, AreChunksOfText, IsDecodeStatus};
+ghost use Rattle.coding_c.specs.Calls.{IsDecoded};
 
 use answers::{Span, checked, chunk_of, config_of, decoded, encode, put_front};
 use cw_base::Sha256;

@@ -2,7 +2,8 @@
 
 ghost use Rattle.std.specs.Prelude.{◌≡◌, ◌≤◌, ◌+◌, ◌↔◌, [], IfOk, OnErr, OnOk, Some, length};
 ghost use Rattle.cw_types.specs.Block.{Block};
-ghost use Rattle.cw_archive.specs.Archived.{after_put, chunks_of_least_index, given_back, put_answer};
+ghost use Rattle.cw_archive.specs.Archived.{after_put, chunks_of_least_index, given_back};
+ghost use Rattle.cw_archive.specs.Archived.{put_answer};
 ghost use Rattle.cw_archive.specs.Archived.{used_of, within_limit};
 ghost use Rattle.cw_archive.specs.Showing.{HasNewest, Shows};
 ghost use Rattle.shards.specs.Kept.{chunks_of};
@@ -11,7 +12,7 @@ use crate::checks::{are_bytes, checked};
 use crate::laws::archives_show;
 use crate::put::Put;
 use crate::queue::ChunkQueue;
-use crate::showing::{least_chunks as least_of, shown};
+use crate::showing::{chunks_of_least_index as least_of, shown};
 use cw_base::{Digest32, Hasher, NoMemory, Strategy};
 use cw_coding::Chunk;
 use cw_types::{ChainBlock, Commitment};
@@ -132,8 +133,8 @@ impl<H: Hasher<Digest = Digest32>> Archive<H> {
         shown::<H, R, S>(rt, alloc, commitment, &chunks, strategy)
     }
 
-    /// A law: what is given back of a commitment is exactly the block that its chunks of least index
-    /// show.
+    /// A law: what is given back of a commitment is exactly the block that its chunks of least
+    /// index show.
     pub fn gives_what_it_shows(&self, commitment: &Commitment)
         ensures { (b : Block)
             → (given_back H.digest_of commitment.now self.now.kept ≡ Some b)

@@ -2,7 +2,8 @@
 
 ghost use Rattle.std.specs.Prelude.{◌≡◌, ◌≢◌, ◌&&◌, IfNone, IfOk, IfSome, IsNone, map};
 ghost use Rattle.std.specs.Prelude.{option_and_then};
-ghost use Rattle.cw_archive.specs.Archived.{chunks_of_least_index, if_named, name_of, shown_by_chunks};
+ghost use Rattle.cw_archive.specs.Archived.{chunks_of_least_index, if_named, name_of};
+ghost use Rattle.cw_archive.specs.Archived.{shown_by_chunks};
 ghost use Rattle.cw_archive.specs.Showing.{AreSufficient, IsOfNoBlock};
 ghost use Rattle.cw_types.specs.Encoding.{block_bytes};
 ghost use Rattle.cw_types.specs.Reading.{block_in};
@@ -21,7 +22,7 @@ use std::alloc::Global;
 use std::thread::Threads;
 
 /// The chunks of a commitment that are kept, by index, and no more than its config asks for.
-pub(crate) fn least_chunks<'a>(
+pub(crate) fn chunks_of_least_index<'a>(
     alloc: Global,
     kept: &'a ChunkQueue,
     commitment: &Commitment,

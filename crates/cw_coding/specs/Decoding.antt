@@ -11,7 +11,7 @@ use Rattle.cw_coding.specs.declared.error.RsError.TheVariants.{InvalidShardSize}
 use Rattle.cw_coding.specs.declared.error.ReedSolomonError.{ReedSolomonError}
 use Rattle.cw_coding.specs.declared.error.ReedSolomonError.TheVariants.{ReedSolomon, Inconsistent, NotEnoughChunks, DuplicateIndex, InvalidIndex, TooManyTotalShards, CommitmentMismatch, NoMemory}
 
--- the indices of chunks, in the order in which they were given
+-- the indices of chunks, in their order
 abbrev pub indices_of : {D : Type 0} → List (Checked D) → List ℕ
 indices_of chunks = map (λ c. c.index) chunks
 
@@ -35,7 +35,7 @@ IsMisfit total root width before c (DuplicateIndex i) =
     × Contains (indices_of before) c.index
 IsMisfit total root width before c _ = ⊥
 
--- the first chunk that is refused stands at place p
+-- the first chunk that doesn't fit those before it, and why
 pub record IsFirstMisfit {D : Type 0} (total : ℕ) (root : D) (width : ℕ) (chunks : List (Checked D))
     (e : ReedSolomonError) : Type 0 where
   pub place : ℕ
@@ -95,7 +95,7 @@ pub record IsDecoding {D : Type 0} (hash : List ℕ → D) (content : D → List
       (take (compared c.minimum chunks) (in_order c.minimum chunks))
   pub rooted : root_of hash content (row_digests hash c.minimum c.extra text) ≡ Some root
 
--- the text that rows come of, by their indices
+-- a text of this root whose codeword has the first n of these rows at their indices
 pub record Fits {D : Type 0} (hash : List ℕ → D) (content : D → List ℕ) (k m : ℕ) (root : D)
     (width : ℕ) (indices rows : List ℕ) (n : ℕ) (text : List ℕ) : Type 0 where
   pub short : length text ≤ 2 ^ 32 - 1
@@ -103,7 +103,7 @@ pub record Fits {D : Type 0} (hash : List ℕ → D) (content : D → List ℕ) 
   pub same : (s : ℕ) → s < n → row_of rows width s ≡ row_at k text (slice_index indices s)
   pub rooted : root_of hash content (row_digests hash k m text) ≡ Some root
 
--- enough rows of one codeword, by their different indices, of which the first n are compared
+-- enough rows of one width at different indices, of which the first n are compared
 pub record AreRecoverable (c : Counts) (width : ℕ) (indices rows : List ℕ) (n : ℕ) : Type 0 where
   pub some : 1 ≤ c.minimum
   pub total : total_of c ≤ 65535

@@ -6,7 +6,7 @@ use Rattle.cw_base.specs.Counts.{Counts}
 abbrev pub total_of : Counts → ℕ
 total_of c = c.minimum + c.extra
 
--- a width that so many shards can have
+-- a width for which so many shards have room
 pub record IsWidth (total width : ℕ) : Type 0 where
   pub narrow : width ≤ 2 ^ 32 - 1
   pub room : total * width ≤ 2 ^ 63 - 1

@@ -1,8 +1,8 @@
 //! Chunks that are checked under a commitment.
 
 ghost use Rattle.std.specs.Prelude.{◌≡◌, ◌≢◌, ℕ, ◌%◌, ◌⊎◌, ◌↔◌, length, IsTrue, IfOk, IfErr, Err};
-ghost use Rattle.cw_coding.specs.Checking.{IsUnder, IsCheckRefusal, IsBadWidth, Checks, IsVerdictOn};
-ghost use Rattle.cw_coding.specs.Checking.{AllStand, AllCheck};
+ghost use Rattle.cw_coding.specs.Checking.{IsUnder, IsCheckRefusal, IsBadWidth, Checks};
+ghost use Rattle.cw_coding.specs.Checking.{IsVerdictOn, AllStand, AllCheck};
 
 use crate::error::{ReedSolomonError, RsError};
 use bytes::Bytes;
@@ -13,8 +13,8 @@ use std::fmt::Debug;
 use std::marker::{Model, PhantomData};
 use std::thread::Threads;
 
-/// A chunk that was checked under a commitment. It keeps the commitment and its shard's digest,
-/// which decoding doesn't make again.
+/// A chunk that was checked under a commitment. It keeps the commitment and its shard's digest: a
+/// row that decoding compares with a chunk isn't hashed again.
 #[derive(Drop)]
 #[derive_where(PartialEq, Eq; H: Hasher)]
 #[derive_where(Debug; H: Hasher, H::Digest: Debug)]

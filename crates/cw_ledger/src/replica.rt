@@ -9,7 +9,8 @@ ghost use Rattle.node_disk.specs.Log.{HasAppended, HasSettled, WasCutShort, call
 ghost use Rattle.node_disk.specs.Log.{start_calls};
 ghost use Rattle.cw_ledger.specs.Frames.{FindsEither, FindsPayloads, IsBeforeOrPayloads};
 ghost use Rattle.cw_ledger.specs.Frames.{read_payloads};
-ghost use Rattle.cw_ledger.specs.Ledger.{answer_to, applied, frame_of, last_applied, replica_log, replica_over};
+ghost use Rattle.cw_ledger.specs.Ledger.{answer_to, applied, frame_of, last_applied, replica_log};
+ghost use Rattle.cw_ledger.specs.Ledger.{replica_over};
 ghost use Rattle.cw_ledger.specs.Ledger.{replica_started, written_for};
 ghost use Rattle.cw_ledger.specs.Transfers.{balances, holdings};
 

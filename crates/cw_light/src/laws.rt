@@ -23,8 +23,8 @@ use crate::check::Answer;
 /// digest: the bytes of a block of the path, and those of a block that an honest member noted.
 ///
 /// It holds whatever was delivered, lost, repeated, cut or forged, with at most f faulty members of
-/// each epoch, and whoever puts the certificate and the path together. The blocks of the path can be
-/// written, as each can that a program holds: `block_fits` of cw_types.
+/// each epoch, and whoever puts the certificate and the path together. The blocks of the path can
+/// be written, as each can that a program holds: `block_fits` of cw_types.
 pub fn light_laws()
     // where the bytes of a block tell it, as `coded_tells` of cw_rules_coded says of a real
     // cluster's, and what the script brings in can be written

@@ -18,7 +18,7 @@ use Rattle.cw_rules.specs.Chains.{all_notes, block_under, certifies, is_certifie
 use Rattle.cw_rules.specs.Fits.{block_fits}
 use Rattle.cw_rules.specs.Held.{at_height, finalization_of, held, parent_of, reached}
 use Rattle.cw_rules.specs.Keeps.{AllKeep, IsCertifiedIn, IsEntered, Keeps, meaning}
-use Rattle.cw_rules.specs.Notes.{entry, has_cert, has_certified, is_cert, is_certified, root_of, settled, settler}
+use Rattle.cw_rules.specs.Notes.{epoch_entered, has_cert, has_certified, is_cert, is_certified, epoch_parent, settled, settler}
 use Rattle.cw_rules.specs.Reached.{AllAnchored, In, IsAnchored, members_of}
 use Rattle.cw_rules.specs.Rules.{Rules, commit, genesis, genesis_commitment}
 use Rattle.cw_rules.specs.Stands.{AreLawful, EachAfter, Members, Stands}
@@ -44,13 +44,14 @@ each_split R start (x ∷ xs) n e (inr h) =
 
 -- the entry that is found is that of a note
 found_entry : (notes : List Note) (epoch : ℕ) (e : ℕ × Commitment)
-    → find (λ e. e.0 == epoch) (filter_map entry notes) ≡ Some e → In (Note.Epoch epoch e.1) notes
+    → find (λ e. e.0 == epoch) (filter_map epoch_entered notes) ≡ Some e
+    → In (Note.Epoch epoch e.1) notes
 found_entry [] epoch e h = cc
 found_entry (Note.Epoch d c ∷ notes) epoch e h =
     go (cases_Bool (d == epoch)) (found_entry notes epoch e)
   where
     rest : Option (ℕ × Commitment)
-    rest = find (λ e. e.0 == epoch) (filter_map entry notes)
+    rest = find (λ e. e.0 == epoch) (filter_map epoch_entered notes)
 
     first : ℕ × Commitment
     first = (d, c)
@@ -360,9 +361,9 @@ module _ (r : Rules) (w : World)
         enter : Option Commitment
         enter =
             option_map (λ (e : ℕ × Commitment). e.1)
-            (find (λ e. e.0 == p.epoch) (filter_map entry before))
+            (find (λ e. e.0 == p.epoch) (filter_map epoch_entered before))
 
-        by_epoch : p.parent ≡ 0 → root_of (genesis_commitment r) before p.epoch ≡ Some over
+        by_epoch : p.parent ≡ 0 → epoch_parent (genesis_commitment r) before p.epoch ≡ Some over
             → ((p.epoch == 0) ≡ true) ⊎ ((p.epoch == 0) ≡ false) → Parent p over
         by_epoch z f (inl t) =
             At_genesis z (eqb-true p.epoch 0 t)
@@ -372,7 +373,7 @@ module _ (r : Rules) (w : World)
         by_epoch z f (inr n) =
             let (e, at_e, g) =
             map_some (λ (e : ℕ × Commitment). e.1)
-            (find (λ e. e.0 == p.epoch) (filter_map entry before)) over
+            (find (λ e. e.0 == p.epoch) (filter_map epoch_entered before)) over
             (sym (cond-false (p.epoch == 0) (Some (genesis_commitment r)) enter n) ∙ f) in
             let there : In (Note.Epoch p.epoch over) notes =
             subst (In (Note.Epoch p.epoch over)) (sym joined)
@@ -386,7 +387,7 @@ module _ (r : Rules) (w : World)
         go (inl t) =
             by_epoch (eqb-true p.parent 0 t)
             (sym
-            (cond-true (p.parent == 0) (root_of (genesis_commitment r) before p.epoch) pick
+            (cond-true (p.parent == 0) (epoch_parent (genesis_commitment r) before p.epoch) pick
             t)
             ∙ h)
             (cases_Bool (p.epoch == 0))
@@ -394,7 +395,7 @@ module _ (r : Rules) (w : World)
             let (s, e, g) =
             map_some (λ (s : Proposal). s.payload) (settler before p.epoch p.parent) over
             (sym
-            (cond-false (p.parent == 0) (root_of (genesis_commitment r) before p.epoch)
+            (cond-false (p.parent == 0) (epoch_parent (genesis_commitment r) before p.epoch)
             pick f)
             ∙ h) in
             by_settler s g (settler_tells before p.epoch p.parent s e)

@@ -12,7 +12,7 @@ use Rattle.cw_rules.specs.Accepted.{first_some}
 use Rattle.cw_rules.specs.Fits.{block_fits, fits, fits_over}
 use Rattle.cw_rules.specs.Held.{greatest_prune, held, noted_block_of}
 use Rattle.cw_rules.specs.Keeps.{AllKeep, IsCertifiedIn, Keeps, meaning}
-use Rattle.cw_rules.specs.Notes.{has_block, has_cert, has_certified, is_block, is_cert, is_certified, root_of, settled, settler}
+use Rattle.cw_rules.specs.Notes.{has_block, has_cert, has_certified, is_block, is_cert, is_certified, epoch_parent, settled, settler}
 use Rattle.cw_rules.specs.Rules.{Rules, genesis, genesis_commitment}
 use Rattle.cw_rules.specs.Stands.{AreLawful, Descends, LeadsTo, Members, Stands}
 use Rattle.cw_rules.proofs.Lists.{and_then_some, map_some, map_or_true}
@@ -164,7 +164,7 @@ module _ (r : Rules) (spans : IsSpanned r.epochs) (members : Members)
           let (s, e, g) =
           map_some (λ (s : Proposal). s.payload) (settler before p.epoch p.parent) f.over
           (sym
-          (cond-false (p.parent == 0) (root_of (genesis_commitment r) before p.epoch)
+          (cond-false (p.parent == 0) (epoch_parent (genesis_commitment r) before p.epoch)
           (option_map (λ (s : Proposal). s.payload)
           (settler before p.epoch p.parent))
           n)

@@ -16,8 +16,8 @@ use Rattle.cw_types.specs.Same.{same_commitment}
 use Rattle.cw_types.specs.Votes.{finalized, vote_epoch, well_formed}
 use Rattle.cw_rules.specs.Accepted.{Ballot, Came, Part, Row, Whole, accepted, add_wish, first_some, is_chunk_of, is_valid, same_ballot, same_part, take_ballot, take_part, wish_for}
 use Rattle.cw_rules.specs.Coding.{AreApart, AreByteChunks, AreRowsOf, IsCoder, IsCodeword, IsText}
-use Rattle.cw_rules.specs.Held.{first_chunks, if_committed, row_of, shown, shown_by, shown_by_rows, whole_of}
-use Rattle.cw_rules.specs.Rules.{Chunk, Rules, block_of, chunk_at, chunks, commit, config, config_among, is_under, root_by, rows_of}
+use Rattle.cw_rules.specs.Held.{first_chunks, if_committed, chunk_under, shown, shown_by, shown_by_rows, whole_of}
+use Rattle.cw_rules.specs.Rules.{Chunk, Rules, block_of, row_chunk, chunks, commit, config, config_among, is_under, block_root, rows_of}
 use Rattle.cw_rules.specs.declared.travel.Travel.{Travel}
 use Rattle.cw_rules.specs.declared.travel.Travel.TheVariants.{Chunked, Uncut}
 use Rattle.cw_coding.specs.Totals.{total_of}
@@ -53,7 +53,7 @@ apart_taken (suc n) (x ∷ xs) a =
 
 -- the chunks of a commitment among the parts
 abbrev rows : Commitment → List Part → List Chunk
-rows c parts = filter_map (row_of c) parts
+rows c parts = filter_map (chunk_under c) parts
 
 abbrev Apart : Came → Type 0
 Apart came = (c : Commitment) → AreApart (rows c came.parts)
@@ -99,7 +99,7 @@ part_apart came fits p a c = go (cases_Bool (fits && not (list_any (same_part p)
     unseen false h = refl
 
     added : (q : Part) → list_any (same_part q) came.parts ≡ false
-        → AreApart (rows c came.parts ++ cons_option (row_of c q) [])
+        → AreApart (rows c came.parts ++ cons_option (chunk_under c q) [])
     added (Whole b) h = subst AreApart (sym (append-nil (rows c came.parts))) (a c)
     added (Row d x) h = by_same (cases_Bool (same_commitment c d))
       where
@@ -124,7 +124,7 @@ part_apart came fits p a c = go (cases_Bool (fits && not (list_any (same_part p)
     go (inl t) =
         subst (λ (k : Came). AreApart (rows c k.parts))
         (sym (cond-true (fits && not (list_any (same_part p) came.parts)) more came t))
-        (subst AreApart (sym (filter_map-append (row_of c) came.parts (p ∷ [])))
+        (subst AreApart (sym (filter_map-append (chunk_under c) came.parts (p ∷ [])))
         (added p
         (unseen (list_any (same_part p) came.parts)
         (and_parts fits (not (list_any (same_part p) came.parts)) t).1)))
@@ -289,12 +289,12 @@ module _ (r : Rules) (cut : r.travel ≡ Chunked) (coder : IsCoder r) where
           → slice_get all (low + i) ≡ Some row)
           → low + length rest ≤ total_of (config r b.context.epoch)
           → AllByRecursion (λ x. IsTrue (is_under r (commit r b) x))
-          (map (λ at. chunk_at r all at.0 at.1) (enumerate_from low rest))
+          (map (λ at. row_chunk r all at.0 at.1) (enumerate_from low rest))
       go low [] w at le = tt
       go low (row ∷ rest) w at le = (
-        under_from b (chunk_at r all low row) (omega arith) w.0.0 w.0.1
+        under_from b (row_chunk r all low row) (omega arith) w.0.0 w.0.1
             (coder.count (config r b.context.epoch) (r.block_bytes b) least)
-            (subst (λ t. r.leads_to (root_by t r b) (chunk_at r all low row) ≡ true) (sym cut)
+            (subst (λ t. r.leads_to (block_root t r b) (row_chunk r all low row) ≡ true) (sym cut)
             (coder.leads all low row
             (subst (λ i. slice_get all i ≡ Some row) (plus_zero low) (at 0 row refl)))),
         go (low + 1) rest w.1

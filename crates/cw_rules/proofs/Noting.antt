@@ -22,7 +22,7 @@ use Rattle.cw_rules.specs.Held.{at_height, first_chunks, greatest_prune, held, i
 use Rattle.cw_rules.specs.Notes.{entered, epoch_of, greatest, has_block, has_cert, view_of}
 use Rattle.cw_rules.specs.Owed.{block_owed, cert_owed, certified_owed, epoch_owed, finalize_owed, floor_owed, has_closed, has_voted, named_commitments, named_proposals, named_votes, notarize_owed, owed, reached_epoch, signers_of, top_epoch}
 use Rattle.cw_rules.specs.Reached.{IsCluster}
-use Rattle.cw_rules.specs.Rules.{Rules, block_of, commit, config_among, genesis, genesis_commitment, root_by, rows_of}
+use Rattle.cw_rules.specs.Rules.{Rules, block_of, commit, config_among, genesis, genesis_commitment, block_root, rows_of}
 use Rattle.cw_rules.specs.declared.travel.Travel.{Travel}
 use Rattle.cw_rules.specs.declared.travel.Travel.TheVariants.{Chunked, Uncut}
 use Rattle.cw_rules.specs.Step.{marks, settle, step_notes, with_notes}
@@ -102,7 +102,7 @@ module _ (r : Rules) (script : List Line) (tells : TellsBlocks r)
   config_by Uncut epoch =
       record { minimum = (omega arith, omega arith); extra = (omega arith, omega arith) }
 
-  root_can : (t : Travel) (b : Block) → IsDigest (root_by t r b)
+  root_can : (t : Travel) (b : Block) → IsDigest (block_root t r b)
   root_can Chunked b = tells.roots (rows_of r b)
   root_can Uncut b = tells.digests _
 

@@ -17,7 +17,7 @@ use Rattle.cw_rules.specs.Accepted.{Ballot, Came, Many, Part, Row, Single, State
 use Rattle.cw_rules.specs.Fits.{fits}
 use Rattle.cw_rules.specs.Held.{at_height, first_chunks, held, if_committed, shown, shown_by, shown_by_rows, shown_whole, whole_of}
 use Rattle.cw_rules.specs.Keeps.{IsClosed, IsRising, IsSound, Keeps, Meaning}
-use Rattle.cw_rules.specs.Notes.{enters, entry, epoch_of, has_begun, has_cert, has_certified, has_vote, root_of, settled, settler}
+use Rattle.cw_rules.specs.Notes.{enters, epoch_entered, epoch_of, has_begun, has_cert, has_certified, has_vote, epoch_parent, settled, settler}
 use Rattle.cw_rules.specs.Owed.{all_nullified, block_owed, can_vote, cert_owed, certified_owed, epoch_owed, finalize_owed, floor_owed, has_closed, has_voted, is_ready, is_single, known, knows, named_commitments, named_proposals, named_votes, notarize_owed, owed, reached_epoch, signers_in, signers_of, top_epoch, when}
 use Rattle.cw_rules.specs.Rules.{Rules, block_of, commit, genesis_commitment}
 use Rattle.cw_rules.specs.declared.travel.Travel.{Travel}
@@ -183,7 +183,7 @@ single_sound m i v (Single j w ∷ xs) a h =
 
 -- an entry that is found was noted
 entered_by : (epoch : ℕ) (notes : List Note) (x : ℕ × Commitment)
-    → find (λ (e : ℕ × Commitment). e.0 == epoch) (filter_map entry notes) ≡ Some x
+    → find (λ (e : ℕ × Commitment). e.0 == epoch) (filter_map epoch_entered notes) ≡ Some x
     → list_any (enters epoch) notes ≡ true
 entered_by epoch [] x h = cc
 entered_by epoch (note ∷ notes) x h = by_note note h (entered_by epoch notes x)
@@ -192,8 +192,9 @@ entered_by epoch (note ∷ notes) x h = by_note note h (entered_by epoch notes x
     of e = e.0 == epoch
 
     by_note : (n : Note)
-        → find (λ (e : ℕ × Commitment). e.0 == epoch) (filter_map entry (n ∷ notes)) ≡ Some x
-        → (find (λ (e : ℕ × Commitment). e.0 == epoch) (filter_map entry notes) ≡ Some x
+        → find (λ (e : ℕ × Commitment). e.0 == epoch) (filter_map epoch_entered (n ∷ notes))
+        ≡ Some x
+        → (find (λ (e : ℕ × Commitment). e.0 == epoch) (filter_map epoch_entered notes) ≡ Some x
         → list_any (enters epoch) notes ≡ true)
         → list_any (enters epoch) (n ∷ notes) ≡ true
     by_note (Note.Epoch d c) h later = go (cases_Bool (d == epoch))
@@ -206,7 +207,7 @@ entered_by epoch (note ∷ notes) x h = by_note note h (entered_by epoch notes x
             (later
             (sym
             (cond-false (d == epoch) (Some (d, c))
-            (find (λ (e : ℕ × Commitment). e.0 == epoch) (filter_map entry notes))
+            (find (λ (e : ℕ × Commitment). e.0 == epoch) (filter_map epoch_entered notes))
             f)
             ∙ h))
     by_note (Note.Block c b) h later = later h
@@ -220,11 +221,11 @@ entered_by epoch (note ∷ notes) x h = by_note note h (entered_by epoch notes x
 
 -- an epoch that has a root has begun
 pub begun_by : (c0 : Commitment) (notes : List Note) (epoch : ℕ) (c : Commitment)
-    → root_of c0 notes epoch ≡ Some c → has_begun notes epoch ≡ true
+    → epoch_parent c0 notes epoch ≡ Some c → has_begun notes epoch ≡ true
 begun_by c0 notes epoch c h = go (cases_Bool (epoch == 0))
   where
     found : Option (ℕ × Commitment)
-    found = find (λ (e : ℕ × Commitment). e.0 == epoch) (filter_map entry notes)
+    found = find (λ (e : ℕ × Commitment). e.0 == epoch) (filter_map epoch_entered notes)
 
     go : ((epoch == 0) ≡ true) ⊎ ((epoch == 0) ≡ false)
         → ((epoch == 0) || list_any (enters epoch) notes) ≡ true
@@ -254,7 +255,7 @@ settled_tells c0 notes epoch view c h = go (cases_Bool (view == 0))
           eqb-true view 0 t,
           begun_by c0 notes epoch c
               (sym
-              (cond-true (view == 0) (root_of c0 notes epoch)
+              (cond-true (view == 0) (epoch_parent c0 notes epoch)
               (option_map (λ (p : Proposal). p.payload) (settler notes epoch view)) t)
               ∙ h),
         )
@@ -262,7 +263,7 @@ settled_tells c0 notes epoch view c h = go (cases_Bool (view == 0))
         let (p, e, g) =
         map_some (λ (p : Proposal). p.payload) (settler notes epoch view) c
         (sym
-        (cond-false (view == 0) (root_of c0 notes epoch)
+        (cond-false (view == 0) (epoch_parent c0 notes epoch)
         (option_map (λ (p : Proposal). p.payload) (settler notes epoch view)) f)
         ∙ h) in
         inr (eqb-above view f, ap is_some e)

@@ -4,7 +4,7 @@ use Rattle.std.specs.List.{AllByRecursion}
 use Rattle.cw_base.specs.Counts.{Counts}
 use Rattle.cw_types.specs.Block.{Block}
 use Rattle.cw_types.specs.declared.commitment.Commitment.{Commitment}
-use Rattle.cw_rules.specs.Rules.{Chunk, Rules, chunk_at, chunks, commit, rows_under}
+use Rattle.cw_rules.specs.Rules.{Chunk, Rules, row_chunk, chunks, commit, rows_under}
 use Rattle.cw_coding.specs.Totals.{total_of}
 
 -- each number is a byte
@@ -49,7 +49,7 @@ pub record IsCoder (r : Rules) : Type 0 where
       → AllByRecursion (λ row. (0 < length row) × (length row % 2 ≡ 0)) (rows_under r x text)
   -- the way up from each place leads to the root
   pub leads : (rows : List (List ℕ)) (i : ℕ) (row : List ℕ) → slice_get rows i ≡ Some row
-      → IsTrue (r.leads_to (r.root (map r.hash rows)) (chunk_at r rows i row))
+      → IsTrue (r.leads_to (r.root (map r.hash rows)) (row_chunk r rows i row))
 
 -- a block that is written as a text and read back, of whose codeword these are k rows, and which is
 -- committed to so

@@ -24,13 +24,13 @@ whole_of r c (Whole b) = if_committed r c b
 whole_of r c (Row d x) = None
 
 -- the chunk, where it is of that commitment
-abbrev pub row_of : Commitment → Part → Option Chunk
-row_of c (Row d x) = if same_commitment c d then Some x else None
-row_of c (Whole b) = None
+abbrev pub chunk_under : Commitment → Part → Option Chunk
+chunk_under c (Row d x) = if same_commitment c d then Some x else None
+chunk_under c (Whole b) = None
 
 -- the chunks of a commitment that came, at most k of them
 abbrev pub first_chunks : Came → Commitment → List Chunk
-first_chunks came c = take c.config.minimum (filter_map (row_of c) came.parts)
+first_chunks came c = take c.config.minimum (filter_map (chunk_under c) came.parts)
 
 -- the block under the commitment of whose codeword its first k chunks are rows
 abbrev pub shown_by_rows : Rules → Came → Commitment → Option Block
@@ -81,13 +81,17 @@ greatest_prune notes = greatest (filter_map pruned_height notes)
 abbrev pub greatest_floor : List Note → ℕ
 greatest_floor notes = greatest (filter_map floor_height notes)
 
--- the block of the first Block note, unless it was pruned; genesis is always held
-abbrev pub held : Rules → List Note → Commitment → Option Block
-held r notes c =
-    if same_commitment c (genesis_commitment r) then Some (genesis r)
-    else option_and_then
+-- the block of the first Block note, unless it was pruned
+abbrev pub kept_block : List Note → Commitment → Option Block
+kept_block notes c =
+    option_and_then
     (λ b. if nat_lt 0 b.height && nat_lt b.height (greatest_prune notes) then None else Some b)
     (first_some (noted_block_of c) notes)
+
+-- that block; genesis is always held
+abbrev pub held : Rules → List Note → Commitment → Option Block
+held r notes c =
+    if same_commitment c (genesis_commitment r) then Some (genesis r) else kept_block notes c
 
 -- the held block under the parent commitment of b, where its height is one less
 abbrev pub parent_of : Rules → List Note → Block → Option Block
@@ -128,16 +132,20 @@ last_ack notes = last_or None (filter_map acked_height notes)
 abbrev pub resume : List Note → ℕ
 resume notes = max (option_map_or (λ h. h + 1) (last_ack notes) 0) (greatest_floor notes)
 
--- the height to be handed out next
+-- the height to be handed out next, by the notes and the heights handed out
+abbrev pub next_of : List Note → List ℕ → ℕ
+next_of notes given =
+    max (option_map_or (λ h. h + 1) (last_or None given) (resume notes)) (greatest_floor notes)
+
+-- the same of a member
 abbrev pub next : State → ℕ
-next s =
-    max (option_map_or (λ h. h + 1) (last_or None s.given) (resume s.notes))
-    (greatest_floor s.notes)
+next s = next_of s.notes s.given
+
+-- the height is above the one that was acknowledged last, and not below the floor
+abbrev pub is_pending : Option ℕ → ℕ → ℕ → Bool
+is_pending acked floor height =
+    option_map_or (λ a. nat_lt a height) acked true && nat_le floor height
 
 -- the heights handed out and not yet acknowledged
 abbrev pub pending : State → List ℕ
-pending s =
-    filter
-    (λ h. option_map_or (λ a. nat_lt a h) (last_ack s.notes) true
-    && nat_le (greatest_floor s.notes) h)
-    s.given
+pending s = filter (is_pending (last_ack s.notes) (greatest_floor s.notes)) s.given

@@ -76,21 +76,21 @@ abbrev pub has_begun : List Note → ℕ → Bool
 has_begun notes epoch = (epoch == 0) || list_any (enters epoch) notes
 
 -- what an epoch is entered by
-abbrev pub entry : Note → Option (ℕ × Commitment)
-entry (Note.Epoch epoch c) = Some (epoch, c)
-entry _ = None
+abbrev pub epoch_entered : Note → Option (ℕ × Commitment)
+epoch_entered (Note.Epoch epoch c) = Some (epoch, c)
+epoch_entered _ = None
 
 -- the payload on which the first proposal of an epoch builds: genesis, or that of the first note
 -- which enters the epoch
-abbrev pub root_of : Commitment → List Note → ℕ → Option Commitment
-root_of genesis notes epoch =
+abbrev pub epoch_parent : Commitment → List Note → ℕ → Option Commitment
+epoch_parent genesis notes epoch =
     if epoch == 0 then Some genesis
-    else option_map (λ e. e.1) (find (λ e. e.0 == epoch) (filter_map entry notes))
+    else option_map (λ e. e.1) (find (λ e. e.0 == epoch) (filter_map epoch_entered notes))
 
 -- the payload that is settled for a view of an epoch
 abbrev pub settled : Commitment → List Note → ℕ → ℕ → Option Commitment
 settled genesis notes epoch view =
-    if view == 0 then root_of genesis notes epoch
+    if view == 0 then epoch_parent genesis notes epoch
     else option_map (λ p. p.payload) (settler notes epoch view)
 
 -- the view that stands for an end in that epoch

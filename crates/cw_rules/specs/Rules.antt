@@ -84,8 +84,8 @@ abbrev pub rows_of : Rules → Block → List (List ℕ)
 rows_of r b = rows_under r (config r b.context.epoch) (r.block_bytes b)
 
 -- row i of these, with its way up in the tree over their digests
-abbrev pub chunk_at : Rules → List (List ℕ) → ℕ → List ℕ → Chunk
-chunk_at r rows i row =
+abbrev pub row_chunk : Rules → List (List ℕ) → ℕ → List ℕ → Chunk
+row_chunk r rows i row =
     record {
       shard = row;
       index = i;
@@ -95,7 +95,7 @@ chunk_at r rows i row =
 
 -- a block cut in chunks, in the order of their places
 abbrev pub chunks : Rules → Block → List Chunk
-chunks r b = map (λ at. chunk_at r (rows_of r b) at.0 at.1) (enumerate_from 0 (rows_of r b))
+chunks r b = map (λ at. row_chunk r (rows_of r b) at.0 at.1) (enumerate_from 0 (rows_of r b))
 
 -- what a check of a chunk accepts: a place below k + m, an even width above zero, a tree of k + m
 -- leaves, and a way up to the root
@@ -113,16 +113,16 @@ abbrev pub digest : Rules → Block → Digest32
 digest r b = r.hash (r.block_bytes b)
 
 -- the root that names a block: that of the tree over its rows, or its digest where it isn't cut
-abbrev pub root_by : Travel → Rules → Block → Digest32
-root_by Chunked r b = r.root (map r.hash (rows_of r b))
-root_by Uncut r b = digest r b
+abbrev pub block_root : Travel → Rules → Block → Digest32
+block_root Chunked r b = r.root (map r.hash (rows_of r b))
+block_root Uncut r b = digest r b
 
 -- what names a block: its digest, its root, the digest of its context, and its config
 abbrev pub commit : Rules → Block → Commitment
 commit r b =
     record {
       block = digest r b;
-      root = root_by r.travel r b;
+      root = block_root r.travel r b;
       context = r.hash (r.context_bytes b.context);
       config = config r b.context.epoch;
     }

@@ -48,7 +48,7 @@ note_sends r id notes (Note.Cert s) = to_all (Message.Cert s) ∷ []
 note_sends r id notes _ = []
 
 -- a commitment that a note leads to: the payload of a certificate, or the parent of a held block
--- above next
+-- above that height
 abbrev pub leads : Rules → List Note → ℕ → Note → Option Commitment
 leads r notes height (Note.Cert s) = option_map (λ p. p.payload) (proposal_of s.vote)
 leads r notes height (Note.Block c b) =
@@ -78,7 +78,7 @@ own_chunk r id epoch came (Event.Deliver (Message.Shard c x)) =
     then to_all (Message.Shard c x) ∷ [] else []
 own_chunk r id epoch came _ = []
 
--- the first noted finalization whose held payload has that height
+-- the certificate of a note, where it is a finalization whose held payload has that height
 abbrev pub finalization_at : Rules → List Note → ℕ → Note → Option Cert
 finalization_at r notes height (Note.Cert s) =
     option_and_then

@@ -160,7 +160,7 @@ found r notes (Of_digest d) =
     else first_some (noted_of r notes d) notes
 found r notes (Of_commitment c) = option_map (λ _. c) (held r notes c)
 
--- the tickets that are served, and those that go on waiting
+-- the commitment that a ticket is served with, where its block is held
 abbrev pub served : Rules → List Note → Ticket → Option TicketOut
 served r notes x =
     option_map (λ c. record { number = x.number; commitment = Some c }) (found r notes x.wanted)

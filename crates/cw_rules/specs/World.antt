@@ -67,7 +67,7 @@ message_for w member number =
     option_and_then (λ s. if is_to member s.to then Some s.message else None)
     (slice_get w.pool number)
 
--- a finalization
+-- the floor event of a message, where that is a finalization
 abbrev pub as_finalization : Message → Option Event
 as_finalization (Message.Cert s) = if is_some (finalized s.vote) then Some (Event.Floor s) else None
 as_finalization _ = None

@@ -17,7 +17,8 @@ ghost use Rattle.cw_types.specs.Epochs.{size};
 ghost use Rattle.cw_rules.specs.Accepted.{Came, State, Whole, accepted, first_some, is_valid};
 ghost use Rattle.cw_rules.specs.Chains.{Clashes, Ends, outcome};
 ghost use Rattle.cw_rules.specs.Fits.{block_fits};
-ghost use Rattle.cw_rules.specs.Held.{at_height, first_chunks, held, next, pending, row_of, shown};
+ghost use Rattle.cw_rules.specs.Held.{at_height, first_chunks, held, next, pending, chunk_under};
+ghost use Rattle.cw_rules.specs.Held.{shown};
 ghost use Rattle.cw_rules.specs.Held.{whole_of};
 ghost use Rattle.cw_rules.specs.Keeps.{AreAlong, IsCertifiedIn, IsGreatest, IsRising, IsSound};
 ghost use Rattle.cw_rules.specs.Keeps.{Keeps, KeepsBy, Meaning};
@@ -269,14 +270,15 @@ pub fn store_laws()
 pub fn coding_laws()
     // the chunks of a commitment that a member accepts stay at different places
     ensures apart { (r : Rules) (signed : ℕ → Vote → Bool) (came : Came) (e : Event)
-        → ((c : Commitment) → AreApart (filter_map (row_of c) came.parts))
-        → (c : Commitment) → AreApart (filter_map (row_of c) (taken_came r signed came e).parts) }
+        → ((c : Commitment) → AreApart (filter_map (chunk_under c) came.parts))
+        → (c : Commitment)
+        → AreApart (filter_map (chunk_under c) (taken_came r signed came e).parts) }
     // where no whole block came, a commitment is shown as exactly the block of whose codeword its
     // first k chunks are rows
     ensures shown { (r : Rules) → r.travel ≡ Chunked → IsCoder r
         → (came : Came) (c : Commitment) (b : Block) → 0 < c.config.minimum
         → total_of c.config ≤ 65535
-        → ((d : Commitment) → AreApart (filter_map (row_of d) came.parts))
+        → ((d : Commitment) → AreApart (filter_map (chunk_under d) came.parts))
         → AreByteChunks (first_chunks came c)
         → first_some (whole_of r c) came.parts ≡ None
         → (shown r came c ≡ Some b) ↔ IsCodeword r c (first_chunks came c) b }

@@ -16,7 +16,7 @@ use Rattle.cw_types.specs.Commit.{digest_bytes, empty_digest, text_root}
 use Rattle.cw_types.specs.Encoding.{block_bytes, context_bytes}
 use Rattle.cw_types.specs.Epochs.{Epochs, size}
 use Rattle.cw_types.specs.Numbers.{config_for}
-use Rattle.cw_rules.specs.Rules.{Rules, chunk_at, chunks, commit}
+use Rattle.cw_rules.specs.Rules.{Rules, row_chunk, chunks, commit}
 use Rattle.cw_rules_coded.specs.Coded.{code_rows, coded, root_over}
 
 enumerate_push : {X : Type 0} (n : ℕ) (xs : List X) (y : X)
@@ -75,9 +75,9 @@ module _ (hash : List ℕ → Digest32) (epochs : Epochs) (backlog : ℕ) (accep
   pub chunks_by_rules : types.block_chunks hash (size epochs b.context.epoch) b ≡ chunks r b
   chunks_by_rules =
       listed_same (own.minimum + own.extra) (piece_of hash digest_bytes own (block_bytes b))
-      (λ i. chunk_at r rows i (row_at own.minimum (block_bytes b) i)) each
+      (λ i. row_chunk r rows i (row_at own.minimum (block_bytes b) i)) each
       ∙ sym
-      (enumerated (chunk_at r rows) (own.minimum + own.extra)
+      (enumerated (row_chunk r rows) (own.minimum + own.extra)
       (row_at own.minimum (block_bytes b)))
     where
       rows : List (List ℕ)
@@ -85,7 +85,7 @@ module _ (hash : List ℕ → Digest32) (epochs : Epochs) (backlog : ℕ) (accep
 
       each : (i : ℕ) → i < own.minimum + own.extra
           → piece_of hash digest_bytes own (block_bytes b) i
-          ≡ chunk_at r rows i (row_at own.minimum (block_bytes b) i)
+          ≡ row_chunk r rows i (row_at own.minimum (block_bytes b) i)
       each i l =
           let long : own.minimum + own.extra ≡ length rows =
           sym (length-listed (own.minimum + own.extra) (row_at own.minimum (block_bytes b))) in

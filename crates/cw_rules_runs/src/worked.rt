@@ -15,7 +15,8 @@ ghost use Rattle.cw_rules.specs.Rules.{commit, digest, genesis, genesis_commitme
 ghost use Rattle.cw_rules.specs.World.{opening, world_of};
 ghost use Rattle.cw_rules_runs.specs.Toy.{kinds, payloads, signers, told_from, told_short, totals};
 ghost use Rattle.cw_rules_runs.specs.Toy.{toy_block_bytes};
-ghost use Rattle.cw_rules_runs.specs.Scenes.{adding, ascending, chain_heights, colliding, proposed_again};
+ghost use Rattle.cw_rules_runs.specs.Scenes.{adding, ascending, chain_heights, colliding};
+ghost use Rattle.cw_rules_runs.specs.Scenes.{proposed_again};
 ghost use Rattle.cw_rules_runs.specs.Scenes.{cut_run, descending, finalized_run, first_block, four};
 ghost use Rattle.cw_rules_runs.specs.Scenes.{fresh, next_epoch, proposed_next, short_epochs};
 ghost use Rattle.cw_rules_runs.specs.Scenes.{steps_from, three_epochs, tickets_of, timeouts};

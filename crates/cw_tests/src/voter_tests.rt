@@ -377,8 +377,8 @@ fn parents_after(alloc: Global, numbers: &[u8]) -> Result<Vec<u64>, Fail> {
 }
 
 // Views that are nullified in this order, those that are certified among them as 100 more, and the
-// parents of a proposal in the view behind all of them. A parent that is itself nullified has others
-// below it.
+// parents of a proposal in the view behind all of them. A parent that is itself nullified has
+// others below it.
 const RUNS: &str = "\
 one after the other: 1 2 3: [0]
 the last one first: 3 2 1: [0]

@@ -51,6 +51,7 @@ shard_at bound bytes = do
   long ← varint_at bytes
   if nat_lt bound long.0 then Err (TooLong, long.1) else bytes_at long.0 long.1
 
+-- a chunk, with a shard of at most so many bytes and siblings of size bytes each
 unfoldable pub chunk_at : (size bound : ℕ) → List ℕ → Reading (Piece (List ℕ))
 chunk_at size bound bytes = do
   shard ← shard_at bound bytes

@@ -203,8 +203,8 @@ fn read_shard<'a>(reader: &mut Reader<'a>, bound: usize) -> Result<&'a [u8], Cod
 impl<D: Digest> Chunk<D> {
     /// The chunk at the front, of a config and of data of at most `maximum` bytes: `TooLong` where
     /// its shard is wider than the shards of data of `maximum` bytes, or of `u32::MAX` bytes if
-    /// that is less, and above 32 siblings; `InvalidVarint` for a length in another form than its
-    /// shortest; `EndOfBuffer` where it is cut.
+    /// that is less, and above 32 siblings; `InvalidVarint` for a length that isn't in its shortest
+    /// form, or is above `u32::MAX`; `EndOfBuffer` where it is cut.
     ///
     /// Refused, the reader stands behind the parts that were taken, a refused number among them.
     /// For want of memory it is refused only where a whole chunk stands there, and all of it is

@@ -10,7 +10,8 @@ use crate::chunk::Chunk;
 use cw_base::Digest;
 
 impl<D: Digest> Proof<D> {
-    /// As many bytes as a proof of at most so many siblings is written in, or more.
+    /// As many bytes as a proof of at most so many siblings is written in, or more: four of the
+    /// leaf count, one of the number of siblings, and the siblings.
     pub fn max_encode_size(siblings: usize) -> usize
         requires { 5 + D.SIZE * siblings < 2 ^ 64 }
         ensures { result ≡ 5 + D.SIZE * siblings }
@@ -21,7 +22,8 @@ impl<D: Digest> Proof<D> {
 
 impl<D: Digest> Chunk<D> {
     /// As many bytes as a chunk is written in whose shard has at most `shard` bytes, and its proof
-    /// at most so many siblings, or more.
+    /// at most so many siblings, or more: at most five of the shard's length, the shard, two of the
+    /// index, and the proof.
     pub fn max_encode_size(shard: usize, siblings: usize) -> usize
         requires { 12 + shard + D.SIZE * siblings < 2 ^ 64 }
         ensures { result ≡ 12 + shard + D.SIZE * siblings }

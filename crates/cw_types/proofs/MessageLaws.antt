@@ -17,7 +17,7 @@ use Rattle.cw_types.specs.Commit.{digest_bytes}
 use Rattle.cw_types.specs.Encoding.{block_bytes, cert_bytes, commitment_bytes, message_bytes}
 use Rattle.cw_types.specs.Encoding.{vote_bytes}
 use Rattle.cw_types.specs.Reading.{as_read, block_at, cert_at, commitment_at, message_behind}
-use Rattle.cw_types.specs.Reading.{message_of, shard_at, tagged_message_at, to_the_end, vote_at}
+use Rattle.cw_types.specs.Reading.{message_of, block_chunk_at, tagged_message_at, to_the_end, vote_at}
 use Rattle.cw_types.specs.Reading.{with_digests}
 use Rattle.cw_types.specs.Values.{IsBlock, IsCert, IsCommitment, IsMember, IsMessage, IsShard}
 use Rattle.cw_types.specs.Values.{IsVote}
@@ -64,8 +64,8 @@ contents_back p =
     (contents_of_digests p.siblings)
 
 shard_reads_back : (config : Counts)
-    → ReadsBack (chunk_bytes digest_bytes) (IsShard config) (shard_at config)
-unfolding shard_at
+    → ReadsBack (chunk_bytes digest_bytes) (IsShard config) (block_chunk_at config)
+unfolding block_chunk_at
 shard_reads_back config = record { found = found; again = again }
   where
     bound : ℕ
@@ -106,7 +106,7 @@ shard_reads_back config = record { found = found; again = again }
 -- ---- messages
 
 abbrev shards_at : List ℕ → Reading (Commitment × Piece Digest32)
-shards_at = pair_at commitment_at (λ c. shard_at c.config)
+shards_at = pair_at commitment_at (λ c. block_chunk_at c.config)
 
 shards : IsForm (λ p. commitment_bytes p.0 ++ chunk_bytes digest_bytes p.1)
     (λ p. IsCommitment p.0 × IsShard p.0.config p.1) shards_at (λ p. message.Shard p.0 p.1)
@@ -114,7 +114,8 @@ shards : IsForm (λ p. commitment_bytes p.0 ++ chunk_bytes digest_bytes p.1)
 unfolding message_bytes
 shards = record {
   part =
-      pair_reads_back _ _ _ _ (λ c. IsShard c.config) (λ c. shard_at c.config) commitment_reads_back
+      pair_reads_back _ _ _ _ (λ c. IsShard c.config) (λ c. block_chunk_at c.config)
+      commitment_reads_back
       (λ c h. shard_reads_back c.config);
   form = λ p h. refl;
   fits = λ p h. h;
@@ -176,7 +177,8 @@ tagged_found = tag_found message_bytes IsMessage message_behind chosen
     chosen n bytes rest m fits e =
         elim (pick n 0 _ _ _ e) [
           | inl h ↦ form_found _ _ _ _ _ _ _ shards n bytes rest m fits h.0
-              (sym (paired (commitment_at bytes) (λ c. shard_at c.config) message.Shard) ∙ h.1)
+              (sym (paired (commitment_at bytes) (λ c. block_chunk_at c.config) message.Shard)
+              ∙ h.1)
           | inr e ↦ elim (pick n 1 _ _ _ e) [
             | inl h ↦ form_found _ _ _ _ _ _ _ votes n bytes rest m fits h.0
                 (sym (paired (be16_at bytes) (λ _. vote_at) message.Vote) ∙ h.1)
@@ -214,7 +216,7 @@ unfolding tagged_message_at message_bytes
 message_again (message.Shard c x) fits =
     to_message (message.Shard c x)
     (form_again _ _ _ _ _ _ _ shards message_behind
-    (λ left. paired (commitment_at left) (λ c. shard_at c.config) message.Shard) (c, x) []
+    (λ left. paired (commitment_at left) (λ c. block_chunk_at c.config) message.Shard) (c, x) []
     fits)
 message_again (message.Vote signer v) fits =
     to_message (message.Vote signer v)

@@ -14,7 +14,7 @@ use Rattle.cw_types.specs.Reading.{as_read, block_at, cert_at, certified_at, com
 use Rattle.cw_types.specs.Reading.{context_at, digest_at, entered_at, finalize_at, formed_vote_at}
 use Rattle.cw_types.specs.Reading.{height_at, later_at, later_epoch_at, message_behind, notarize_at}
 use Rattle.cw_types.specs.Reading.{note_at, note_behind, nullify_at, ordered_at, payload_at}
-use Rattle.cw_types.specs.Reading.{proposal_at, shard_at, signed_at, signers_at, tagged_message_at}
+use Rattle.cw_types.specs.Reading.{proposal_at, block_chunk_at, signed_at, signers_at, tagged_message_at}
 use Rattle.cw_types.specs.Reading.{valid_if, verified_at, vote_at, vote_behind}
 use Rattle.cw_types.specs.declared.message.Message.{Message}
 use Rattle.cw_types.specs.declared.message.Message.TheVariants as messages
@@ -165,8 +165,8 @@ chunk size bound bytes =
     followed (be16_at shard.1) _ (be16 shard.1) λ index.
     followed (formats.proof_at size index.1) _ (way size index.1) λ proof. given _
 
-pub shard : (config : Counts) (bytes : List ℕ) → Spares (shard_at config bytes)
-unfolding shard_at
+pub shard : (config : Counts) (bytes : List ℕ) → Spares (block_chunk_at config bytes)
+unfolding block_chunk_at
 shard config bytes = seen _ _ (chunk 32 (formats.widest config.minimum 1048745) bytes)
 
 -- ---- commitments, contexts, blocks and proposals

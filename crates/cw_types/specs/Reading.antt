@@ -180,14 +180,15 @@ with_digests p =
     }
 
 -- a chunk of a config, of a block of at most 1,048,745 bytes
-unfoldable pub shard_at : Counts → List ℕ → Reading (Piece Digest32)
-shard_at config bytes = as_read with_digests (chunk_at 32 (widest config.minimum 1048745) bytes)
+unfoldable pub block_chunk_at : Counts → List ℕ → Reading (Piece Digest32)
+block_chunk_at config bytes = as_read with_digests
+    (chunk_at 32 (widest config.minimum 1048745) bytes)
 
 -- a commitment, and a chunk of its config
 abbrev pub shard_message_at : List ℕ → Reading Message
 shard_message_at bytes = do
   commitment ← commitment_at bytes
-  as_read (message.Shard commitment.0) (shard_at commitment.0.config commitment.1)
+  as_read (message.Shard commitment.0) (block_chunk_at commitment.0.config commitment.1)
 
 -- a signer, and its vote
 abbrev pub vote_message_at : List ℕ → Reading Message

@@ -11,7 +11,7 @@ ghost use Rattle.cw_types.specs.Epochs.{members_in, rises_from, size};
 ghost use Rattle.cw_types.specs.Encoding.{block_bytes, commitment_bytes, context_bytes, cert_bytes};
 ghost use Rattle.cw_types.specs.Encoding.{message_bytes, note_bytes, proposal_bytes, vote_bytes};
 ghost use Rattle.cw_types.specs.Reading.{block_at, block_in, cert_at, commitment_at, context_at};
-ghost use Rattle.cw_types.specs.Reading.{message_of, note_at, proposal_at, shard_at};
+ghost use Rattle.cw_types.specs.Reading.{message_of, note_at, proposal_at, block_chunk_at};
 ghost use Rattle.cw_types.specs.Reading.{tagged_message_at, vote_at, NeverWantsMemory};
 ghost use Rattle.cw_types.specs.Values.{AreMembers, is_storable, IsBlock, IsCert, IsCommitment};
 ghost use Rattle.cw_types.specs.Values.{IsContext, IsMessage, IsNote, IsPrefixFree, IsProposal};
@@ -59,7 +59,7 @@ pub fn formats_want_no_memory()
     ensures vote { NeverWantsMemory vote_at }
     ensures cert { NeverWantsMemory cert_at }
     ensures note { NeverWantsMemory note_at }
-    ensures shard { (config : Counts) → NeverWantsMemory (shard_at config) }
+    ensures shard { (config : Counts) → NeverWantsMemory (block_chunk_at config) }
     ensures message { NeverWantsMemory tagged_message_at }
 {}
 

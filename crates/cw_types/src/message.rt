@@ -5,7 +5,7 @@ ghost use Rattle.std.specs.Prelude.{take, length};
 ghost use Rattle.cw_base.specs.Bytes.{be16};
 ghost use Rattle.cw_base.specs.declared.reader.CodecError.TheVariants as codec;
 ghost use Rattle.cw_types.specs.Encoding.{message_bytes};
-ghost use Rattle.cw_types.specs.Reading.{shard_at, shard_message_at, vote_message_at, ask_at};
+ghost use Rattle.cw_types.specs.Reading.{block_chunk_at, shard_message_at, vote_message_at, ask_at};
 ghost use Rattle.cw_types.specs.Reading.{ask_height_at, tagged_message_at, message_at};
 ghost use Rattle.cw_types.specs.Reading.{to_the_end};
 ghost use Rattle.cw_types.specs.declared.message.Message.TheVariants as messages;
@@ -231,13 +231,14 @@ fn read_shard_message(alloc: Global, reader: &mut Reader) -> Result<Message, Cod
 }
 
 // A chunk of a config, of a block of at most `MAX_BLOCK` bytes.
-#[tactic(auto, using(cw_base::proofs::Ends::end_of_end), unfolding(crate::specs::Reading::shard_at))]
+#[tactic(auto, using(cw_base::proofs::Ends::end_of_end), unfolding(crate::specs::Reading::block_chunk_at))]
 fn read_shard(
     alloc: Global,
     reader: &mut Reader,
     config: &Config,
 ) -> Result<Chunk<Digest32>, CodecError>
-    ensures value { Gives (λ chunk. chunk) result reader.new (shard_at config.now reader.old) }
+    ensures value { Gives (λ chunk. chunk) result reader.new
+        (block_chunk_at config.now reader.old) }
     ensures place { IsEnd reader.old reader.new }
 {
     Chunk::<Digest32>::read(alloc, reader, config, MAX_BLOCK)

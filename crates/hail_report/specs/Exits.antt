@@ -116,7 +116,8 @@ HasRun IsDone held written ReadFault = Unit {0}
 HasRun IsDone held written WriteFault = Unit {0}
 HasRun IsDone held written NoMemory = Unit {0}
 
--- a script that is always run is done, unless it ends in a clash, the sink fails, or memory is short
+-- a script that is always run is done, unless it ends in a clash, the sink fails, or memory is
+-- short
 abbrev pub RunsOn : {R : Type 0} → Exit R → Type 0
 RunsOn (Done r) = Unit {0}
 RunsOn (Clash earlier later) = Unit {0}

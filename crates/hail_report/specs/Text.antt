@@ -15,6 +15,7 @@ use Rattle.cw_types.specs.declared.vote.Vote.{Vote}
 use Rattle.cw_types.specs.declared.vote.Vote.TheVariants.{Notarize, Nullify, Finalize}
 use Rattle.hail_script.specs.declared.error.RunError.{RunError}
 use Rattle.hail_script.specs.declared.error.RunError.TheVariants.{Syntax, BadCommittee, UnknownMember, TooManyFaulty, OversizeBlock, HashClash, NoMemory}
+use Rattle.hail_script.specs.Views.{view_text}
 use Rattle.cw_rules.specs.Report.{Acked, Entry, Report}
 use Rattle.cw_rules.specs.World.{Sent}
 
@@ -30,11 +31,6 @@ digest_text d = encode_lower d.0
 unfoldable pub to_text : To → List ℕ
 to_text to.All = codes "all"
 to_text (to.One m) = decimal m
-
--- V, or `E/V` for a view of an epoch E above 0
-unfoldable pub view_text : ℕ → ℕ → List ℕ
-view_text epoch view =
-    if epoch == 0 then decimal view else decimal epoch ++ codes "/" ++ decimal view
 
 -- `notarize V` and so on
 unfoldable pub vote_text : Vote → List ℕ

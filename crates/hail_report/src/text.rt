@@ -9,7 +9,7 @@ ghost use Rattle.hail_report.specs.Text as spec;
 use crate::report::{Acked, Entry, Sent};
 use cw_base::{Digest32, Hasher, NoMemory};
 use cw_types::{ChainBlock, Handed, Message, To, Vote};
-use hail_script::RunError;
+use hail_script::{RunError, view_text};
 use std::alloc::Global;
 
 /// The whole text of a report, line by line: what each start gave, what each line gave, where each
@@ -182,19 +182,6 @@ fn to_text(alloc: Global, to: To) -> Result<String, NoMemory>
         To::All => text.push_str("all")?,
         To::One(member) => write!(text, "{member}")?,
     }
-    Ok(text)
-}
-
-#[tactic(auto, unfolding(crate::specs::Text::view_text))]
-fn view_text(alloc: Global, epoch: u64, view: u64) -> Result<String, NoMemory>
-    ensures { IfOk result (λ text. string_bytes text ≡ spec.view_text epoch view) }
-{
-    let mut text = String::new(alloc);
-    if epoch == 0 {
-        write!(text, "{view}")?;
-        return Ok(text);
-    }
-    write!(text, "{epoch}/{view}")?;
     Ok(text)
 }
 

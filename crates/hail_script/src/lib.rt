@@ -12,6 +12,7 @@ mod pieces;
 mod raw;
 mod script;
 mod stop;
+mod views;
 
 pub use error::RunError;
 pub use event::{Ask, AskKind, EventLine, Fault, FaultKind, LineKind};
@@ -21,3 +22,4 @@ pub use laws::script_laws;
 pub use pieces::number_of;
 pub use script::Script;
 pub use stop::Stop;
+pub use views::view_text;

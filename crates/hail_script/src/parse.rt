@@ -119,7 +119,7 @@ fn count_marked(marks: &[bool], list: &[u16]) -> usize
     count
 }
 
-fn bears(marks: &[bool], list: &[u16]) -> bool
+fn marks_bear(marks: &[bool], list: &[u16]) -> bool
     ensures { result ≡ admission.marks_bear marks.now list.now }
 {
     count_marked(marks, list) <= list.len().saturating_sub(1) / 3
@@ -130,7 +130,7 @@ pub(crate) fn bears_all(marks: &[bool], committees: &Committees) -> bool
     ensures { result ≡ list_all (admission.marks_bear marks.now) committees.now.lists }
 {
     for list in committees.lists() {
-        if !bears(marks, list.as_slice()) {
+        if !marks_bear(marks, list.as_slice()) {
             return false;
         }
     }

@@ -17,7 +17,7 @@ use Rattle.hail_world.specs.declared.place.Place.{Place}
 use Rattle.hail_world.specs.Known.{AreKnown, Knows, blocks_in}
 use Rattle.hail_world.specs.Places.{SitAs, notes_at}
 use Rattle.hail_world.specs.Runs.{HasGrown, notes_of_place}
-use Rattle.hail_world.specs.LiveNodes.{LiveNode}
+use Rattle.hail_world.specs.MemoryNodes.{MemoryNode}
 use Rattle.hail_world.proofs.Playing.{seated_notes}
 
 abbrev notes_in : List (Option Member) → List Note
@@ -30,7 +30,7 @@ blocks_is (Some m ∷ os) =
     ap (λ (l : List Block). blocks_in (member_notes m) ++ l) (blocks_is os)
     ∙ sym (filter_map-append noted_block (member_notes m) (notes_in os))
 
-pub same_notes : (ps : List (Place LiveNode)) (os : List (Option Member)) → SitAs ps os
+pub same_notes : (ps : List (Place MemoryNode)) (os : List (Option Member)) → SitAs ps os
     → map notes_at ps ≡ map notes_of_place os
 same_notes [] [] h = refl
 same_notes [] (o ∷ os) h = absurd h
@@ -39,7 +39,7 @@ same_notes (p ∷ ps) (o ∷ os) h =
     ap (λ (l : List Note). l ∷ map notes_at ps) (seated_notes p o h.0)
     ∙ ap (λ (l : List (List Note)). notes_of_place o ∷ l) (same_notes ps os h.1)
 
-own_at : (ps : List (Place LiveNode)) (os : List (Option Member)) (i : ℕ) (d : Place LiveNode)
+own_at : (ps : List (Place MemoryNode)) (os : List (Option Member)) (i : ℕ) (d : Place MemoryNode)
     → SitAs ps os
     → i < length ps → notes_in (take 1 (drop i os)) ≡ notes_at (get_or ps i d)
 own_at [] os i d h lt = absurd (omega arith)
@@ -175,7 +175,7 @@ module _ (r : Rules) (before after : World) (id old : ℕ) (known : KnownBlocks)
         λ new h. subst (λ (l : List Block). AreKnown r new (genesis r ∷ l)) (sym blocks_after) h;
   }
 
-  pub is_own : (ps : List (Place LiveNode)) (d : Place LiveNode) (own : List Note)
+  pub is_own : (ps : List (Place MemoryNode)) (d : Place MemoryNode) (own : List Note)
       → SitAs ps after.members → id < length ps → own ≡ notes_at (get_or ps id d)
       → IsOwn r before after id old known own
   is_own ps d own members lt is =

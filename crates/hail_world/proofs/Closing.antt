@@ -14,7 +14,7 @@ use Rattle.hail_world.specs.Offers.{some_of}
 use Rattle.hail_world.specs.Places.{SitAs, WorkBy, SitsAs, WorksBy}
 use Rattle.hail_world.specs.Reports.{AreNodesOf, HoldNotes, IsLiveAs, IsNodeOfMember, numbered}
 use Rattle.hail_world.specs.Runs.{HandsBack}
-use Rattle.hail_world.specs.LiveNodes.{LiveNode}
+use Rattle.hail_world.specs.MemoryNodes.{MemoryNode}
 use Rattle.hail_world.proofs.Cutting.{at_work}
 
 abbrev there : List (Option Member) → List Member
@@ -24,7 +24,7 @@ abbrev there_from : ℕ → List (Option Member) → List (ℕ × Member)
 there_from k os = filter_map numbered (enumerate_from k os)
 
 -- what is handed back of places is that of the members who are there
-abbrev pub ClosedSo : List (Place LiveNode) → List (List ℕ) → List (Option LiveNode) → Type 0
+abbrev pub ClosedSo : List (Place MemoryNode) → List (List ℕ) → List (Option MemoryNode) → Type 0
 ClosedSo ps disks nodes =
     (r : Rules) (os : List (Option Member)) → WorkBy r 0 ps → SitAs ps os
     → HoldNotes (there os) disks × AreNodesOf r (there_from 0 os) disks nodes
@@ -36,8 +36,9 @@ hold_push [] (x ∷ ds) m d h e = absurd h
 hold_push (y ∷ ms) [] m d h e = absurd h
 hold_push (y ∷ ms) (x ∷ ds) m d h e = (h.0, hold_push ms ds m d h.1 e)
 
-node_push : (r : Rules) (ms : List (ℕ × Member)) (ds : List (List ℕ)) (ns : List (Option LiveNode))
-    (m : ℕ × Member) (d : List ℕ) (n : Option LiveNode)
+node_push : (r : Rules) (ms : List (ℕ
+    × Member)) (ds : List (List ℕ)) (ns : List (Option MemoryNode))
+    (m : ℕ × Member) (d : List ℕ) (n : Option MemoryNode)
     → AreNodesOf r ms ds ns → IsLiveAs r m d n
     → AreNodesOf r (ms ++ m ∷ []) (ds ++ d ∷ []) (ns ++ n ∷ [])
 node_push r [] [] [] m d n h e = (e, tt)
@@ -48,7 +49,7 @@ node_push r (y ∷ ms) (x ∷ ds) [] m d n h e = absurd h
 node_push r (y ∷ ms) (x ∷ ds) (z ∷ ns) m d n h e = (h.0, node_push r ms ds ns m d n h.1 e)
 
 -- the last place and the others
-record Split (r : Rules) (k : ℕ) (ps : List (Place LiveNode)) (p : Place LiveNode)
+record Split (r : Rules) (k : ℕ) (ps : List (Place MemoryNode)) (p : Place MemoryNode)
     (os : List (Option Member)) : Type 0 where
   front : List (Option Member)
   last : Option Member
@@ -58,7 +59,7 @@ record Split (r : Rules) (k : ℕ) (ps : List (Place LiveNode)) (p : Place LiveN
   sound : WorksBy r (k + length front) p
   member : SitsAs p last
 
-split : (r : Rules) (k : ℕ) (ps : List (Place LiveNode)) (p : Place LiveNode)
+split : (r : Rules) (k : ℕ) (ps : List (Place MemoryNode)) (p : Place MemoryNode)
     (os : List (Option Member))
     → WorkBy r k (ps ++ p ∷ []) → SitAs (ps ++ p ∷ []) os → Split r k ps p os
 split r k [] p [] s h = absurd h
@@ -89,9 +90,9 @@ split r k (q ∷ ps) p (o ∷ os) s h =
     }
 
 -- what is handed back of one place
-one : (r : Rules) (i : ℕ) (p : Place LiveNode) (o : Option Member)
-    (closed : Option (List ℕ × Option LiveNode)) (ms : List Member) (at : List (ℕ × Member))
-    (ds : List (List ℕ)) (ns : List (Option LiveNode))
+one : (r : Rules) (i : ℕ) (p : Place MemoryNode) (o : Option Member)
+    (closed : Option (List ℕ × Option MemoryNode)) (ms : List Member) (at : List (ℕ × Member))
+    (ds : List (List ℕ)) (ns : List (Option MemoryNode))
     → WorksBy r i p → SitsAs p o → HandsBack p closed → HoldNotes ms ds → AreNodesOf r at ds ns
     → HoldNotes (ms ++ there (o ∷ [])) (ds ++ map (λ c. c.0) (some_of closed))
     × AreNodesOf r (at ++ filter_map numbered ((i, o) ∷ []))
@@ -146,9 +147,9 @@ there_push k (Some m ∷ os) o =
     (λ (i : ℕ). there_from (k + 1) os ++ filter_map numbered ((i, o) ∷ []))
     same)
 
-pub closed_more : (ps : List (Place LiveNode)) (p : Place LiveNode)
-    (closed : Option (List ℕ × Option LiveNode))
-    (ds es : List (List ℕ)) (ns ms : List (Option LiveNode))
+pub closed_more : (ps : List (Place MemoryNode)) (p : Place MemoryNode)
+    (closed : Option (List ℕ × Option MemoryNode))
+    (ds es : List (List ℕ)) (ns ms : List (Option MemoryNode))
     → ClosedSo ps ds ns → HandsBack p closed
     → es ≡ ds ++ map (λ c. c.0) (some_of closed) → ms ≡ ns ++ map (λ c. c.1) (some_of closed)
     → ClosedSo (ps ++ p ∷ []) es ms

@@ -21,12 +21,12 @@ use Rattle.hail_script.specs.declared.error.RunError.{RunError}
 use Rattle.hail_world.specs.declared.blocks.KnownBlocks.{KnownBlocks}
 use Rattle.hail_world.specs.declared.place.Place.{Place}
 use Rattle.hail_world.specs.declared.report.Report.{Report}
-use Rattle.hail_world.specs.Clusters.{Cluster, ClusterStands, IsUnderWay, row_at, rows_at, steps_in, world_in}
+use Rattle.hail_world.specs.Clusters.{Cluster, ClusterStands, IsUnderWay, line_of_turn, lines_of_turns, steps_in, world_in}
 use Rattle.hail_world.specs.Known.{AreKnown}
 use Rattle.hail_world.specs.Places.{SitAs, WorkBy, script_rules}
 use Rattle.hail_world.specs.Played.{Begin, HavePlayed, IsReportOf, lines_of}
 use Rattle.hail_world.specs.Runs.{GoesBy, IsStopped, opened}
-use Rattle.hail_world.specs.LiveNodes.{LiveNode}
+use Rattle.hail_world.specs.MemoryNodes.{MemoryNode}
 use Rattle.hail_world.proofs.Colliding.{knows_opened}
 use Rattle.hail_world.proofs.Opening.{flags_open}
 use Rattle.hail_world.proofs.Turned.{lines_more, played_none, stopped_behind}
@@ -36,12 +36,13 @@ use Rattle.hail_world.proofs.Turned.{lines_more, played_none, stopped_behind}
 -- one line more
 pub row_more : (lines : List Line) (turns : List (ℕ × ℕ)) (number at : ℕ) (line : Line)
     → slice_get lines at ≡ Some line
-    → rows_at lines (turns ++ (number, at) ∷ []) ≡ rows_at lines turns ++ (number, line) ∷ []
+    → lines_of_turns lines (turns ++ (number, at) ∷ []) ≡ lines_of_turns lines turns
+    ++ (number, line) ∷ []
 row_more lines turns number at line there =
-    filter_map-append (row_at lines) turns ((number, at) ∷ [])
-    ∙ ap (λ (l : List (ℕ × Line)). rows_at lines turns ++ l) one
+    filter_map-append (line_of_turn lines) turns ((number, at) ∷ [])
+    ∙ ap (λ (l : List (ℕ × Line)). lines_of_turns lines turns ++ l) one
   where
-    one : rows_at lines ((number, at) ∷ []) ≡ (number, line) ∷ []
+    one : lines_of_turns lines ((number, at) ∷ []) ≡ (number, line) ∷ []
     one = rw there refl
 
 -- a place below so many lines is one of a line
@@ -82,13 +83,13 @@ line_any f (l ∷ lines) (suc at) line there =
 
 -- so do lines of it
 rows_any : (f : Line → Bool) (lines : List Line) (turns : List (ℕ × ℕ))
-    → list_any f (lines_of (rows_at lines turns) ++ lines) ≡ list_any f lines
+    → list_any f (lines_of (lines_of_turns lines turns) ++ lines) ≡ list_any f lines
 rows_any f lines [] = refl
 rows_any f lines (turn ∷ turns) = go (slice_get lines turn.1) refl (rows_any f lines turns)
   where
     go : (o : Option Line) → slice_get lines turn.1 ≡ o
-        → list_any f (lines_of (rows_at lines turns) ++ lines) ≡ list_any f lines
-        → list_any f (lines_of (rows_at lines (turn ∷ turns)) ++ lines) ≡ list_any f lines
+        → list_any f (lines_of (lines_of_turns lines turns) ++ lines) ≡ list_any f lines
+        → list_any f (lines_of (lines_of_turns lines (turn ∷ turns)) ++ lines) ≡ list_any f lines
     go None there more = rw there more
     go (Some line) there more =
         rw there
@@ -125,13 +126,13 @@ same_opening r a b same =
 -- lines of a script, and one more, begin a script of its cluster: they and then all of them
 pub begins : (r : Rules) (lines : List Line) (turns : List (ℕ × ℕ)) (at : ℕ) (line : Line)
     → slice_get lines at ≡ Some line → IsCluster r lines
-    → Begin r (opening r lines) (lines_of (rows_at lines turns) ++ line ∷ [])
+    → Begin r (opening r lines) (lines_of (lines_of_turns lines turns) ++ line ∷ [])
 begins r lines turns at line there cluster =
-    let all : List Line = (lines_of (rows_at lines turns) ++ line ∷ []) ++ lines in
-    let front : lines_of (rows_at lines (turns ++ (0, at) ∷ []))
-    ≡ lines_of (rows_at lines turns) ++ line ∷ [] =
+    let all : List Line = (lines_of (lines_of_turns lines turns) ++ line ∷ []) ++ lines in
+    let front : lines_of (lines_of_turns lines (turns ++ (0, at) ∷ []))
+    ≡ lines_of (lines_of_turns lines turns) ++ line ∷ [] =
     ap (λ (l : List (ℕ × Line)). lines_of l) (row_more lines turns 0 at line there)
-    ∙ lines_more (rows_at lines turns) 0 line in
+    ∙ lines_more (lines_of_turns lines turns) 0 line in
     let same : (let p : ℕ → Bool = λ i. list_any (faults i) lines in p)
     ≡ (λ i. list_any (faults i) all) =
     fun_ext (λ i. sym
@@ -147,7 +148,7 @@ begins r lines turns at line there cluster =
 
 -- before the first line
 pub opens : (hash : List ℕ → Digest32) (travel : Travel) (s : Scenario) (opening : List Entry)
-    (turns : List (ℕ × ℕ)) (steps : List Entry) (places : List (Place LiveNode))
+    (turns : List (ℕ × ℕ)) (steps : List Entry) (places : List (Place MemoryNode))
     (known : KnownBlocks)
     (faulty : List Bool)
     → s.travel ≡ travel → opening ≡ opening_entries (script_rules hash s) s.lines → turns ≡ []
@@ -155,7 +156,8 @@ pub opens : (hash : List ℕ → Digest32) (travel : Travel) (s : Scenario) (ope
     → length places ≡ s.committees.total
     → AreKnown (script_rules hash s) known (genesis (script_rules hash s) ∷ [])
     → faulty ≡ faulty_marks s.lines s.committees.total
-    → ClusterStands hash travel s opening (rows_at s.lines turns) false steps places known faulty
+    → ClusterStands hash travel s opening (lines_of_turns s.lines turns) false steps places known
+    faulty
 opens hash travel s opening turns steps places known faulty way told no_turns no_steps members
     sound count knows flags =
     let r = script_rules hash s in
@@ -172,28 +174,29 @@ opens hash travel s opening turns steps places known faulty way told no_turns no
 
 -- behind one line more
 pub turned : (hash : List ℕ → Digest32) (travel : Travel) (s : Scenario) (opening : List Entry)
-    (turns more : List (ℕ × ℕ)) (steps told : List Entry) (places : List (Place LiveNode))
+    (turns more : List (ℕ × ℕ)) (steps told : List Entry) (places : List (Place MemoryNode))
     (known : KnownBlocks) (faulty : List Bool) (number at : ℕ) (line : Line) (entry : Entry)
     → s.travel ≡ travel → opening ≡ opening_entries (script_rules hash s) s.lines
     → slice_get s.lines at ≡ Some line
     → HavePlayed (script_rules hash s) (opened hash s)
-    (rows_at s.lines turns ++ (number, line) ∷ [])
+    (lines_of_turns s.lines turns ++ (number, line) ∷ [])
     (steps ++ entry ∷ []) places known faulty
     → WorkBy (script_rules hash s) 0 places → length places ≡ s.committees.total
     → more ≡ turns ++ (number, at) ∷ [] → told ≡ steps ++ entry ∷ []
-    → ClusterStands hash travel s opening (rows_at s.lines more) false told places known faulty
+    → ClusterStands hash travel s opening (lines_of_turns s.lines more) false told places known
+    faulty
 turned hash travel s opening turns more steps told places known faulty number at line entry way
     opens there plays sound count turn adds =
     let r = script_rules hash s in
     let w = opened hash s in
-    let rows : rows_at s.lines more ≡ rows_at s.lines turns ++ (number, line) ∷ [] =
-    ap (λ (l : List (ℕ × ℕ)). rows_at s.lines l) turn
+    let rows : lines_of_turns s.lines more ≡ lines_of_turns s.lines turns ++ (number, line) ∷ [] =
+    ap (λ (l : List (ℕ × ℕ)). lines_of_turns s.lines l) turn
     ∙ row_more s.lines turns number at line there in
-    let going : IsUnderWay hash s (rows_at s.lines more) told places known faulty =
+    let going : IsUnderWay hash s (lines_of_turns s.lines more) told places known faulty =
     record {
       played =
           subst
-          (λ (l : List Entry). HavePlayed r w (rows_at s.lines more) l places known faulty)
+          (λ (l : List Entry). HavePlayed r w (lines_of_turns s.lines more) l places known faulty)
           (sym adds)
           (subst
           (λ (l : List (ℕ × Line)). HavePlayed r w l (steps ++ entry ∷ []) places known faulty)
@@ -205,18 +208,18 @@ turned hash travel s opening turns more steps told places known faulty number at
 
 -- the same, whatever its places and marks are called
 pub same_played : (r : Rules) (w : World) (rows : List (ℕ × Line)) (steps : List Entry)
-    (places places' : List (Place LiveNode)) (known : KnownBlocks) (faulty faulty' : List Bool)
+    (places places' : List (Place MemoryNode)) (known : KnownBlocks) (faulty faulty' : List Bool)
     → places' ≡ places → faulty' ≡ faulty → HavePlayed r w rows steps places known faulty
     → HavePlayed r w rows steps places' known faulty'
 same_played r w rows steps places places' known faulty faulty' p f h =
     subst (λ (l : List Bool). HavePlayed r w rows steps places' known l) (sym f)
-    (subst (λ (l : List (Place LiveNode)). HavePlayed r w rows steps l known faulty) (sym p) h)
+    (subst (λ (l : List (Place MemoryNode)). HavePlayed r w rows steps l known faulty) (sym p) h)
 
 -- a cluster by its fields and as it is seen
 module _ (hash : List ℕ → Digest32) (s : Scenario) (turns : List (ℕ × ℕ)) (over : Bool)
     (c : Cluster)
     (is : (let k : Cluster =
-    record { script = s; rows = rows_at s.lines turns; over = over } in k)
+    record { script = s; rows = lines_of_turns s.lines turns; over = over } in k)
     ≡ c) where
   pub whole_inside : c.over ≡ false → over ≡ false
   whole_inside whole = ap (λ (k : Cluster). k.over) is ∙ whole
@@ -233,12 +236,12 @@ module _ (hash : List ℕ → Digest32) (s : Scenario) (turns : List (ℕ × ℕ
   pub seen_more : (more : List (ℕ × ℕ)) (number at : ℕ) (line : Line) → c.over ≡ false
       → slice_get c.script.lines at ≡ Some line → more ≡ turns ++ (number, at) ∷ []
       → (let k : Cluster =
-      record { script = s; rows = rows_at s.lines more; over = false } in k)
+      record { script = s; rows = lines_of_turns s.lines more; over = false } in k)
       ≡ record c { rows = c.rows ++ (number, line) ∷ [] }
   seen_more more number at line whole there turn =
       ap
       (λ (l : List (ℕ × ℕ)). let k : Cluster =
-      record { script = s; rows = rows_at s.lines l; over = false } in k)
+      record { script = s; rows = lines_of_turns s.lines l; over = false } in k)
       turn
       ∙ ap
       (λ (l : List (ℕ × Line)). let k : Cluster =
@@ -246,7 +249,12 @@ module _ (hash : List ℕ → Digest32) (s : Scenario) (turns : List (ℕ × ℕ
       (row_more s.lines turns number at line (there_inside at line there))
       ∙ ap
       (λ (o : Bool). let k : Cluster =
-      record { script = s; rows = rows_at s.lines turns ++ (number, line) ∷ []; over = o } in k)
+      record {
+        script = s;
+        rows = lines_of_turns s.lines turns ++ (number, line)
+            ∷ [];
+        over = o;
+      } in k)
       (sym (whole_inside whole))
       ∙ ap
       (λ (x : Cluster). let k : Cluster = record x { rows = x.rows ++ (number, line) ∷ [] } in k)
@@ -255,7 +263,7 @@ module _ (hash : List ℕ → Digest32) (s : Scenario) (turns : List (ℕ × ℕ
   -- a line that stops them
   pub seen_stopped : (at : ℕ) (mine line : Line) (e : RunError) → slice_get s.lines at ≡ Some mine
       → IsStopped (script_rules hash s) (opened hash s)
-      (lines_of (rows_at s.lines turns) ++ mine ∷ []) e
+      (lines_of (lines_of_turns s.lines turns) ++ mine ∷ []) e
       → slice_get c.script.lines at ≡ Some line
       → IsStopped (script_rules hash c.script) (opened hash c.script) (lines_of c.rows ++ line ∷ [])
       e
@@ -268,21 +276,22 @@ module _ (hash : List ℕ → Digest32) (s : Scenario) (turns : List (ℕ × ℕ
       is
       (subst
       (λ (l : Line). IsStopped (script_rules hash s) (opened hash s)
-      (lines_of (rows_at s.lines turns) ++ l ∷ []) e)
+      (lines_of (lines_of_turns s.lines turns) ++ l ∷ []) e)
       same h)
 
   -- the report of its lines
   pub seen_end : {H W : Type 0} (travel : Travel) (opening steps : List Entry)
-      (places : List (Place LiveNode)) (known : KnownBlocks) (faulty : List Bool)
+      (places : List (Place MemoryNode)) (known : KnownBlocks) (faulty : List Bool)
       (report : Report H W)
-      → ClusterStands hash travel s opening (rows_at s.lines turns) over steps places known faulty
+      → ClusterStands hash travel s opening (lines_of_turns s.lines turns) over steps places known
+      faulty
       → c.over ≡ false
       → ((r : Rules) (w : World) → GoesBy hash r → WorkBy r 0 places → SitAs places w.members
       → IsReportOf r w opening steps report)
       → IsReportOf (script_rules hash c.script) (world_in hash c)
       (opening_entries (script_rules hash c.script) c.script.lines) (steps_in hash c) report
   seen_end travel opening steps places known faulty report h whole told =
-      let k : Cluster = record { script = s; rows = rows_at s.lines turns; over = over } in
+      let k : Cluster = record { script = s; rows = lines_of_turns s.lines turns; over = over } in
       let u = h.2 (whole_inside whole) in
       let r = script_rules hash s in
       let w : World = world_in hash k in

@@ -11,12 +11,13 @@ use Rattle.cw_types.specs.declared.vote.Vote.{Vote}
 use Rattle.cw_rules.specs.Rules.{Rules}
 use Rattle.cw_rules.specs.Step.{Member, Stepped, add_frame, cut_step, state_of, step, step_notes, stopped, taken}
 use Rattle.marshal.specs.Frames.{FindsNotes, ReadBack, frame_bytes, note_frames}
+use Rattle.node.specs.State.{notes_of_step}
 use Rattle.node_disk.specs.Cut.{IsArmed, kept_frames, leaves_it}
 use Rattle.node_disk.specs.Disk.{DeviceCall, IsCutShort}
 use Rattle.node_disk.specs.Frames.{Finds}
 use Rattle.node_disk.specs.Log.{HasAppended, LogState, WasCutShort, calls_of_append}
 use Rattle.node_disk.specs.Memory.{Continues, MemoryState, memory_state}
-use Rattle.hail_world.specs.LiveNodes.{HasStepped, LiveNode, WasStopped, Works, live_step_notes, out_of, with_stop}
+use Rattle.hail_world.specs.MemoryNodes.{HasStepped, MemoryNode, WasStopped, Works, out_of, with_stop}
 
 -- ---- frames that are read
 
@@ -26,7 +27,7 @@ pub on_disk : (frames : List (List Note)) (bytes : List ℕ) → Finds (map fram
 on_disk frames bytes found back = ap note_frames found ∙ back
 
 -- the frames of a node that works are on its disk
-pub at_work : (s : LiveNode) → Works s
+pub at_work : (s : MemoryNode) → Works s
     → FindsNotes s.member.frames (memory_state s.log.disk).now.seen
 at_work s works =
     on_disk s.member.frames (memory_state s.log.disk).now.seen (rw works.frames at works.found)
@@ -114,24 +115,24 @@ short_cut : (r : Rules) (id : ℕ) (signed : ℕ → Vote → Bool) (m : Member)
 short_cut r id signed m a c x e t = rw t refl
 
 -- where the step's notes are written behind the stop, or there are none
-pub cut_whole : (r : Rules) (signed : ℕ → Vote → Bool) (e : Event) (s new : LiveNode)
+pub cut_whole : (r : Rules) (signed : ℕ → Vote → Bool) (e : Event) (s new : MemoryNode)
     (out : StepOut)
     (a c x : ℕ)
-    → (0 < length (frame_bytes (live_step_notes r signed e s)) → 4 < a)
+    → (0 < length (frame_bytes (notes_of_step r signed s e)) → 4 < a)
     → HasStepped r signed e (with_stop a c x s) new out
     → IsCut (cut_step r s.id signed s.member a c x e) new.log.disk out
-cut_whole r signed e s new out a c x past h = go (live_step_notes r signed e s) refl
+cut_whole r signed e s new out a c x past h = go (notes_of_step r signed s e) refl
   where
-    behind : (ns : List Note) → live_step_notes r signed e s ≡ ns
-        → ((length (live_step_notes r signed e s) == 0) || nat_lt 4 a) ≡ true
+    behind : (ns : List Note) → notes_of_step r signed s e ≡ ns
+        → ((length (notes_of_step r signed s e) == 0) || nat_lt 4 a) ≡ true
     behind [] is = rw is refl
     behind (n ∷ ns) is =
-        let some : 0 < length (frame_bytes (live_step_notes r signed e s)) =
+        let some : 0 < length (frame_bytes (notes_of_step r signed s e)) =
         rw is (before (note_bytes n) (frame_bytes ns) (some_bytes n)) in
         let far : 4 < a = past some in
-        or_true (length (live_step_notes r signed e s) == 0) (nat_lt 4 a) (grind (arith, nat_tests))
+        or_true (length (notes_of_step r signed s e) == 0) (nat_lt 4 a) (grind (arith, nat_tests))
 
-    go : (ns : List Note) → live_step_notes r signed e s ≡ ns
+    go : (ns : List Note) → notes_of_step r signed s e ≡ ns
         → IsCut (cut_step r s.id signed s.member a c x e) new.log.disk out
     go ns is =
         rw (whole_cut r s.id signed s.member a c x e (behind ns is)) (
@@ -142,21 +143,21 @@ cut_whole r signed e s new out a c x past h = go (live_step_notes r signed e s) 
         )
 
 -- where the disk cut it short
-pub cut_short : (r : Rules) (signed : ℕ → Vote → Bool) (e : Event) (s new : LiveNode) (a c x : ℕ)
+pub cut_short : (r : Rules) (signed : ℕ → Vote → Bool) (e : Event) (s new : MemoryNode) (a c x : ℕ)
     → Works s → 0 < a
     → (a ≤ 4)
-    × Finds (kept_frames a c x s.log.frames (frame_bytes (live_step_notes r signed e s)))
+    × Finds (kept_frames a c x s.log.frames (frame_bytes (notes_of_step r signed s e)))
     (memory_state new.log.disk).now.seen
     → WasStopped r signed e (with_stop a c x s) new
     → IsCut (cut_step r s.id signed s.member a c x e) new.log.disk
     (record { sent = []; handed = []; tickets = [] })
-cut_short r signed e s new a c x works low law h = go (live_step_notes r signed e s) refl
+cut_short r signed e s new a c x works low law h = go (notes_of_step r signed s e) refl
   where
-    test : (n : Note) (ns : List Note) → live_step_notes r signed e s ≡ n ∷ ns
-        → ((length (live_step_notes r signed e s) == 0) || nat_lt 4 a) ≡ false
+    test : (n : Note) (ns : List Note) → notes_of_step r signed s e ≡ n ∷ ns
+        → ((length (notes_of_step r signed s e) == 0) || nat_lt 4 a) ≡ false
     test n ns is = let high : a ≤ 4 = law.0 in rw is (grind (arith, nat_tests))
 
-    kept : (n : Note) (ns : List Note) → live_step_notes r signed e s ≡ n ∷ ns → (keep : Bool)
+    kept : (n : Note) (ns : List Note) → notes_of_step r signed s e ≡ n ∷ ns → (keep : Bool)
         → leaves_it a c x ≡ keep → (nat_lt 2 a && (nat_lt 0 c || (x == 1))) ≡ keep
         → FindsNotes
         (if nat_lt 2 a && (nat_lt 0 c || (x == 1))
@@ -184,7 +185,7 @@ cut_short r signed e s new a c x works low law h = go (live_step_notes r signed 
         works.frames found)
         works.readable)
 
-    go : (ns : List Note) → live_step_notes r signed e s ≡ ns
+    go : (ns : List Note) → notes_of_step r signed s e ≡ ns
         → IsCut (cut_step r s.id signed s.member a c x e) new.log.disk
         (record { sent = []; handed = []; tickets = [] })
     go [] is =

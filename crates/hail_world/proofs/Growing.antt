@@ -18,7 +18,7 @@ use Rattle.hail_world.specs.declared.place.Place.{Place}
 use Rattle.hail_world.specs.declared.place.Place.TheVariants as place
 use Rattle.hail_world.specs.Places.{SitAs, SitsAs, notes_at}
 use Rattle.hail_world.specs.Runs.{HasGrown, notes_of_place}
-use Rattle.hail_world.specs.LiveNodes.{LiveNode}
+use Rattle.hail_world.specs.MemoryNodes.{MemoryNode}
 use Rattle.hail_world.proofs.Playing.{seated_notes}
 
 -- ---- what is done only adds notes
@@ -206,14 +206,14 @@ line_grown r w (rule.Faulty i fault) old o at count =
     same_grown w (happens r w (rule.Faulty i fault)) i old o refl at count
 
 -- who sits in a place, and the member that it is
-record IsSeated (ps : List (Place LiveNode)) (os : List (Option Member)) (i : ℕ) : Type 0 where
-  place : Place LiveNode
+record IsSeated (ps : List (Place MemoryNode)) (os : List (Option Member)) (i : ℕ) : Type 0 where
+  place : Place MemoryNode
   member : Option Member
   live_node : slice_get ps i ≡ Some place
   there : slice_get os i ≡ Some member
   is : SitsAs place member
 
-seated : (ps : List (Place LiveNode)) (os : List (Option Member)) (i : ℕ) → SitAs ps os
+seated : (ps : List (Place MemoryNode)) (os : List (Option Member)) (i : ℕ) → SitAs ps os
     → i < length ps
     → IsSeated ps os i
 seated [] os i h lt = absurd (omega arith)
@@ -231,9 +231,9 @@ seated (p ∷ ps) (o ∷ os) (suc i) h lt =
     }
 
 -- a line adds notes to its member's alone
-pub grown : (r : Rules) (w : World) (line : Line) (ps : List (Place LiveNode)) (i old : ℕ)
+pub grown : (r : Rules) (w : World) (line : Line) (ps : List (Place MemoryNode)) (i old : ℕ)
     → SitAs ps w.members → i < length ps → i ≡ line_member line
-    → ((p : Place LiveNode) → slice_get ps i ≡ Some p → old ≡ length (notes_at p))
+    → ((p : Place MemoryNode) → slice_get ps i ≡ Some p → old ≡ length (notes_at p))
     → HasGrown w (happens r w line) i old
 grown r w line ps i old members lt named count =
     let at = seated ps w.members i members lt in

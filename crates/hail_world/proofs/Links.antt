@@ -26,7 +26,7 @@ use Rattle.cw_rules.specs.World.{World}
 use Rattle.hail_world.specs.declared.place.Place.{Place}
 use Rattle.hail_world.specs.Places.{SitAs, notes_at}
 use Rattle.hail_world.specs.Runs.{GoesBy, first_named, notes_of_place, under}
-use Rattle.hail_world.specs.LiveNodes.{LiveNode}
+use Rattle.hail_world.specs.MemoryNodes.{MemoryNode}
 use Rattle.hail_world.proofs.Clashes.{same_notes}
 
 -- genesis by the rules is the first block
@@ -57,7 +57,7 @@ all_of [] = refl
 all_of (None ∷ os) = all_of os
 all_of (Some m ∷ os) = ap (λ (l : List Note). member_notes m ++ l) (all_of os)
 
-pub notes_are : (ps : List (Place LiveNode)) (w : World) → SitAs ps w.members
+pub notes_are : (ps : List (Place MemoryNode)) (w : World) → SitAs ps w.members
     → flat_map (λ notes. notes) (map notes_at ps) ≡ all_notes w
 notes_are ps w h =
     ap (λ (l : List (List Note)). flat_map (λ notes. notes) l) (same_notes ps w.members h)
@@ -67,7 +67,7 @@ abbrev if_first : Bool → Block → Option Block → Option Block
 if_first b a o = cond b (Some a) o
 
 -- the block under a commitment, by what the notes at the places give
-pub under_is : (hash : List ℕ → Digest32) (r : Rules) (w : World) (ps : List (Place LiveNode))
+pub under_is : (hash : List ℕ → Digest32) (r : Rules) (w : World) (ps : List (Place MemoryNode))
     (c : Commitment)
     → GoesBy hash r → SitAs ps w.members
     → first_named hash (map notes_at ps) c ≡ block_under r w c

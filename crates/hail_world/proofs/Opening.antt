@@ -13,13 +13,13 @@ use Rattle.hail_report.proofs.Numbered.{map_joined, range_more}
 use Rattle.hail_world.specs.declared.place.Place.{Place}
 use Rattle.hail_world.specs.Offers.{some_of}
 use Rattle.hail_world.specs.Places.{SitAs, SitsAs, WorkBy, WorksBy, is_faulty_member}
-use Rattle.hail_world.specs.Runs.{seat_of}
-use Rattle.hail_world.specs.LiveNodes.{LiveNode}
+use Rattle.hail_world.specs.Runs.{opening_member}
+use Rattle.hail_world.specs.MemoryNodes.{MemoryNode}
 
 -- the places up to a number, and their entries
-pub record AreOpened (r : Rules) (lines : List Line) (n : ℕ) (places : List (Place LiveNode))
+pub record AreOpened (r : Rules) (lines : List Line) (n : ℕ) (places : List (Place MemoryNode))
     (entries : List Entry) : Type 0 where
-  pub members : SitAs places (map (seat_of r lines) (range_with_len 0 n))
+  pub members : SitAs places (map (opening_member r lines) (range_with_len 0 n))
   pub sound : WorkBy r 0 places
   pub count : length places ≡ n
   pub told : entries ≡ filter_map (opening_entry r lines) (range_with_len 0 n)
@@ -27,7 +27,7 @@ pub record AreOpened (r : Rules) (lines : List Line) (n : ℕ) (places : List (P
 pub opened_none : (r : Rules) (lines : List Line) → AreOpened r lines 0 [] []
 opened_none r lines = record { members = tt; sound = tt; count = refl; told = refl }
 
-members_push : (ps : List (Place LiveNode)) (os : List (Option Member)) (p : Place LiveNode)
+members_push : (ps : List (Place MemoryNode)) (os : List (Option Member)) (p : Place MemoryNode)
     (o : Option Member)
     → SitAs ps os → SitsAs p o → SitAs (ps ++ p ∷ []) (os ++ o ∷ [])
 members_push [] [] p o h m = (m, tt)
@@ -35,7 +35,8 @@ members_push [] (x ∷ os) p o h m = absurd h
 members_push (q ∷ ps) [] p o h m = absurd h
 members_push (q ∷ ps) (x ∷ os) p o h m = (h.0, members_push ps os p o h.1 m)
 
-sound_push : (r : Rules) (k n : ℕ) (ps : List (Place LiveNode)) (p : Place LiveNode) → WorkBy r k ps
+sound_push : (r : Rules) (k n : ℕ) (ps : List (Place MemoryNode)) (p : Place MemoryNode)
+    → WorkBy r k ps
     → k + length ps ≡ n → WorksBy r n p → WorkBy r k (ps ++ p ∷ [])
 sound_push r k n [] p h e s =
     let same : n ≡ k = omega (arith, e) in (subst (λ (j : ℕ). WorksBy r j p) same s, tt)
@@ -55,10 +56,10 @@ one_entry r lines n = go (list_any (faults n) lines) refl
     go false e = rw e refl
 
 -- one place more
-pub opened_more : (r : Rules) (lines : List Line) (n : ℕ) (old new : List (Place LiveNode))
-    (before after : List Entry) (p : Place LiveNode) (e : Option Entry)
+pub opened_more : (r : Rules) (lines : List Line) (n : ℕ) (old new : List (Place MemoryNode))
+    (before after : List Entry) (p : Place MemoryNode) (e : Option Entry)
     → AreOpened r lines n old before
-    → SitsAs p (seat_of r lines n) → WorksBy r n p → e ≡ opening_entry r lines n
+    → SitsAs p (opening_member r lines n) → WorksBy r n p → e ≡ opening_entry r lines n
     → new ≡ old ++ p ∷ [] → after ≡ before ++ some_of e → AreOpened r lines (n + 1) new after
 opened_more r lines n old new before after p e h member sound tells places entries =
     let next : n + 1 ≡ suc n = omega arith in
@@ -66,10 +67,10 @@ opened_more r lines n old new before after p e h member sound tells places entri
     let range : range_with_len 0 (n + 1) ≡ range_with_len 0 n ++ n ∷ [] =
     ap (λ (k : ℕ). range_with_len 0 k) next ∙ range_more 0 n
     ∙ ap (λ (k : ℕ). range_with_len 0 n ++ k ∷ []) none in
-    let whole : map (seat_of r lines) (range_with_len 0 (n + 1))
-    ≡ map (seat_of r lines) (range_with_len 0 n) ++ seat_of r lines n ∷ [] =
-    ap (λ (l : List ℕ). map (seat_of r lines) l) range
-    ∙ map_joined (seat_of r lines) (range_with_len 0 n) n in
+    let whole : map (opening_member r lines) (range_with_len 0 (n + 1))
+    ≡ map (opening_member r lines) (range_with_len 0 n) ++ opening_member r lines n ∷ [] =
+    ap (λ (l : List ℕ). map (opening_member r lines) l) range
+    ∙ map_joined (opening_member r lines) (range_with_len 0 n) n in
     let told : filter_map (opening_entry r lines) (range_with_len 0 (n + 1))
     ≡ filter_map (opening_entry r lines) (range_with_len 0 n)
     ++ some_of (opening_entry r lines n) =
@@ -81,17 +82,18 @@ opened_more r lines n old new before after p e h member sound tells places entri
     record {
       members =
           subst
-          (λ (l : List (Place LiveNode)). SitAs l
-          (map (seat_of r lines) (range_with_len 0 (n + 1))))
+          (λ (l : List (Place MemoryNode)). SitAs l
+          (map (opening_member r lines) (range_with_len 0 (n + 1))))
           (sym places)
           (subst (λ (l : List (Option Member)). SitAs (old ++ p ∷ []) l) (sym whole)
-          (members_push old (map (seat_of r lines) (range_with_len 0 n)) p (seat_of r lines n)
+          (members_push old (map (opening_member r lines) (range_with_len 0 n)) p
+          (opening_member r lines n)
           h.members member));
       sound =
-          subst (λ (l : List (Place LiveNode)). WorkBy r 0 l) (sym places)
+          subst (λ (l : List (Place MemoryNode)). WorkBy r 0 l) (sym places)
           (sound_push r 0 n old p h.sound (omega (arith, count)) sound);
       count =
-          ap (λ (l : List (Place LiveNode)). length l) places ∙ long_push old p
+          ap (λ (l : List (Place MemoryNode)). length l) places ∙ long_push old p
           ∙ ap (λ (k : ℕ). k + 1) count;
       told =
           entries ∙ ap (λ (o : Option Entry). before ++ some_of o) tells
@@ -122,7 +124,7 @@ marked_is lines total n faulty all lt =
 
 -- the entry and the live_node of a faulty member, and of another
 pub faulty_entry : (r : Rules) (lines : List Line) (n : ℕ) → list_any (faults n) lines ≡ true
-    → (opening_entry r lines n ≡ None) × (seat_of r lines n ≡ None)
+    → (opening_entry r lines n ≡ None) × (opening_member r lines n ≡ None)
 faulty_entry r lines n e = (rw e refl, rw e refl)
 
 pub honest_entry : (r : Rules) (lines : List Line) (n : ℕ) → list_any (faults n) lines ≡ false
@@ -133,24 +135,25 @@ pub honest_entry : (r : Rules) (lines : List Line) (n : ℕ) → list_any (fault
       sent = [];
       handed = (start r n []).handed;
     }))
-    × (seat_of r lines n ≡ Some (start r n []).member)
+    × (opening_member r lines n ≡ Some (start r n []).member)
 honest_entry r lines n e = (rw e refl, rw e refl)
 
--- the marks are those of the live_nodes
+-- the marks are those of the memory_nodes
 pub flags_open : (r : Rules) (lines : List Line) (total : ℕ)
-    → faulty_marks lines total ≡ map is_none (map (seat_of r lines) (range_with_len 0 total))
+    → faulty_marks lines total ≡ map is_none (map (opening_member r lines) (range_with_len 0 total))
 flags_open r lines total = all (range_with_len 0 total)
   where
-    one : (i : ℕ) → is_faulty_in lines i ≡ is_none (seat_of r lines i)
+    one : (i : ℕ) → is_faulty_in lines i ≡ is_none (opening_member r lines i)
     one i = go (list_any (faults i) lines) refl
       where
         go : (t : Bool) → list_any (faults i) lines ≡ t
-            → is_faulty_in lines i ≡ is_none (seat_of r lines i)
+            → is_faulty_in lines i ≡ is_none (opening_member r lines i)
         go true e = rw e refl
         go false e = rw e refl
 
-    all : (is : List ℕ) → map (is_faulty_in lines) is ≡ map is_none (map (seat_of r lines) is)
+    all : (is : List ℕ)
+        → map (is_faulty_in lines) is ≡ map is_none (map (opening_member r lines) is)
     all [] = refl
     all (i ∷ is) =
         ap (λ (b : Bool). b ∷ map (is_faulty_in lines) is) (one i)
-        ∙ ap (λ (l : List Bool). is_none (seat_of r lines i) ∷ l) (all is)
+        ∙ ap (λ (l : List Bool). is_none (opening_member r lines i) ∷ l) (all is)

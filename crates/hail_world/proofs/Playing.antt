@@ -22,12 +22,12 @@ use Rattle.hail_world.specs.declared.place.Place.{Place}
 use Rattle.hail_world.specs.declared.place.Place.TheVariants as place
 use Rattle.hail_world.specs.Honest.{IsHonest, IsPlaced}
 use Rattle.hail_world.specs.Places.{IsTurn, Makes, SitAs, SitsAs, WorkBy, WorksBy, found_at, is_faulty_member, notes_at, table, turned_by, world_of_pool}
-use Rattle.hail_world.specs.LiveNodes.{LiveNode, out_of}
+use Rattle.hail_world.specs.MemoryNodes.{MemoryNode, out_of}
 use Rattle.hail_world.specs.Runs.{notes_of_place}
 
 -- ---- places
 
-pub sound_at : (r : Rules) (k : ℕ) (ps : List (Place LiveNode)) (i : ℕ) (d : Place LiveNode)
+pub sound_at : (r : Rules) (k : ℕ) (ps : List (Place MemoryNode)) (i : ℕ) (d : Place MemoryNode)
     → WorkBy r k ps
     → i < length ps → WorksBy r (k + i) (get_or ps i d)
 sound_at r k [] i d h lt = absurd (omega arith)
@@ -38,7 +38,7 @@ sound_at r k (p ∷ ps) (suc i) d h lt =
     subst (λ (j : ℕ). WorksBy r j (get_or ps i d)) same
     (sound_at r (k + 1) ps i d h.1 (omega arith))
 
-pub sound_set : (r : Rules) (k : ℕ) (ps : List (Place LiveNode)) (i : ℕ) (p : Place LiveNode)
+pub sound_set : (r : Rules) (k : ℕ) (ps : List (Place MemoryNode)) (i : ℕ) (p : Place MemoryNode)
     → WorkBy r k ps → WorksBy r (k + i) p → WorkBy r k (slice_set ps i p)
 sound_set r k [] i p h s = tt
 sound_set r k (x ∷ ps) zero p h s =
@@ -48,13 +48,13 @@ sound_set r k (x ∷ ps) (suc i) p h s =
     (h.0, sound_set r (k + 1) ps i p h.1 (subst (λ (j : ℕ). WorksBy r j p) same s))
 
 -- the member in a place
-pub record HasMember (os : List (Option Member)) (i : ℕ) (p : Place LiveNode) : Type 0 where
+pub record HasMember (os : List (Option Member)) (i : ℕ) (p : Place MemoryNode) : Type 0 where
   pub member : Option Member
   pub there : slice_get os i ≡ Some member
   pub is : SitsAs p member
 
-pub member_in : (ps : List (Place LiveNode)) (os : List (Option Member)) (i : ℕ)
-    (d : Place LiveNode)
+pub member_in : (ps : List (Place MemoryNode)) (os : List (Option Member)) (i : ℕ)
+    (d : Place MemoryNode)
     → SitAs ps os → i < length ps → HasMember os i (get_or ps i d)
 member_in [] os i d h lt = absurd (omega arith)
 member_in (p ∷ ps) [] i d h lt = absurd h
@@ -63,8 +63,8 @@ member_in (p ∷ ps) (o ∷ os) (suc i) d h lt =
     let more = member_in ps os i d h.1 (omega arith) in
     record { member = more.member; there = more.there; is = more.is }
 
-pub members_set : (ps : List (Place LiveNode)) (os : List (Option Member)) (i : ℕ)
-    (p : Place LiveNode)
+pub members_set : (ps : List (Place MemoryNode)) (os : List (Option Member)) (i : ℕ)
+    (p : Place MemoryNode)
     (o : Option Member)
     → SitAs ps os → SitsAs p o → SitAs (slice_set ps i p) (slice_set os i o)
 members_set [] [] i p o h m = tt
@@ -74,7 +74,7 @@ members_set (y ∷ ps) (x ∷ os) zero p o h m = (m, h.1)
 members_set (y ∷ ps) (x ∷ os) (suc i) p o h m = (h.0, members_set ps os i p o h.1 m)
 
 -- a place has noted what its member has
-pub seated_notes : (p : Place LiveNode) (o : Option Member) → SitsAs p o → notes_at p
+pub seated_notes : (p : Place MemoryNode) (o : Option Member) → SitsAs p o → notes_at p
     ≡ notes_of_place o
 seated_notes place.Faulty None h = refl
 seated_notes place.Faulty (Some x) h = absurd h
@@ -84,7 +84,7 @@ seated_notes (place.Stopped disk notes) None h = absurd h
 seated_notes (place.Stopped disk notes) (Some x) h = h.2
 
 -- there are as many members as places
-pub sit_as_many : (ps : List (Place LiveNode)) (os : List (Option Member)) → SitAs ps os
+pub sit_as_many : (ps : List (Place MemoryNode)) (os : List (Option Member)) → SitAs ps os
     → length os ≡ length ps
 sit_as_many [] [] h = refl
 sit_as_many [] (o ∷ os) h = absurd h
@@ -167,12 +167,12 @@ entry_is r w number (rule.Cut a c s m ask) h = refl
 entry_is r w number (rule.Restart m) h = refl
 entry_is r w number (rule.Faulty m fault) h = absurd h
 
-notes_is : (p : Place LiveNode) (x : Member) → SitsAs p (Some x) → notes_at p ≡ member_notes x
+notes_is : (p : Place MemoryNode) (x : Member) → SitsAs p (Some x) → notes_at p ≡ member_notes x
 notes_is place.Faulty x h = absurd h
 notes_is (place.Live m) x h = ap member_notes h
 notes_is (place.Stopped disk notes) x h = h.2
 
-found_is : (w : World) (e : rule.Line) (p : Place LiveNode) (done : Stepped)
+found_is : (w : World) (e : rule.Line) (p : Place MemoryNode) (done : Stepped)
     → SitsAs p (Some done.member) → found_at e p (Some (out_of done)) ≡ found_by w e done
 found_is w (rule.Do m ask) p done h = refl
 found_is w (rule.Cut a c s m ask) p done h = refl
@@ -180,7 +180,7 @@ found_is w (rule.Restart m) p done h =
     ap (λ (n : List Note). let o : Option ℕ = Some (length n) in o) (notes_is p done.member h)
 found_is w (rule.Faulty m fault) p done h = refl
 
-found_none : (e : rule.Line) (p : Place LiveNode) → found_at e p None ≡ None
+found_none : (e : rule.Line) (p : Place MemoryNode) → found_at e p None ≡ None
 found_none (rule.Do m ask) p = refl
 found_none (rule.Cut a c s m ask) p = refl
 found_none (rule.Restart m) p = refl
@@ -195,8 +195,8 @@ is_honest (kind.Restart m) h = tt
 is_honest (kind.Faulty m f) h = h m f refl
 
 -- a member's line, from what it made of who sits in its place
-pub turn_is : (r : Rules) (w : World) (number : ℕ) (e : rule.Line) (ps : List (Place LiveNode))
-    (p : Place LiveNode) (out : Option StepOut) (o : Option Member) (pool : List Sent)
+pub turn_is : (r : Rules) (w : World) (number : ℕ) (e : rule.Line) (ps : List (Place MemoryNode))
+    (p : Place MemoryNode) (out : Option StepOut) (o : Option Member) (pool : List Sent)
     (entry : Entry)
     → IsHonest e
     → slice_get w.members (rule.line_member e) ≡ Some o → SitAs ps w.members
@@ -305,23 +305,23 @@ get_at (x ∷ xs) zero d lt = refl
 get_at (x ∷ xs) (suc i) d lt = get_at xs i d (omega arith)
 
 -- who sits in a place that is taken out
-pub taken_sound : (r : Rules) (ps : List (Place LiveNode)) (i j : ℕ) (d p : Place LiveNode)
+pub taken_sound : (r : Rules) (ps : List (Place MemoryNode)) (i j : ℕ) (d p : Place MemoryNode)
     → WorkBy r 0 ps
     → i < length ps → j ≡ i → p ≡ get_or ps j d → WorksBy r i p
 taken_sound r ps i j d p h lt same is =
     let none : 0 + i ≡ i = omega arith in
     rw (is, same) (subst (λ (k : ℕ). WorksBy r k (get_or ps i d)) none (sound_at r 0 ps i d h lt))
 
-pub put_back : (r : Rules) (ps : List (Place LiveNode)) (i j k : ℕ) (x p : Place LiveNode)
+pub put_back : (r : Rules) (ps : List (Place MemoryNode)) (i j k : ℕ) (x p : Place MemoryNode)
     → WorkBy r 0 ps
     → j ≡ i → k ≡ i → WorksBy r i p → WorkBy r 0 (slice_set (slice_set ps j x) k p)
 put_back r ps i j k x p h a b s =
     let none : i ≡ 0 + i = omega arith in
     rw (a, b, set-set ps i x p) (sound_set r 0 ps i p h (subst (λ (n : ℕ). WorksBy r n p) none s))
 
-pub placed : (r : Rules) (faulty : List Bool) (pool : List Sent) (ps : List (Place LiveNode))
+pub placed : (r : Rules) (faulty : List Bool) (pool : List Sent) (ps : List (Place MemoryNode))
     (j k : ℕ)
-    (d p x new : Place LiveNode) (e : rule.Line) (found : Option ℕ) (out : Option StepOut)
+    (d p x new : Place MemoryNode) (e : rule.Line) (found : Option ℕ) (out : Option StepOut)
     → rule.line_member e < length ps → j ≡ rule.line_member e → k ≡ rule.line_member e
     → p ≡ get_or ps j d → found ≡ found_at e new out
     → ((o : Option Member) → SitsAs p o
@@ -335,7 +335,7 @@ placed r faulty pool ps j k d p x new e found out lt a b is finds makes = record
   after = new;
   was =
       get_at ps (rule.line_member e) d lt
-      ∙ ap (λ (q : Place LiveNode). let o : Option (Place LiveNode) = Some q in o)
+      ∙ ap (λ (q : Place MemoryNode). let o : Option (Place MemoryNode) = Some q in o)
       (sym (is ∙ ap (λ (n : ℕ). get_or ps n d) a));
   becomes = rw (a, b) (set-set ps (rule.line_member e) x new);
   finds = finds;
@@ -343,20 +343,21 @@ placed r faulty pool ps j k d p x new e found out lt a b is finds makes = record
 }
 
 -- what stands at a place
-pub at_place : (ps : List (Place LiveNode)) (os : List (Option Member)) (i : ℕ) (p : Place LiveNode)
+pub at_place : (ps : List (Place MemoryNode)) (os : List (Option Member)) (i : ℕ)
+    (p : Place MemoryNode)
     → SitAs ps os → slice_get ps i ≡ Some p → HasMember os i p
 at_place [] os i p h e = absurd (let no : None ≡ Some p = e in cc)
 at_place (q ∷ ps) [] i p h e = absurd h
 at_place (q ∷ ps) (o ∷ os) zero p h e =
     let same : q ≡ p = (let s : Some q ≡ Some p = e in cc) in
-    record { member = o; there = refl; is = subst (λ (x : Place LiveNode). SitsAs x o) same h.0 }
+    record { member = o; there = refl; is = subst (λ (x : Place MemoryNode). SitsAs x o) same h.0 }
 at_place (q ∷ ps) (o ∷ os) (suc i) p h e =
     let more = at_place ps os i p h.1 e in
     record { member = more.member; there = more.there; is = more.is }
 
 -- a member's line, from what became of its place
 pub member_turn : (r : Rules) (w : World) (number i : ℕ) (e : rule.Line) (faulty : List Bool)
-    (old new : List (Place LiveNode)) (found : Option ℕ) (out : Option StepOut)
+    (old new : List (Place MemoryNode)) (found : Option ℕ) (out : Option StepOut)
     (before pool : List Sent) (entry : Entry)
     → IsHonest e → i ≡ rule.line_member e → IsPlaced r faulty before e old new found out
     → SitAs old w.members → before ≡ w.pool → faulty ≡ map is_none w.members
@@ -413,7 +414,7 @@ member_turn r w number i e faulty old new found out before pool entry honest nam
     let done =
     turn_is r w number e old h.after out at.member pool entry honest at.there members makes mine
     sent in
-    subst (λ (l : List (Place LiveNode)). IsTurn r w number e l pool entry) (sym h.becomes) done
+    subst (λ (l : List (Place MemoryNode)). IsTurn r w number e l pool entry) (sym h.becomes) done
 
 -- what a faulty member sends is asked for over the messages alone
 sends_over : (r : Rules) (w : World) (a : ℕ) (f : rule.Fault)
@@ -446,7 +447,7 @@ fault_entry w number m f sent d =
 
 -- a faulty member's line
 pub fault_turn : (r : Rules) (w : World) (number i : ℕ) (m : ℕ) (f : rule.Fault)
-    (places : List (Place LiveNode)) (before pool : List Sent) (entry : Entry)
+    (places : List (Place MemoryNode)) (before pool : List Sent) (entry : Entry)
     → i ≡ m → SitAs places w.members → before ≡ w.pool
     → entry ≡ record {
       line = number;

@@ -14,15 +14,15 @@ use Rattle.cw_rules.specs.declared.travel.Travel.{Travel}
 use Rattle.cw_rules_coded.specs.Coded.{ruled}
 use Rattle.marshal.specs.Frames.{FindsNotes}
 use Rattle.node.specs.Disks.{HasFound, HasTried}
-use Rattle.node.specs.State.{IsNodeOf, IsSameNode, stepped}
+use Rattle.node.specs.State.{IsNodeOf, IsSameNode, notes_of_step, stepped}
 use Rattle.node_disk.specs.Memory.{Continues, MemoryState, memory_state}
 use Rattle.node_disk.specs.declared.log.StoreError.{StoreError}
 use Rattle.node_disk.specs.declared.log.StoreError.TheVariants as store
-use Rattle.hail_world.specs.LiveNodes.{HasStarted, HasStepped, LiveNode, WasStopped, Works, live_step_notes, out_of, rules_by}
+use Rattle.hail_world.specs.MemoryNodes.{HasStarted, HasStepped, MemoryNode, WasStopped, Works, out_of, rules_by}
 
 pub started : (travel : Travel) (hash : List ℕ → Digest32) (id : ℕ) (epochs : Epochs) (backlog : ℕ)
     (app : AcceptAll)
-    (frames : List (List Note)) (disk : MemoryState) (new : LiveNode) (out : StepOut)
+    (frames : List (List Note)) (disk : MemoryState) (new : MemoryNode) (out : StepOut)
     → new.travel ≡ travel → IsNodeOf id epochs backlog app new
     → stepped new.member out ≡ start (rules_by hash new) id new.member.frames → Works new
     → HasFound memory_state Continues new.member.frames disk new.log.disk
@@ -48,17 +48,17 @@ started travel hash id epochs backlog app frames disk new out way is starts work
     }
 
 -- the same node goes by the same rules
-by_same : (hash : List ℕ → Digest32) (old new : LiveNode) → IsSameNode old new
+by_same : (hash : List ℕ → Digest32) (old new : MemoryNode) → IsSameNode old new
     → rules_by hash new ≡ rules_by hash old
 by_same hash old new same = rw (same.travel, same.epochs, same.backlog) refl
 
-pub steps : (hash : List ℕ → Digest32) (signed : ℕ → Vote → Bool) (e : Event) (old new : LiveNode)
+pub steps : (hash : List ℕ → Digest32) (signed : ℕ → Vote → Bool) (e : Event) (old new : MemoryNode)
     (result : Result StepOut StoreError)
     → IfOk result
     (λ out. stepped new.member out ≡ step (rules_by hash old) old.id signed old.member e)
     → IsSameNode old new → OnOk result (Works new)
     → HasTried memory_state Continues old.member.frames
-    (live_step_notes (rules_by hash old) signed e old) result old.log new.log
+    (notes_of_step (rules_by hash old) signed old e) result old.log new.log
     → IfOk result (λ out. HasStepped (rules_by hash old) signed e old new out)
 steps hash signed e old new (Ok out) did same works tried =
     record {
@@ -71,10 +71,10 @@ steps hash signed e old new (Ok out) did same works tried =
     }
 steps hash signed e old new (Err x) did same works tried = tt
 
-pub stops : (hash : List ℕ → Digest32) (signed : ℕ → Vote → Bool) (e : Event) (old new : LiveNode)
+pub stops : (hash : List ℕ → Digest32) (signed : ℕ → Vote → Bool) (e : Event) (old new : MemoryNode)
     (result : Result StepOut StoreError)
     → HasTried memory_state Continues old.member.frames
-    (live_step_notes (rules_by hash old) signed e old) result old.log new.log
+    (notes_of_step (rules_by hash old) signed old e) result old.log new.log
     → IsErrOf result store.Disk → WasStopped (rules_by hash old) signed e old new
 stops hash signed e old new result tried is =
     record { cut = tried.cut_short is; readable = tried.cut_readable is }

@@ -9,11 +9,11 @@ use Rattle.cw_rules.specs.Step.{Member}
 use Rattle.hail_world.specs.declared.place.Place.{Place}
 use Rattle.hail_world.specs.Offers.{some_of}
 use Rattle.hail_world.specs.Places.{SitAs, WorkBy, SitsAs, WorksBy}
-use Rattle.hail_world.specs.LiveNodes.{LiveNode}
+use Rattle.hail_world.specs.MemoryNodes.{MemoryNode}
 use Rattle.hail_world.proofs.Playing.{HasMember, member_in, sit_as_many, sound_at}
 
 -- what the places from a number on come to stands behind what the others came to
-abbrev pub StandSo : ℕ → List (Place LiveNode) → List Acked → Type 0
+abbrev pub StandSo : ℕ → List (Place MemoryNode) → List Acked → Type 0
 StandSo n places acked =
     (r : Rules) (os : List (Option Member)) → WorkBy r 0 places → SitAs places os
     → acked ++ filter_map acked_at (enumerate_from n (drop n os))
@@ -34,7 +34,7 @@ drop_got (x ∷ os) zero o e =
 drop_got (x ∷ os) (suc i) o e =
     let n : suc i + 1 ≡ suc (i + 1) = omega arith in rw n (drop_got os i o e)
 
-pub stand_next : (i : ℕ) (places : List (Place LiveNode)) (d p : Place LiveNode)
+pub stand_next : (i : ℕ) (places : List (Place MemoryNode)) (d p : Place MemoryNode)
     (acked more : List Acked)
     (one : Option Acked)
     → StandSo i places acked → i < length places → p ≡ get_or places i d
@@ -57,7 +57,7 @@ stand_next i places d p acked more one inv lt is gives adds r os sound members =
     ap (λ (l : List Acked). l ++ tail) adds ∙ append_assoc acked (some_of one) tail
     ∙ ap (λ (l : List Acked). acked ++ l) (sym split) ∙ inv r os sound members
 
-pub stand_all : (i : ℕ) (places : List (Place LiveNode)) (acked : List Acked)
+pub stand_all : (i : ℕ) (places : List (Place MemoryNode)) (acked : List Acked)
     → StandSo i places acked
     → length places ≤ i → (r : Rules) (os : List (Option Member)) → WorkBy r 0 places
     → SitAs places os → acked ≡ filter_map acked_at (enumerate_from 0 os)

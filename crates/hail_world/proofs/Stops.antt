@@ -11,15 +11,15 @@ use Rattle.hail_world.specs.declared.place.Place.TheVariants as place
 use Rattle.marshal.specs.Frames.{FindsNotes, read_frames}
 use Rattle.marshal.specs.Stored.{join_frames, joined_notes, read_notes}
 use Rattle.hail_world.specs.Places.{SitsAs, IsPutOut}
-use Rattle.hail_world.specs.LiveNodes.{LiveNode, with_stop}
+use Rattle.hail_world.specs.MemoryNodes.{MemoryNode, with_stop}
 
-pub armed : (s : LiveNode) (call cut fill : ℕ) → is_calm s.log.disk ≡ true → 0 < call
+pub armed : (s : MemoryNode) (call cut fill : ℕ) → is_calm s.log.disk ≡ true → 0 < call
     → IsArmed call cut fill (with_stop call cut fill s).log.disk
 armed s call cut fill calm low =
     record { stop = refl; later = low; failing = calm_failing s.log.disk calm }
 
 -- a stopped place is that of the member whose frames are on its disk
-pub is_member : (disk : MemoryState) (p : Place LiveNode) (x : Member) → IsPutOut disk p
+pub is_member : (disk : MemoryState) (p : Place MemoryNode) (x : Member) → IsPutOut disk p
     → FindsNotes x.frames (memory_state disk).now.seen → x.live ≡ false → SitsAs p (Some x)
 is_member disk place.Faulty x h held stopped = absurd h
 is_member disk (place.Live m) x h held stopped = absurd h

@@ -13,10 +13,11 @@ use Rattle.hail_world.specs.Places.{SitsAs, WorksBy, Makes, did, did_cut, starts
 use Rattle.cw_types.specs.declared.note.Note.{Note}
 use Rattle.node_disk.specs.Memory.{MemoryState, memory_state}
 use Rattle.marshal.specs.Frames.{FindsNotes}
-use Rattle.hail_world.specs.LiveNodes.{HasStepped, LiveNode, out_of, rules_by}
+use Rattle.hail_world.specs.MemoryNodes.{HasStepped, MemoryNode, out_of, rules_by}
 
 -- a step by these rules
-stepped : (r : Rules) (i : ℕ) (signed : ℕ → Vote → Bool) (x : Member) (e : Event) (s new : LiveNode)
+stepped : (r : Rules) (i : ℕ) (signed : ℕ → Vote
+    → Bool) (x : Member) (e : Event) (s new : MemoryNode)
     (out : StepOut)
     → HasStepped (rules_by r.hash s) signed e s new out → rules_by r.hash s ≡ r → s.id ≡ i
     → s.member ≡ x
@@ -29,7 +30,7 @@ stepped r i signed x e s new out h rules id who =
     (h.member ∙ ap (λ (d : Stepped). d.member) same, h.gives ∙ ap out_of same)
 
 pub took : (r : Rules) (i : ℕ) (signed : ℕ → Vote → Bool) (w : World) (ask : Ask) (e : Event)
-    (m new : LiveNode) (out : StepOut) (o : Option Member)
+    (m new : MemoryNode) (out : StepOut) (o : Option Member)
     → WorksBy r i (place.Live m) → event_of w i ask ≡ Some e
     → HasStepped (rules_by r.hash m) signed e m new out → SitsAs (place.Live m) o
     → Makes o (option_and_then (did r signed w i ask) o) (place.Live new) (Some out)
@@ -52,7 +53,7 @@ took r i signed w ask e m new out (Some x) sound asks h who =
 
 -- a step with a stop
 pub cut_took : (r : Rules) (i : ℕ) (signed : ℕ → Vote → Bool) (w : World) (a c x : ℕ) (ask : Ask)
-    (e : Event) (m : LiveNode) (p : Place LiveNode) (out : StepOut) (o : Option Member)
+    (e : Event) (m : MemoryNode) (p : Place MemoryNode) (out : StepOut) (o : Option Member)
     → WorksBy r i (place.Live m) → event_of w i ask ≡ Some e
     → SitsAs p (Some (cut_step (rules_by r.hash m) m.id signed m.member a c x e).member)
     → out ≡ out_of (cut_step (rules_by r.hash m) m.id signed m.member a c x e)
@@ -81,7 +82,7 @@ cut_took r i signed w a c x ask e m p out (Some y) sound asks there gives who =
     (sym asks) made)
 
 -- a start where a member was stopped
-pub began : (r : Rules) (i : ℕ) (disk : MemoryState) (notes : List Note) (p : Place LiveNode)
+pub began : (r : Rules) (i : ℕ) (disk : MemoryState) (notes : List Note) (p : Place MemoryNode)
     (out : StepOut) (o : Option Member)
     → ((frames : List (List Note)) → FindsNotes frames (memory_state disk).now.seen
     → SitsAs p (Some (start r i frames).member) × (out ≡ out_of (start r i frames)))

@@ -16,7 +16,7 @@ use Rattle.hail_world.specs.Played.{lines_of}
 use Rattle.hail_world.specs.Places.{SitAs, IsTurn}
 use Rattle.hail_report.specs.Pool.{sent_in}
 use Rattle.hail_world.specs.Runs.{IsStopped}
-use Rattle.hail_world.specs.LiveNodes.{LiveNode}
+use Rattle.hail_world.specs.MemoryNodes.{MemoryNode}
 use Rattle.hail_world.specs.Played.{Begin, HavePlayed, entries_of}
 use Rattle.hail_report.proofs.Numbered.{sent_more}
 use Rattle.cw_rules.proofs.Changes.{flags_kept}
@@ -127,7 +127,7 @@ reached_begun r w rows line b = (
 
 -- a line that brings no clash
 pub played_next : (r : Rules) (w : World) (rows : List (ℕ × Line)) (number : ℕ) (line : Line)
-    (steps : List Entry) (old new : List (Place LiveNode)) (knew known : KnownBlocks)
+    (steps : List Entry) (old new : List (Place MemoryNode)) (knew known : KnownBlocks)
     (faulty : List Bool) (entry : Entry)
     → HavePlayed r w rows steps old knew faulty
     → IsTurn r (run r w (lines_of rows)) number line new (sent_in steps ++ entry.sent) entry
@@ -161,7 +161,8 @@ played_next r w rows number line steps old new knew known faulty entry h turn cl
 
 -- a line that brings one
 pub played_clash : (r : Rules) (w : World) (rows : List (ℕ × Line)) (line : Line)
-    (steps : List Entry) (places : List (Place LiveNode)) (known : KnownBlocks) (faulty : List Bool)
+    (steps : List Entry) (places : List (Place MemoryNode)) (known : KnownBlocks)
+    (faulty : List Bool)
     (both : Block × Block)
     → HavePlayed r w rows steps places known faulty
     → clash_at r (run r w (lines_of rows)) (happens r (run r w (lines_of rows)) line)
@@ -177,7 +178,8 @@ played_clash r w rows line steps places known faulty both h clash =
 
 -- the same, whatever its number and its entries are called
 pub played_same : (r : Rules) (w : World) (rows : List (ℕ × Line)) (number number' : ℕ)
-    (line : Line) (steps steps' : List Entry) (places : List (Place LiveNode)) (known : KnownBlocks)
+    (line : Line) (steps steps' : List Entry) (places : List (Place MemoryNode))
+    (known : KnownBlocks)
     (faulty : List Bool)
     → number ≡ number' → steps' ≡ steps
     → HavePlayed r w (rows ++ (number, line) ∷ []) steps places known faulty
@@ -188,7 +190,7 @@ played_same r w rows number number' line steps steps' places known faulty n s h 
     (subst (λ (k : ℕ). HavePlayed r w (rows ++ (k, line) ∷ []) steps places known faulty) n h)
 
 -- before the first line
-pub played_none : (r : Rules) (w : World) (places : List (Place LiveNode)) (known : KnownBlocks)
+pub played_none : (r : Rules) (w : World) (places : List (Place MemoryNode)) (known : KnownBlocks)
     (faulty : List Bool)
     → SitAs places w.members → w.pool ≡ [] → Knows r known w → faulty ≡ map is_none w.members
     → HavePlayed r w [] [] places known faulty

@@ -90,8 +90,8 @@ abbrev pub IsRunOf : {H W : Type 0} → Travel → (Reported → List ℕ) → (
 IsRunOf travel tell hash text r due =
     IsReport travel hash text r × (due ≡ tell (shown_report r))
 
--- what is told of the report was written and the end is so, or the sink failed behind a front of it;
--- for want of memory nothing is written
+-- what is told of the report was written and the end is so, or the sink failed behind a front of
+-- it; for want of memory nothing is written
 abbrev pub EndsWith : {H W : Type 0} → (Reported → List ℕ) → Option (List ℕ) → Option (List ℕ) → ℕ
     → ℕ → Report H W → Exit (Report H W) → Type 0
 EndsWith tell held written writes later_writes r exit =

@@ -6,7 +6,7 @@ use Rattle.cw_rules.specs.Step.{Member}
 use Rattle.cw_rules.specs.World.{Faulty, Line, Sent, line_member}
 use Rattle.hail_world.specs.declared.place.Place.{Place}
 use Rattle.hail_world.specs.Places.{Makes, SitsAs, found_at, table, turned_by, world_of_pool}
-use Rattle.hail_world.specs.LiveNodes.{LiveNode}
+use Rattle.hail_world.specs.MemoryNodes.{MemoryNode}
 
 -- a line that isn't of a faulty member
 abbrev pub IsHonest : Line → Type 0
@@ -15,9 +15,9 @@ IsHonest _ = Unit {0}
 
 -- one place is another, and what it gave is what the rules make of the member who sat there
 pub record IsPlaced (r : Rules) (faulty : List Bool) (pool : List Sent) (line : Line)
-    (old new : List (Place LiveNode)) (found : Option ℕ) (out : Option StepOut) : Type 0 where
-  pub before : Place LiveNode
-  pub after : Place LiveNode
+    (old new : List (Place MemoryNode)) (found : Option ℕ) (out : Option StepOut) : Type 0 where
+  pub before : Place MemoryNode
+  pub after : Place MemoryNode
   pub was : slice_get old (line_member line) ≡ Some before
   pub becomes : new ≡ slice_set old (line_member line) after
   pub finds : found ≡ found_at line after out

@@ -1,4 +1,4 @@
-pub mod LiveNodes
+pub mod MemoryNodes
 pub mod Places
 pub mod Offers
 pub mod Honest

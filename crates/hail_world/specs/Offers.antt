@@ -15,8 +15,8 @@ use Rattle.cw_rules.specs.World.{World, voted_on}
 use Rattle.shards.specs.Kept.{chunk_rules}
 
 -- a vote on what the vote of that number is on
-abbrev pub second_vote : Bool → World → ℕ → ℕ → List Out
-second_vote finalizes w a number =
+abbrev pub vote_on_same : Bool → World → ℕ → ℕ → List Out
+vote_on_same finalizes w a number =
     option_map_or (λ p. to_all (Message.Vote a (if finalizes then Finalize p else Notarize p)) ∷ [])
     (voted_on w number) []
 

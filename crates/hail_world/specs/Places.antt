@@ -17,7 +17,7 @@ use Rattle.node_disk.specs.Memory.{MemoryState, is_calm, memory_state, reopened_
 use Rattle.hail_script.specs.Scenario.{Scenario}
 use Rattle.hail_world.specs.declared.place.Place.{Place}
 use Rattle.hail_world.specs.declared.place.Place.TheVariants as place
-use Rattle.hail_world.specs.LiveNodes.{LiveNode, Works, out_of, rules_by}
+use Rattle.hail_world.specs.MemoryNodes.{MemoryNode, Works, out_of, rules_by}
 
 -- the rules of a script's cluster, by how its blocks travel, in which every block is accepted over
 -- every other
@@ -32,20 +32,20 @@ DiskHolds disk notes =
 
 -- who sits there works by these rules, on a disk that doesn't fail; a stopped member's notes are
 -- those on its disk
-abbrev pub WorksBy : Rules → ℕ → Place LiveNode → Type 0
+abbrev pub WorksBy : Rules → ℕ → Place MemoryNode → Type 0
 WorksBy r i place.Faulty = Unit {0}
 WorksBy r i (place.Live m) =
     (rules_by r.hash m ≡ r) × (m.id ≡ i) × Works m × (is_calm m.log.disk ≡ true)
 WorksBy r i (place.Stopped disk notes) = (is_calm disk ≡ true) × DiskHolds disk notes
 
 -- so in each place, numbered from a number on
-abbrev pub WorkBy : Rules → ℕ → List (Place LiveNode) → Type 0
+abbrev pub WorkBy : Rules → ℕ → List (Place MemoryNode) → Type 0
 WorkBy r i [] = Unit {0}
 WorkBy r i (p ∷ ps) = WorksBy r i p × WorkBy r (i + 1) ps
 
 -- who sits there is this member of the rules, faulty where there is none. A stopped one is known by
 -- its disk
-abbrev pub SitsAs : Place LiveNode → Option Member → Type 0
+abbrev pub SitsAs : Place MemoryNode → Option Member → Type 0
 SitsAs place.Faulty None = Unit {0}
 SitsAs (place.Live m) (Some x) = m.member ≡ x
 SitsAs (place.Stopped disk notes) (Some x) =
@@ -53,13 +53,13 @@ SitsAs (place.Stopped disk notes) (Some x) =
 SitsAs _ _ = ⊥
 
 -- so in each place
-abbrev pub SitAs : List (Place LiveNode) → List (Option Member) → Type 0
+abbrev pub SitAs : List (Place MemoryNode) → List (Option Member) → Type 0
 SitAs [] [] = Unit {0}
 SitAs (p ∷ ps) (o ∷ os) = SitsAs p o × SitAs ps os
 SitAs _ _ = ⊥
 
 -- the notes of who sits there
-abbrev pub notes_at : Place LiveNode → List Note
+abbrev pub notes_at : Place MemoryNode → List Note
 notes_at place.Faulty = []
 notes_at (place.Live m) = member_notes m.member
 notes_at (place.Stopped disk notes) = notes
@@ -100,17 +100,17 @@ turned_by r signed w i (Faulty j fault) m = None
 
 -- what a line made of who sits in a place, and what that gave: what the rules make of that member,
 -- or nothing
-abbrev pub Makes : Option Member → Option Stepped → Place LiveNode → Option StepOut → Type 0
+abbrev pub Makes : Option Member → Option Stepped → Place MemoryNode → Option StepOut → Type 0
 Makes o None place out = SitsAs place o × (out ≡ None)
 Makes o (Some done) place out = SitsAs place (Some done.member) × (out ≡ Some (out_of done))
 
 -- how many notes a restart found, where it started its member
-abbrev pub found_at : Line → Place LiveNode → Option StepOut → Option ℕ
+abbrev pub found_at : Line → Place MemoryNode → Option StepOut → Option ℕ
 found_at (Restart m) p (Some out) = Some (length (notes_at p))
 found_at _ p out = None
 
 -- a stopped member: its disk, reopened, and the notes on it
-abbrev pub IsPutOut : MemoryState → Place LiveNode → Type 0
+abbrev pub IsPutOut : MemoryState → Place MemoryNode → Type 0
 IsPutOut disk place.Faulty = ⊥
 IsPutOut disk (place.Live m) = ⊥
 IsPutOut disk (place.Stopped again notes) =
@@ -119,7 +119,7 @@ IsPutOut disk (place.Stopped again notes) =
 
 -- a line made of the world what the rules say, and gave their entry
 pub record IsTurn (r : Rules) (w : World) (number : ℕ) (line : Line)
-    (places : List (Place LiveNode))
+    (places : List (Place MemoryNode))
     (pool : List Sent) (entry : Entry) : Type 0 where
   pub gives : entry ≡ entry_of r w number line
   pub members : SitAs places (happens r w line).members

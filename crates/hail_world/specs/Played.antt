@@ -14,7 +14,7 @@ use Rattle.hail_world.specs.Places.{SitAs}
 use Rattle.hail_report.specs.Pool.{sent_in}
 use Rattle.hail_world.specs.Reports.{AreNodesOf, HoldNotes, honest, honest_at}
 use Rattle.hail_world.specs.Runs.{chain_from}
-use Rattle.hail_world.specs.LiveNodes.{LiveNode}
+use Rattle.hail_world.specs.MemoryNodes.{MemoryNode}
 
 -- the lines without their numbers
 abbrev pub lines_of : List (ℕ × Line) → List Line
@@ -28,7 +28,7 @@ entries_of r w (row ∷ rows) = entry_of r w row.0 row.1 ∷ entries_of r (happe
 -- The lines were played without a clash: these are their entries, and the places and the known
 -- blocks are those of the world that they end in.
 pub record HavePlayed (r : Rules) (w : World) (rows : List (ℕ × Line)) (steps : List Entry)
-    (places : List (Place LiveNode)) (known : KnownBlocks) (faulty : List Bool) : Type 0 where
+    (places : List (Place MemoryNode)) (known : KnownBlocks) (faulty : List Bool) : Type 0 where
   pub ends : outcome r w (lines_of rows) ≡ Ends (run r w (lines_of rows))
   pub entries : steps ≡ entries_of r w rows
   pub members : SitAs places (run r w (lines_of rows)).members

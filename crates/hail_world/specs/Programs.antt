@@ -80,8 +80,8 @@ module _ {X : Type 0} (travel : Travel) (hash : List ℕ → Digest32)
   AnswersBy text rest held written NoMemory = Keeps held written
   AnswersBy text rest held written Usage = ⊥
 
--- What a program made of a source's script, for what the source had left, if it tells its bytes, its
--- rest, and its count of faults before and after.
+-- What a program made of a source's script, for what the source had left, if it tells its bytes,
+-- its rest, and its count of faults before and after.
 pub record IsMade {X : Type 0} (travel : Travel) (hash : List ℕ → Digest32)
     (IsDone : List ℕ → X → List ℕ → Type 0) (left rest : Option (List ℕ)) (reads later_reads : ℕ)
     (made : Result (Made X) Early) : Type 0 where

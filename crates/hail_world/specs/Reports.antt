@@ -18,7 +18,7 @@ use Rattle.hail_world.specs.declared.report.Report.{Report}
 use Rattle.marshal.specs.Frames.{FindsNotes}
 use Rattle.node_disk.specs.Memory.{is_calm, memory_state}
 use Rattle.hail_world.specs.Places.{script_rules}
-use Rattle.hail_world.specs.LiveNodes.{LiveNode, Works, rules_by}
+use Rattle.hail_world.specs.MemoryNodes.{MemoryNode, Works, rules_by}
 
 -- what a report tells of the rules
 abbrev pub shown_report : {H W : Type 0} → Report H W → Reported
@@ -44,7 +44,7 @@ HoldNotes _ _ = ⊥
 -- The node of a member that is live at the end of a run: it is that member, under its number, by
 -- the rules of the run, it takes events, and its disk doesn't fail and has these bytes.
 pub record IsNodeOfMember (r : Rules) (number : ℕ) (m : Member) (disk : List ℕ)
-    (node : LiveNode) : Type 0 where
+    (node : MemoryNode) : Type 0 where
   pub live : m.live ≡ true
   pub id : node.id ≡ number
   pub rules : rules_by r.hash node ≡ r
@@ -54,12 +54,13 @@ pub record IsNodeOfMember (r : Rules) (number : ℕ) (m : Member) (disk : List �
   pub bytes : (memory_state node.log.disk).now.seen ≡ disk
 
 -- a member has its node, and there is none exactly for a stopped one
-abbrev pub IsLiveAs : Rules → ℕ × Member → List ℕ → Option LiveNode → Type 0
+abbrev pub IsLiveAs : Rules → ℕ × Member → List ℕ → Option MemoryNode → Type 0
 IsLiveAs r at disk None = at.1.live ≡ false
 IsLiveAs r at disk (Some node) = IsNodeOfMember r at.0 at.1 disk node
 
 -- so for each member, with its number, and the disk of each
-abbrev pub AreNodesOf : Rules → List (ℕ × Member) → List (List ℕ) → List (Option LiveNode) → Type 0
+abbrev pub AreNodesOf : Rules → List (ℕ × Member) → List (List ℕ) → List (Option MemoryNode)
+    → Type 0
 AreNodesOf r [] [] [] = Unit {0}
 AreNodesOf r (m ∷ ms) (disk ∷ disks) (node ∷ nodes) =
     IsLiveAs r m disk node × AreNodesOf r ms disks nodes

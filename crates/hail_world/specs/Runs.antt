@@ -23,16 +23,16 @@ use Rattle.hail_world.specs.declared.place.Place.{Place}
 use Rattle.hail_world.specs.declared.place.Place.TheVariants as place
 use Rattle.node_disk.specs.Memory.{memory_state}
 use Rattle.hail_world.specs.Places.{script_rules}
-use Rattle.hail_world.specs.LiveNodes.{LiveNode}
+use Rattle.hail_world.specs.MemoryNodes.{MemoryNode}
 
 -- the world in which a script begins
 abbrev pub opened : (List ℕ → Digest32) → Scenario → World
 opened hash s = opening (script_rules hash s) s.lines
 
--- who sits in a place when a script begins: a member on an empty disk, where no line makes it
+-- the member in a place when a script begins, on an empty disk; none where some line makes it
 -- faulty
-abbrev pub seat_of : Rules → List Line → ℕ → Option Member
-seat_of r lines i = if list_any (faults i) lines then None else Some (start r i []).member
+abbrev pub opening_member : Rules → List Line → ℕ → Option Member
+opening_member r lines i = if list_any (faults i) lines then None else Some (start r i []).member
 
 -- why lines weren't played to their end: for want of memory, or by a clash
 abbrev pub IsStopped : Rules → World → List Line → RunError → Type 0
@@ -82,7 +82,7 @@ chain_from r w top =
     option_map_or (chain_to r w) (option_and_then (λ x. block_under r w x.commitment) top) []
 
 -- what is handed back of a place: the bytes of its disk, and the node where it is live
-abbrev pub HandsBack : Place LiveNode → Option (List ℕ × Option LiveNode) → Type 0
+abbrev pub HandsBack : Place MemoryNode → Option (List ℕ × Option MemoryNode) → Type 0
 HandsBack place.Faulty closed = closed ≡ None
 HandsBack (place.Live m) closed = closed ≡ Some ((memory_state m.log.disk).now.seen, Some m)
 HandsBack (place.Stopped disk notes) closed = closed ≡ Some ((memory_state disk).now.seen, None)

@@ -45,18 +45,18 @@ pub struct Cluster<H: Hasher<Digest = Digest32>, W: Way> {
 }
 
 impl<H: Hasher<Digest = Digest32>, W: Way> Model for Cluster<H, W> {
-    ghost use Rattle.hail_world.specs.Clusters.{Cluster, ClusterStands, rows_at};
+    ghost use Rattle.hail_world.specs.Clusters.{Cluster, ClusterStands, lines_of_turns};
 
     ghost Value = { Cluster };
 
     ghost view = { λ c. record {
       script = c.script;
-      rows = rows_at c.script.lines c.turns.items;
+      rows = lines_of_turns c.script.lines c.turns.items;
       over = c.over;
     } };
 
     ghost invariant = { λ c. ClusterStands H.digest_of W.travel c.script c.opening
-        (rows_at c.script.lines c.turns.items) c.over c.pool c.places.items c.known
+        (lines_of_turns c.script.lines c.turns.items) c.over c.pool c.places.items c.known
         c.faulty.items };
 }
 

@@ -71,7 +71,8 @@ fn one(alloc: Global, message: Message) -> Result<Items<Out>, NoMemory>
     Ok(outs)
 }
 
-fn again(
+// A vote on what the vote of that number is on.
+fn vote_on_same(
     alloc: Global,
     pool: &Pool,
     member: u16,
@@ -80,7 +81,7 @@ fn again(
 ) -> Result<Items<Out>, NoMemory>
     ensures { IfOk result
         (λ outs. outs
-        ≡ offers.second_vote finalizes (world_of_pool (sent_in pool.now)) member number) }
+        ≡ offers.vote_on_same finalizes (world_of_pool (sent_in pool.now)) member number) }
 {
     match voted_on(pool, number) {
         None => Ok(Items::new(alloc)),
@@ -288,8 +289,8 @@ pub(crate) fn fault_sends<H: Hasher<Digest = Digest32>, R: Threads + Sync, S: St
         FaultKind::Offer(view, payload) => {
             offer::<H, R, S>(rt, alloc, script, member, *view, payload, strategy)
         }
-        FaultKind::Notarize(number) => again(alloc, pool, member, *number, false),
-        FaultKind::Finalize(number) => again(alloc, pool, member, *number, true),
+        FaultKind::Notarize(number) => vote_on_same(alloc, pool, member, *number, false),
+        FaultKind::Finalize(number) => vote_on_same(alloc, pool, member, *number, true),
         FaultKind::Nullify(view) => {
             let vote = Vote::Nullify {
                 epoch: 0,

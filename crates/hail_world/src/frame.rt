@@ -1,9 +1,10 @@
-//! The frame of each program that reads a script, runs it, and writes what it makes of the run.
+//! The frame of each program that reads a plain script, runs it, and writes what it makes of the
+//! run. That of lanes (`hailstorm`) has its own, since it tells an order beside each answer.
 //!
-//! A program asks its words, and ends with [`end_usage`] where they aren't its own. Else it runs its
-//! source's script by [`run_source`], makes of the run what it hands back and the text that it
-//! writes, or passes on why there is no report, and ends with [`end_made`]. Its own function between
-//! the two promises `IsMade` of what done means for it; from that and `EndsMade` the lemmas
+//! A program asks its words, and ends with [`end_usage`] where they aren't its own. Else it runs
+//! its source's script by [`run_source`], makes of the run what it hands back and the text that it
+//! writes, or passes on why there is no report, and ends with [`end_made`]. Its own function
+//! between the two promises `IsMade` of what done means for it; from that and `EndsMade` the lemmas
 //! `made_answers` and `made_run` of `proofs/Framing.antt` give what each of its answers means.
 
 ghost use Rattle.std.specs.Prelude.{◌≡◌, ◌≢◌, List, ℕ, Some, IfOk, IfErr};
@@ -65,8 +66,8 @@ pub fn run_source<H: Hasher<Digest = Digest32>, W: Way, R: Threads + Sync, I: So
     }
 }
 
-/// Writes what a program made of a script, or why there is no report, and ends so. All text was made
-/// before the first byte is written.
+/// Writes what a program made of a script, or why there is no report, and ends so. All text was
+/// made before the first byte is written.
 pub fn end_made<X: Drop, O: Sink>(
     alloc: Global,
     output: &mut O,

@@ -7,7 +7,7 @@ ghost use Rattle.cw_rules.specs.World.{Line, World as RulesWorld, run};
 ghost use Rattle.hail_world.specs.Played.{lines_of};
 ghost use Rattle.hail_world.specs.Places.{WorkBy, notes_at as notes_in, script_rules};
 ghost use Rattle.hail_world.specs.declared.place.Place.{Place as PlaceValue};
-ghost use Rattle.hail_world.specs.LiveNodes.{LiveNode as LiveNodeValue};
+ghost use Rattle.hail_world.specs.MemoryNodes.{MemoryNode as MemoryNodeValue};
 ghost use Rattle.hail_world.specs.Runs.{IsStopped};
 ghost use Rattle.hail_world.specs.Played.{Begin, HavePlayed};
 
@@ -80,7 +80,7 @@ fn notes_before<H: Hasher<Digest = Digest32>, W: Way>(
     places: &[Place<LiveNode<H, W>>],
     id: usize,
 ) -> usize
-    ensures { (p : PlaceValue LiveNodeValue) → slice_get places.now id ≡ Some p
+    ensures { (p : PlaceValue MemoryNodeValue) → slice_get places.now id ≡ Some p
         → result ≡ length (notes_in p) }
 {
     match places.get(id) {

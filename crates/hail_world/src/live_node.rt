@@ -6,8 +6,8 @@ ghost use Rattle.cw_types.specs.declared.note.Note.{Note as NoteValue};
 ghost use Rattle.cw_rules_coded.specs.Coded.{ruled};
 ghost use Rattle.marshal.specs.Frames.{FindsNotes};
 ghost use Rattle.node_disk.specs.Memory.{is_calm, memory_state};
-ghost use Rattle.hail_world.specs.LiveNodes.{HasStarted, HasStepped, WasStopped, Works, rules_by};
-ghost use Rattle.hail_world.specs.LiveNodes as live_nodes;
+ghost use Rattle.hail_world.specs.MemoryNodes.{HasStarted, HasStepped, WasStopped, Works, rules_by};
+ghost use Rattle.hail_world.specs.MemoryNodes as memory_nodes;
 
 use cw_base::{Digest32, Hasher, NoMemory, Strategy};
 use cw_types::{AcceptAll, Committees, Event, StepOut, Verifier};
@@ -28,9 +28,9 @@ pub struct LiveNode<H: Hasher<Digest = Digest32>, W: Way> {
 
 impl<H: Hasher<Digest = Digest32>, W: Way> Model for LiveNode<H, W> {
     ghost use Rattle.std.specs.Prelude.{◌≡◌, true};
-    ghost use Rattle.hail_world.specs.LiveNodes as live_nodes;
+    ghost use Rattle.hail_world.specs.MemoryNodes as memory_nodes;
 
-    ghost Value = { live_nodes.LiveNode };
+    ghost Value = { memory_nodes.MemoryNode };
 
     ghost view = { λ s. s.node };
 

@@ -11,11 +11,12 @@ ghost use Rattle.marshal.specs.Frames.{FindsNotes};
 ghost use Rattle.node_disk.specs.Memory.{is_calm, memory_state};
 ghost use Rattle.hail_world.specs.Places.{DiskHolds, IsPutOut, Makes, SitsAs, WorksBy};
 ghost use Rattle.hail_world.specs.Places.{did, did_cut};
-ghost use Rattle.hail_world.specs.Places.{script_rules, starts_again, table, turned_by, world_of_pool};
+ghost use Rattle.hail_world.specs.Places.{script_rules, starts_again, table, turned_by};
+ghost use Rattle.hail_world.specs.Places.{world_of_pool};
 ghost use Rattle.hail_world.specs.Places as places;
 ghost use Rattle.hail_world.specs.declared.place.Place.TheVariants.{Live};
 ghost use Rattle.hail_report.specs.Pool.{sent_in};
-ghost use Rattle.hail_world.specs.LiveNodes.{HasStepped, Works, out_of, rules_by};
+ghost use Rattle.hail_world.specs.MemoryNodes.{HasStepped, Works, out_of, rules_by};
 
 use crate::event::event_for;
 use crate::live_node::{LiveNode, MemoryNode, start, step};

@@ -16,7 +16,7 @@ ghost use Rattle.hail_world.specs.Reports.{AreNodesOf, HoldNotes, IsCause, IsRep
 ghost use Rattle.hail_world.specs.Reports.{honest_at};
 ghost use Rattle.hail_world.specs.Played.{IsReportOf};
 ghost use Rattle.hail_world.specs.Runs.{GoesBy, HandsBack, IsStopped, acked_with};
-ghost use Rattle.hail_world.specs.Runs.{opened, seat_of};
+ghost use Rattle.hail_world.specs.Runs.{opened, opening_member};
 
 use crate::chain::chain_of;
 use crate::cluster::Cluster;
@@ -166,7 +166,7 @@ fn open_one<H: Hasher<Digest = Digest32>, W: Way, R: Threads + Sync, S: Strategy
         (λ made. made.1 ≡ opening_entry (script_rules H.digest_of script.now) script.now.lines id) }
     ensures member { IfOk result
         (λ made. SitsAs made.0
-        (seat_of (script_rules H.digest_of script.now) script.now.lines id)) }
+        (opening_member (script_rules H.digest_of script.now) script.now.lines id)) }
     ensures sound { IfOk result (λ made. WorksBy (script_rules H.digest_of script.now) id made.0) }
 {
     if is_faulty(faulty, id) {

@@ -8,7 +8,7 @@ use Rattle.std.proofs.lemmas.Bool.Decides.{nat_tests}
 use Rattle.std.proofs.lemmas.Option.{slice_get_past, slice_get_read}
 use Rattle.std.proofs.lemmas.List.Sorted.{IsNonDecreasingBy-drop, IsNonDecreasingBy-push}
 use Rattle.cw_rules.specs.Direct.{least}
-use Rattle.note_scans.specs.Heights.{is_pending}
+use Rattle.cw_rules.specs.Held.{is_pending}
 
 -- what passes a test from a place on, and not before it
 pub behind_place : {X : Type 0} (p : X → Bool) (xs : List X) (i : ℕ)

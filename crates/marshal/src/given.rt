@@ -6,7 +6,7 @@ ghost use Rattle.std.specs.List.{AllByRecursion, last_or};
 ghost use Rattle.std.specs.List.Sorted.{IsNonDecreasing};
 ghost use Rattle.std.specs.Option.{option_map_or};
 ghost use Rattle.cw_rules.specs.Direct.{least};
-ghost use Rattle.note_scans.specs.Heights.{is_pending};
+ghost use Rattle.cw_rules.specs.Held.{is_pending};
 
 /// Where the pending heights begin: those above what was acknowledged last that aren't given up.
 pub(crate) fn pending_from(given: &[u64], acked: Option<u64>, floor: u64) -> usize

@@ -46,8 +46,8 @@ pub fn law_of_recovery()
         (first_noted notes (commit r b) b).height
         → held r (notes ++ certified_notes r notes round b ++ more) (commit r b) ≡ Some
         (first_noted notes (commit r b) b) }
-    // where blocks travel in chunks a committee cuts each in two at least, so none is committed to as
-    // genesis is
+    // where blocks travel in chunks a committee cuts each in two at least, so none is committed to
+    // as genesis is
     ensures apart { (r : Rules) (b : Block) → r.travel ≡ Chunked
         → 4 ≤ size r.epochs b.context.epoch → commit r b ≢ genesis_commitment r }
 {}

@@ -27,7 +27,7 @@ use Rattle.node.proofs.Arrivals.{count_behind, map_behind, parts_row, parts_whol
 use Rattle.node.specs.Accepting.{with_row}
 use Rattle.node.specs.declared.arrival.Arrival.{Arrival}
 use Rattle.node.specs.declared.arrival.Shown.{Shown}
-use Rattle.node.specs.Holding.{Holding, came_of, count_rows, cut_rules, held_state, parts_of, rules_of, shown_under}
+use Rattle.node.specs.Holding.{Holding, came_of, count_rows, cut_rules, own_state, parts_of, rules_of, shown_under}
 use Rattle.node.specs.Standing.{HasCome, IsSameBeside, PartsStand}
 
 -- the ballots with one more are those of what came with one more
@@ -90,7 +90,7 @@ module _ {D A : Type 0} (hash : List ℕ → Digest32) (accepts : A → Block �
   -- one more ballot
   pub came_ballot : (h new : Holding D A) (x : Ballot) → PartsStand hash accepts h
       → voter.IsTallyOf hash (with_ballot h.tally x) (rules_of hash accepts h)
-      (voter.with_came (held_state h) (take_ballot (came_of h) true x))
+      (voter.with_came (own_state h) (take_ballot (came_of h) true x))
       → new ≡ record h { tally = with_ballot h.tally x }
       → HasCome hash accepts (take_ballot (came_of h) true x) h new
   came_ballot h new x s tally is =
@@ -104,7 +104,7 @@ module _ {D A : Type 0} (hash : List ℕ → Digest32) (accepts : A → Block �
           tally =
               subst
               (λ (came : Came). voter.IsTallyOf hash (with_ballot h.tally x)
-              (rules_of hash accepts h) (voter.with_came (held_state h) came))
+              (rules_of hash accepts h) (voter.with_came (own_state h) came))
               (sym same) tally;
           shards = record { rules = s.shards.rules; rows = s.shards.rows };
           rows = s.rows;
@@ -130,7 +130,7 @@ module _ {D A : Type 0} (hash : List ℕ → Digest32) (accepts : A → Block �
   -- one more wish
   pub came_wish : (h new : Holding D A) (c : Commitment) → PartsStand hash accepts h
       → voter.IsTallyOf hash h.tally (rules_of hash accepts h)
-      (voter.with_came (held_state h) (add_wish (came_of h) c))
+      (voter.with_came (own_state h) (add_wish (came_of h) c))
       → new ≡ record h { wishes = h.wishes ++ c ∷ [] }
       → HasCome hash accepts (add_wish (came_of h) c) h new
   came_wish h new c s tally is =
@@ -164,7 +164,7 @@ module _ {D A : Type 0} (hash : List ℕ → Digest32) (accepts : A → Block �
   pub came_whole : (h new : Holding D A) (b : Block) → PartsStand hash accepts h
       → list_any (same_part (Whole b)) (came_of h).parts ≡ false
       → voter.IsTallyOf hash h.tally (rules_of hash accepts h)
-      (voter.with_came (held_state h) (take_part (came_of h) true (Whole b)))
+      (voter.with_came (own_state h) (take_part (came_of h) true (Whole b)))
       → shards.StandsFor hash h.shards (cut_rules hash accepts h)
       (take_part (came_of h) true (Whole b))
       → new
@@ -186,7 +186,7 @@ module _ {D A : Type 0} (hash : List ℕ → Digest32) (accepts : A → Block �
           tally =
               subst
               (λ (came : Came). voter.IsTallyOf hash h.tally (rules_of hash accepts h)
-              (voter.with_came (held_state h) came))
+              (voter.with_came (own_state h) came))
               (sym same) tally;
           shards =
               subst
@@ -235,7 +235,7 @@ module _ {D A : Type 0} (hash : List ℕ → Digest32) (accepts : A → Block �
       → PartsStand hash accepts h
       → list_any (same_part (Row c x)) (came_of h).parts ≡ false
       → voter.IsTallyOf hash (with_row h.epochs h.id h.tally c x.index) (rules_of hash accepts h)
-      (voter.with_came (held_state h) (take_part (came_of h) true (Row c x)))
+      (voter.with_came (own_state h) (take_part (came_of h) true (Row c x)))
       → shards.StandsFor hash
       (record { epochs = h.shards.epochs; kept = kept.with_chunk h.shards.kept c x })
       (cut_rules hash accepts h) (take_part (came_of h) true (Row c x))
@@ -265,7 +265,7 @@ module _ {D A : Type 0} (hash : List ℕ → Digest32) (accepts : A → Block �
           tally =
               subst
               (λ (came : Came). voter.IsTallyOf hash (with_row h.epochs h.id h.tally c x.index)
-              (rules_of hash accepts h) (voter.with_came (held_state h) came))
+              (rules_of hash accepts h) (voter.with_came (own_state h) came))
               (sym same) tally;
           shards =
               subst

@@ -12,7 +12,7 @@ use Rattle.cw_rules.specs.Step.{marks, settle, taken, taken_came, with_notes}
 use Rattle.node.proofs.Noting.{noted_on, same_rules}
 use Rattle.node.proofs.Resting.{event_owes, noted_owes}
 use Rattle.node.specs.Acting.{HasActed, notes_of_event}
-use Rattle.node.specs.Holding.{Holding, came_of, held_state, rules_of}
+use Rattle.node.specs.Holding.{Holding, came_of, own_state, rules_of}
 use Rattle.node.specs.Noting.{HasNoted, with_all_staged}
 use Rattle.node.specs.Standing.{HasCome, OwesLast, OwesNoBlock}
 use Rattle.node.specs.Store.{Store, stored_notes}
@@ -22,10 +22,10 @@ module _ {D A : Type 0} (hash : List ℕ → Digest32) (accepts : A → Block �
   -- accepted, noted at once, and settled
   pub acted : (old a b c : Holding D A)
       → HasCome hash accepts (taken_came (rules_of hash accepts old) signed (came_of old) e) old a
-      → HasNoted hash accepts (direct (rules_of hash accepts a) a.id (held_state a) e) a b
+      → HasNoted hash accepts (direct (rules_of hash accepts a) a.id (own_state a) e) a b
       → HasNoted hash accepts
-      (settle (rules_of hash accepts b) b.id (marks (held_state b)) (held_state b)) b c
-      → OwesNoBlock (rules_of hash accepts c) (held_state c)
+      (settle (rules_of hash accepts b) b.id (marks (own_state b)) (own_state b)) b c
+      → OwesNoBlock (rules_of hash accepts c) (own_state c)
       → HasActed hash accepts signed e old c
   acted old a b c come first rest rests = record {
     stands = rest.stands;
@@ -34,7 +34,7 @@ module _ {D A : Type 0} (hash : List ℕ → Digest32) (accepts : A → Block �
         ∙ (ap (λ (s : State). with_notes s notes) state
         ∙ ap
         (λ (l : List Note). with_notes
-        (taken (rules_of hash accepts old) signed (held_state old) e) l)
+        (taken (rules_of hash accepts old) signed (own_state old) e) l)
         all);
     store =
         whole.store
@@ -45,13 +45,13 @@ module _ {D A : Type 0} (hash : List ℕ → Digest32) (accepts : A → Block �
     where
       notes : List Note
       notes =
-          direct (rules_of hash accepts a) a.id (held_state a) e
-          ++ settle (rules_of hash accepts b) b.id (marks (held_state b)) (held_state b)
+          direct (rules_of hash accepts a) a.id (own_state a) e
+          ++ settle (rules_of hash accepts b) b.id (marks (own_state b)) (own_state b)
 
       whole : HasNoted hash accepts notes a c
       whole = noted_on hash accepts a b c _ _ first rest
 
-      state : held_state a ≡ taken (rules_of hash accepts old) signed (held_state old) e
+      state : own_state a ≡ taken (rules_of hash accepts old) signed (own_state old) e
       state =
           λ i. record {
             notes = stored_notes (come.same.store i);
@@ -69,26 +69,26 @@ module _ {D A : Type 0} (hash : List ℕ → Digest32) (accepts : A → Block �
             app = come.same.app i;
           })
 
-      head : direct (rules_of hash accepts a) a.id (held_state a) e
+      head : direct (rules_of hash accepts a) a.id (own_state a) e
           ≡ direct (rules_of hash accepts old) old.id
-          (taken (rules_of hash accepts old) signed (held_state old) e) e
+          (taken (rules_of hash accepts old) signed (own_state old) e) e
       head = λ i. direct (rules i) (come.same.id i) (state i) e
 
-      after : held_state b
-          ≡ with_notes (taken (rules_of hash accepts old) signed (held_state old) e)
+      after : own_state b
+          ≡ with_notes (taken (rules_of hash accepts old) signed (own_state old) e)
           (direct (rules_of hash accepts old) old.id
-          (taken (rules_of hash accepts old) signed (held_state old) e) e)
+          (taken (rules_of hash accepts old) signed (own_state old) e) e)
       after = first.state ∙ (λ i. with_notes (state i) (head i))
 
-      tail : settle (rules_of hash accepts b) b.id (marks (held_state b)) (held_state b)
+      tail : settle (rules_of hash accepts b) b.id (marks (own_state b)) (own_state b)
           ≡ settle (rules_of hash accepts old) old.id
           (marks
-          (with_notes (taken (rules_of hash accepts old) signed (held_state old) e)
+          (with_notes (taken (rules_of hash accepts old) signed (own_state old) e)
           (direct (rules_of hash accepts old) old.id
-          (taken (rules_of hash accepts old) signed (held_state old) e) e)))
-          (with_notes (taken (rules_of hash accepts old) signed (held_state old) e)
+          (taken (rules_of hash accepts old) signed (own_state old) e) e)))
+          (with_notes (taken (rules_of hash accepts old) signed (own_state old) e)
           (direct (rules_of hash accepts old) old.id
-          (taken (rules_of hash accepts old) signed (held_state old) e) e))
+          (taken (rules_of hash accepts old) signed (own_state old) e) e))
       tail =
           let rs = same_rules hash accepts a b _ first ∙ rules in
           let ids = first.id ∙ come.same.id in
@@ -101,12 +101,12 @@ module _ {D A : Type 0} (hash : List ℕ → Digest32) (accepts : A → Block �
   pub owes_then : (old a b : Holding D A) (notes : List Note)
       → HasCome hash accepts (taken_came (rules_of hash accepts old) signed (came_of old) e) old a
       → HasNoted hash accepts notes a b
-      → OwesNoBlock (rules_of hash accepts old) (held_state old)
-      → OwesLast (rules_of hash accepts b) (held_state b)
+      → OwesNoBlock (rules_of hash accepts old) (own_state old)
+      → OwesLast (rules_of hash accepts b) (own_state b)
   owes_then old a b notes come noted rests =
       let r = rules_of hash accepts old in
-      let taken_state = taken r signed (held_state old) e in
-      let state : held_state b ≡ with_notes taken_state notes =
+      let taken_state = taken r signed (own_state old) e in
+      let state : own_state b ≡ with_notes taken_state notes =
       noted.state
       ∙ (λ i. with_notes (record {
         notes = stored_notes (come.same.store i);
@@ -122,6 +122,6 @@ module _ {D A : Type 0} (hash : List ℕ → Digest32) (accepts : A → Block �
         backlog = come.same.backlog i;
         app = come.same.app i;
       })) in
-      subst (λ (x : Rules). OwesLast x (held_state b)) (sym rules)
+      subst (λ (x : Rules). OwesLast x (own_state b)) (sym rules)
       (subst (λ (s : State). OwesLast r s) (sym state)
-      (noted_owes r taken_state notes (event_owes r signed (held_state old) e rests)))
+      (noted_owes r taken_state notes (event_owes r signed (own_state old) e rests)))

@@ -6,10 +6,10 @@ use Rattle.cw_types.specs.Block.{Block}
 use Rattle.cw_types.specs.declared.note.Note.{Note}
 use Rattle.cw_rules.specs.Accepted.{State}
 use Rattle.cw_rules.specs.Step.{with_notes}
-use Rattle.voter.specs.Known.{knows_note}
+use Rattle.voter.specs.Known.{with_note}
 use Rattle.voter.specs.Standing as voter
 use Rattle.marshal.proofs.Floors.{no_notes}
-use Rattle.node.specs.Holding.{Holding, held_state, rules_of}
+use Rattle.node.specs.Holding.{Holding, own_state, rules_of}
 use Rattle.node.specs.Noting.{HasNoted, with_all_staged}
 use Rattle.node.specs.Standing.{PartsStand}
 use Rattle.node.specs.Store.{Store, with_staged}
@@ -32,7 +32,7 @@ module _ {D A : Type 0} (hash : List ℕ → Digest32) (accepts : A → Block �
   noted_none h s =
       record {
         stands = s;
-        state = sym (no_notes (held_state h));
+        state = sym (no_notes (own_state h));
         store = sym (none_staged h.store);
         travel = refl;
         id = refl;
@@ -44,9 +44,9 @@ module _ {D A : Type 0} (hash : List ℕ → Digest32) (accepts : A → Block �
 
   -- one more note
   pub noted_one : (h new : Holding D A) (note : Note) → PartsStand hash accepts h
-      → voter.IsTallyOf hash (knows_note h.tally note) (rules_of hash accepts h)
-      (with_notes (held_state h) (note ∷ []))
-      → new ≡ record h { store = with_staged h.store note; tally = knows_note h.tally note }
+      → voter.IsTallyOf hash (with_note h.tally note) (rules_of hash accepts h)
+      (with_notes (own_state h) (note ∷ []))
+      → new ≡ record h { store = with_staged h.store note; tally = with_note h.tally note }
       → HasNoted hash accepts (note ∷ []) h new
   noted_one h new note s tally is =
       subst (λ (n : Holding D A). HasNoted hash accepts (note ∷ []) h n) (sym is) (record {
@@ -57,7 +57,7 @@ module _ {D A : Type 0} (hash : List ℕ → Digest32) (accepts : A → Block �
           id = s.id;
           tally =
               subst
-              (λ (t : State). voter.IsTallyOf hash (knows_note h.tally note)
+              (λ (t : State). voter.IsTallyOf hash (with_note h.tally note)
               (rules_of hash accepts h) t)
               (sym same) tally;
           shards = record { rules = s.shards.rules; rows = s.shards.rows };
@@ -75,11 +75,11 @@ module _ {D A : Type 0} (hash : List ℕ → Digest32) (accepts : A → Block �
         log = refl;
       })
     where
-      same : held_state
-          (record h { store = with_staged h.store note; tally = knows_note h.tally note })
-          ≡ with_notes (held_state h) (note ∷ [])
+      same : own_state
+          (record h { store = with_staged h.store note; tally = with_note h.tally note })
+          ≡ with_notes (own_state h) (note ∷ [])
       same =
-          ap (λ (l : List Note). record (held_state h) { notes = l })
+          ap (λ (l : List Note). record (own_state h) { notes = l })
           (sym
           (append_assoc (flat_map (λ (frame : List Note). frame) h.store.frames)
           h.store.staged (note ∷ [])))
@@ -90,7 +90,7 @@ module _ {D A : Type 0} (hash : List ℕ → Digest32) (accepts : A → Block �
   noted_on a b c xs ys p q = record {
     stands = q.stands;
     state = q.state
-        ∙ (ap (λ (s : State). with_notes s ys) p.state ∙ notes_on (held_state a) xs ys);
+        ∙ (ap (λ (s : State). with_notes s ys) p.state ∙ notes_on (own_state a) xs ys);
     store = q.store ∙ (ap (λ (t : Store). with_all_staged t ys) p.store ∙ staged_on a.store xs ys);
     travel = q.travel ∙ p.travel;
     id = q.id ∙ p.id;

@@ -18,7 +18,7 @@ use Rattle.cw_types.proofs.Same.{same_block-true, same_commitment-true, same_com
 use Rattle.cw_rules.specs.Accepted.{first_some}
 use Rattle.cw_rules.specs.Held.{noted_block_of}
 use Rattle.cw_rules.specs.Notes.{is_block}
-use Rattle.node.specs.Arriving.{HasFirsts, IsFirstChild, PutsFirst, first_child}
+use Rattle.node.specs.Arriving.{HasFirstsUnder, IsNotBeforeFirstChild, PutsFirst, first_child}
 use Rattle.node.specs.Holding.{is_whole, shown_under, whole_under}
 use Rattle.node.specs.declared.arrival.Arrival.{Arrival}
 use Rattle.node.specs.declared.arrival.Shown.{Shown}
@@ -98,7 +98,7 @@ first_found {X} {Y} f (x ∷ xs) = go (f x) refl (first_found f xs)
 -- it is found at the kept place
 pub first_at_place : {X : Type 0} (block_of : Commitment → X → Option Block) (xs : List X)
     (entries : List (Commitment × ℕ)) (c : Commitment)
-    → HasFirsts block_of xs entries
+    → HasFirstsUnder block_of xs entries
     → first_some (block_of c) xs
     ≡ option_and_then (λ i. option_and_then (block_of c) (slice_get xs i))
     (lookup (same_commitment c) entries)
@@ -123,9 +123,9 @@ or_none (Some x) = refl
 -- one more that gives a block under one commitment
 pub one_placed : {X : Type 0} (block_of : Commitment → X → Option Block) (xs : List X)
     (old new : List (Commitment × ℕ)) (c : Commitment) (place : ℕ) (x : X)
-    → HasFirsts block_of xs old → PutsFirst c place old new → place ≡ length xs
+    → HasFirstsUnder block_of xs old → PutsFirst c place old new → place ≡ length xs
     → ((d : Commitment) → is_some (block_of d x) ≡ same_commitment d c)
-    → HasFirsts block_of (xs ++ x ∷ []) new
+    → HasFirstsUnder block_of (xs ++ x ∷ []) new
 one_placed block_of xs old new c place x has puts at is d =
     puts d
     ∙ ((λ i. option_or (has d i) (if sym (is d) i then Some (at i) else None))
@@ -231,7 +231,7 @@ is_noted c (Note.Epoch e d) = refl
 -- the places of Block notes are those of the first noted blocks
 pub noted_firsts : (notes : List Note) (entries : List (Commitment × ℕ))
     → ((c : Commitment) → lookup (same_commitment c) entries ≡ position (is_block c) notes)
-    → HasFirsts noted_block_of notes entries
+    → HasFirstsUnder noted_block_of notes entries
 noted_firsts notes entries places c =
     places c ∙ (λ i. position (λ note. is_noted c note i) notes)
 
@@ -260,7 +260,7 @@ take_and_drop p (suc n) (x ∷ xs) = go (p x) (take_and_drop p n xs)
 
 -- so the block stands from its place on, if anywhere
 pub stands_behind : (xs : List Arrival) (entries : List (Commitment × ℕ)) (b : Block)
-    → IsFirstChild xs entries b
+    → IsNotBeforeFirstChild xs entries b
     → list_any (is_whole b) (drop (first_child xs entries b) xs) ≡ list_any (is_whole b) xs
 stands_behind xs entries b behind =
     sym
@@ -269,7 +269,7 @@ stands_behind xs entries b behind =
 
 -- and nowhere where there is no place
 pub stands_nowhere : (xs : List Arrival) (entries : List (Commitment × ℕ)) (b : Block)
-    → IsFirstChild xs entries b → lookup (same_commitment b.context.parent) entries ≡ None
+    → IsNotBeforeFirstChild xs entries b → lookup (same_commitment b.context.parent) entries ≡ None
     → list_any (is_whole b) xs ≡ false
 stands_nowhere xs entries b behind none =
     sym
@@ -313,12 +313,13 @@ later_here xs a b None later =
     later_front xs a (length xs) b (at_most (length xs)) later.none
 
 is_later : (xs : List Arrival) (entries : List (Commitment × ℕ)) (b : Block)
-    → IsFirstChild xs entries b
+    → IsNotBeforeFirstChild xs entries b
     → IsLater xs (lookup (same_commitment b.context.parent) entries) b
 is_later xs entries b behind = record { within = behind.within; none = behind.none }
 
 is_behind : (xs : List Arrival) (entries : List (Commitment × ℕ)) (b : Block)
-    → IsLater xs (lookup (same_commitment b.context.parent) entries) b → IsFirstChild xs entries b
+    → IsLater xs (lookup (same_commitment b.context.parent) entries) b
+    → IsNotBeforeFirstChild xs entries b
 is_behind xs entries b later = record { within = later.within; none = later.none }
 
 -- what is found once a place was kept
@@ -337,8 +338,8 @@ found_put c d place n old new puts at =
 pub one_child : (xs : List Arrival) (old new : List (Commitment × ℕ)) (a : Arrival) (d : Block)
     (place : ℕ)
     → a.block ≡ Some d → PutsFirst d.context.parent place old new → place ≡ length xs
-    → ((b : Block) → IsFirstChild xs old b)
-    → (b : Block) → IsFirstChild (xs ++ a ∷ []) new b
+    → ((b : Block) → IsNotBeforeFirstChild xs old b)
+    → (b : Block) → IsNotBeforeFirstChild (xs ++ a ∷ []) new b
 one_child xs old new a d place whole puts at behind b =
     is_behind (xs ++ a ∷ []) new b
     (subst (λ (o : Option ℕ). IsLater (xs ++ a ∷ []) o b)

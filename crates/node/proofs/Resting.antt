@@ -16,7 +16,7 @@ use Rattle.cw_types.specs.declared.vote.Proposal.{Proposal}
 use Rattle.cw_types.specs.declared.vote.Vote.{Vote}
 use Rattle.cw_types.proofs.Same.{same_commitment-true, same_commitment_self}
 use Rattle.cw_rules.specs.Accepted.{Ballot, Came, Many, Part, Row, Single, State, Whole, first_some, is_chunk_of, is_valid, same_ballot, same_part, take_ballot, take_part, wish_for}
-use Rattle.cw_rules.specs.Held.{greatest_floor, greatest_prune, if_committed, row_of, shown, shown_by, shown_whole, whole_of}
+use Rattle.cw_rules.specs.Held.{greatest_floor, greatest_prune, if_committed, chunk_under, shown, shown_by, shown_whole, whole_of}
 use Rattle.cw_rules.specs.Notes.{has_block, is_block}
 use Rattle.cw_rules.specs.Owed.{block_owed, named_commitments, part_commitment, when}
 use Rattle.cw_rules.specs.Reached.{In}
@@ -151,7 +151,7 @@ no_whole r c (Whole b) other = go (cases_Bool (same_commitment (commit r b) c))
         absurd (false≢true (sym other ∙ yes))
 
 no_row : (r : Rules) (c : Commitment) (p : Part) → same_commitment c (part_commitment r p) ≡ false
-    → row_of c p ≡ None
+    → chunk_under c p ≡ None
 no_row r c (Row d x) other = rw other refl
 no_row r c (Whole b) other = refl
 
@@ -168,12 +168,12 @@ shown_else t r came c p other = go t
         (no_whole r c p other)
         ∙ or_none (first_some (whole_of r c) came.parts))
 
-    rows : filter_map (row_of c) (came.parts ++ p ∷ []) ≡ filter_map (row_of c) came.parts
+    rows : filter_map (chunk_under c) (came.parts ++ p ∷ []) ≡ filter_map (chunk_under c) came.parts
     rows =
-        filter_map_more (row_of c) came.parts p
-        ∙ (ap (λ o. filter_map (row_of c) came.parts ++ option_map_or (λ y. y ∷ []) o [])
+        filter_map_more (chunk_under c) came.parts p
+        ∙ (ap (λ o. filter_map (chunk_under c) came.parts ++ option_map_or (λ y. y ∷ []) o [])
         (no_row r c p other)
-        ∙ append-nil (filter_map (row_of c) came.parts))
+        ∙ append-nil (filter_map (chunk_under c) came.parts))
 
     go : (t : Travel)
         → shown_by t r (record came { parts = came.parts ++ p ∷ [] }) c ≡ shown_by t r came c
@@ -194,7 +194,7 @@ shown_same Chunked r old new c same =
     ap
     (λ (ps : List Part). option_or (first_some (whole_of r c) ps)
     (option_and_then (if_committed r c)
-    (block_of r c.config (take c.config.minimum (filter_map (row_of c) ps)))))
+    (block_of r c.config (take c.config.minimum (filter_map (chunk_under c) ps)))))
     same
 shown_same Uncut r old new c same =
     ap

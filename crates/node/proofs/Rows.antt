@@ -27,7 +27,7 @@ use Rattle.node.proofs.Accepting.{came_nothing, came_row}
 use Rattle.cw_types.proofs.Same.{same_commitment-true}
 use Rattle.cw_rules.proofs.Lists.{first_of_both}
 use Rattle.node.specs.Accepting.{is_new_row, is_own_place, with_row}
-use Rattle.node.specs.Holding.{Holding, came_of, cut_rules, held_state, rules_of, shown_under}
+use Rattle.node.specs.Holding.{Holding, came_of, cut_rules, own_state, rules_of, shown_under}
 use Rattle.node.specs.Standing.{HasCome, PartsStand}
 use Rattle.node.specs.declared.arrival.Shown.{Shown}
 
@@ -236,7 +236,7 @@ module _ {D A : Type 0} (hash : List ℕ → Digest32) (accepts : A → Block �
       → (verdict (kept.chunk_rules hash h.shards.epochs) h.shards.kept c x ≡ Known → ⊥)
       → (verdict (kept.chunk_rules hash h.shards.epochs) h.shards.kept c x ≡ Foreign → ⊥)
       → voter.IsTallyOf hash (with_row h.epochs h.id h.tally c x.index) (rules_of hash accepts h)
-      (voter.with_came (held_state h) (take_part (came_of h) true (Row c x)))
+      (voter.with_came (own_state h) (take_part (came_of h) true (Row c x)))
       → shards.StandsFor hash (gathered_after (kept.chunk_rules hash h.shards.epochs) h.shards c x)
       (cut_rules hash accepts h)
       (take_part (came_of h) (is_chunk_of (cut_rules hash accepts h) c x) (Row c x))

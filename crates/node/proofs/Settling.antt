@@ -10,7 +10,7 @@ use Rattle.cw_rules.specs.Step.{marks, settle, with_notes}
 use Rattle.marshal.proofs.Floors.{no_notes}
 use Rattle.node.proofs.Resting.{none_here, noted_owes}
 use Rattle.node.proofs.Noting.{noted_none, noted_on, notes_on, same_rules}
-use Rattle.node.specs.Holding.{Holding, held_state, rules_of}
+use Rattle.node.specs.Holding.{Holding, own_state, rules_of}
 use Rattle.node.specs.Noting.{HasNoted}
 use Rattle.node.specs.Standing.{OwesLast, OwesNoBlock, PartsStand}
 use Rattle.node.specs.Store.{Store}
@@ -26,40 +26,40 @@ pub record IsSettling {D A : Type 0} (hash : List ℕ → Digest32) (accepts : A
   pub notes : List Note
   pub fuel : ℕ
   pub noted : HasNoted hash accepts notes old now
-  pub count : length notes + fuel ≡ marks (held_state old)
-  pub rest : settle (rules_of hash accepts old) old.id (marks (held_state old))
-      (held_state old)
+  pub count : length notes + fuel ≡ marks (own_state old)
+  pub rest : settle (rules_of hash accepts old) old.id (marks (own_state old))
+      (own_state old)
       ≡ notes ++ settle (rules_of hash accepts old) old.id fuel
-      (with_notes (held_state old) notes)
+      (with_notes (own_state old) notes)
 
 -- how many may be written yet
 abbrev pub left : {D A : Type 0} → Holding D A → Holding D A → ℕ
-left old now = marks (held_state old) - (length now.store.staged - length old.store.staged)
+left old now = marks (own_state old) - (length now.store.staged - length old.store.staged)
 
 module _ {D A : Type 0} (hash : List ℕ → Digest32) (accepts : A → Block → Block → Bool) where
   pub settling_none : (h : Holding D A) → PartsStand hash accepts h → IsSettling hash accepts h h
   settling_none h s = record {
     notes = [];
-    fuel = marks (held_state h);
+    fuel = marks (own_state h);
     noted = noted_none hash accepts h s;
     count = omega arith;
     rest =
-        ap (settle (rules_of hash accepts h) h.id (marks (held_state h)))
-        (sym (no_notes (held_state h)));
+        ap (settle (rules_of hash accepts h) h.id (marks (own_state h)))
+        (sym (no_notes (own_state h)));
   }
 
   -- what is owed now is owed after these notes
   owed_now : (old now : Holding D A) (p : IsSettling hash accepts old now)
-      → owed (rules_of hash accepts now) now.id (held_state now)
-      ≡ owed (rules_of hash accepts old) old.id (with_notes (held_state old) p.notes)
+      → owed (rules_of hash accepts now) now.id (own_state now)
+      ≡ owed (rules_of hash accepts old) old.id (with_notes (own_state old) p.notes)
   owed_now old now p =
       λ i. owed (same_rules hash accepts old now p.notes p.noted i) (p.noted.id i) (p.noted.state i)
 
   -- nothing is owed any more
   pub settling_done : (old now : Holding D A) → IsSettling hash accepts old now
-      → owed (rules_of hash accepts now) now.id (held_state now) ≡ None
+      → owed (rules_of hash accepts now) now.id (own_state now) ≡ None
       → HasNoted hash accepts
-      (settle (rules_of hash accepts old) old.id (marks (held_state old)) (held_state old))
+      (settle (rules_of hash accepts old) old.id (marks (own_state old)) (own_state old))
       old now
   settling_done old now p none =
       subst (λ (l : List Note). HasNoted hash accepts l old now)
@@ -67,56 +67,56 @@ module _ {D A : Type 0} (hash : List ℕ → Digest32) (accepts : A → Block �
       (p.rest
       ∙ (ap (λ (l : List Note). p.notes ++ l)
       (settles_none (rules_of hash accepts old) old.id p.fuel
-      (with_notes (held_state old) p.notes) (sym (owed_now old now p) ∙ none))
+      (with_notes (own_state old) p.notes) (sym (owed_now old now p) ∙ none))
       ∙ append-nil p.notes)))
       p.noted
 
   -- no block is owed any more
   pub settling_rests : (now : Holding D A)
-      → owed (rules_of hash accepts now) now.id (held_state now) ≡ None
-      → OwesNoBlock (rules_of hash accepts now) (held_state now)
+      → owed (rules_of hash accepts now) now.id (own_state now) ≡ None
+      → OwesNoBlock (rules_of hash accepts now) (own_state now)
   settling_rests now none =
       (none_here
-      (first_some (block_owed (rules_of hash accepts now) (held_state now))
-      (named_commitments (rules_of hash accepts now) (held_state now)))
+      (first_some (block_owed (rules_of hash accepts now) (own_state now))
+      (named_commitments (rules_of hash accepts now) (own_state now)))
       _ none).0
 
   -- one can be owed yet only under what came last
   pub settling_owes : (old now : Holding D A) → IsSettling hash accepts old now
-      → OwesLast (rules_of hash accepts old) (held_state old)
-      → OwesLast (rules_of hash accepts now) (held_state now)
+      → OwesLast (rules_of hash accepts old) (own_state old)
+      → OwesLast (rules_of hash accepts now) (own_state now)
   settling_owes old now p owes =
-      subst (λ (r : Rules). OwesLast r (held_state now))
+      subst (λ (r : Rules). OwesLast r (own_state now))
       (sym (same_rules hash accepts old now p.notes p.noted))
       (subst (λ (s : State). OwesLast (rules_of hash accepts old) s) (sym p.noted.state)
-      (noted_owes (rules_of hash accepts old) (held_state old) p.notes owes))
+      (noted_owes (rules_of hash accepts old) (own_state old) p.notes owes))
 
   -- one more is owed, so the bound isn't reached
   some_left : (old now : Holding D A) (p : IsSettling hash accepts old now) (note : Note)
       → owed (rules_of hash accepts old) old.id
-      (with_notes (held_state old)
-      (settle (rules_of hash accepts old) old.id (marks (held_state old)) (held_state old)))
+      (with_notes (own_state old)
+      (settle (rules_of hash accepts old) old.id (marks (own_state old)) (own_state old)))
       ≡ None
-      → owed (rules_of hash accepts now) now.id (held_state now) ≡ Some note → p.fuel ≡ 0 → ⊥
+      → owed (rules_of hash accepts now) now.id (own_state now) ≡ Some note → p.fuel ≡ 0 → ⊥
   some_left old now p note bound more out =
-      let all : settle (rules_of hash accepts old) old.id (marks (held_state old))
-      (held_state old)
+      let all : settle (rules_of hash accepts old) old.id (marks (own_state old))
+      (own_state old)
       ≡ p.notes =
       p.rest
       ∙ (ap
       (λ (n : ℕ). p.notes
       ++ settle (rules_of hash accepts old) old.id n
-      (with_notes (held_state old) p.notes))
+      (with_notes (own_state old) p.notes))
       out
       ∙ append-nil p.notes) in
-      let no : owed (rules_of hash accepts old) old.id (with_notes (held_state old) p.notes)
+      let no : owed (rules_of hash accepts old) old.id (with_notes (own_state old) p.notes)
       ≡ None =
       ap
       (λ (l : List Note). owed (rules_of hash accepts old) old.id
-      (with_notes (held_state old) l))
+      (with_notes (own_state old) l))
       (sym all)
       ∙ bound in
-      let yes : owed (rules_of hash accepts old) old.id (with_notes (held_state old) p.notes)
+      let yes : owed (rules_of hash accepts old) old.id (with_notes (own_state old) p.notes)
       ≡ Some note =
       sym (owed_now old now p) ∙ more in
       let z : None ≡ Some note = sym no ∙ yes in cc
@@ -125,10 +125,10 @@ module _ {D A : Type 0} (hash : List ℕ → Digest32) (accepts : A → Block �
   pub settling_more : (old now next : Holding D A) (p : IsSettling hash accepts old now)
       (note : Note)
       → owed (rules_of hash accepts old) old.id
-      (with_notes (held_state old)
-      (settle (rules_of hash accepts old) old.id (marks (held_state old)) (held_state old)))
+      (with_notes (own_state old)
+      (settle (rules_of hash accepts old) old.id (marks (own_state old)) (own_state old)))
       ≡ None
-      → owed (rules_of hash accepts now) now.id (held_state now) ≡ Some note
+      → owed (rules_of hash accepts now) now.id (own_state now) ≡ Some note
       → HasNoted hash accepts (note ∷ []) now next
       → IsSettling hash accepts old next
   settling_more old now next p note bound more noted = go p.fuel refl
@@ -142,26 +142,26 @@ module _ {D A : Type 0} (hash : List ℕ → Digest32) (accepts : A → Block �
         count = let n = length-append p.notes (note ∷ []) in let m = p.count in omega (arith, e);
         rest =
             let step : settle (rules_of hash accepts old) old.id (suc fuel)
-            (with_notes (held_state old) p.notes)
+            (with_notes (own_state old) p.notes)
             ≡ note
             ∷ settle (rules_of hash accepts old) old.id fuel
-            (with_notes (with_notes (held_state old) p.notes) (note ∷ [])) =
+            (with_notes (with_notes (own_state old) p.notes) (note ∷ [])) =
             rw (sym (owed_now old now p) ∙ more) refl in
             p.rest
             ∙ (ap
             (λ (n : ℕ). p.notes
             ++ settle (rules_of hash accepts old) old.id n
-            (with_notes (held_state old) p.notes))
+            (with_notes (own_state old) p.notes))
             e
             ∙ (ap (λ (l : List Note). p.notes ++ l) step
             ∙ (ap
             (λ (s : State). p.notes
             ++ (note ∷ settle (rules_of hash accepts old) old.id fuel s))
-            (notes_on (held_state old) p.notes (note ∷ []))
+            (notes_on (own_state old) p.notes (note ∷ []))
             ∙ sym
             (append_assoc p.notes (note ∷ [])
             (settle (rules_of hash accepts old) old.id fuel
-            (with_notes (held_state old) (p.notes ++ note ∷ [])))))));
+            (with_notes (own_state old) (p.notes ++ note ∷ [])))))));
       }
 
   -- how many were written
@@ -174,10 +174,10 @@ module _ {D A : Type 0} (hash : List ℕ → Digest32) (accepts : A → Block �
   pub settling_falls : (old now next : Holding D A) (p : IsSettling hash accepts old now)
       (note : Note)
       → owed (rules_of hash accepts old) old.id
-      (with_notes (held_state old)
-      (settle (rules_of hash accepts old) old.id (marks (held_state old)) (held_state old)))
+      (with_notes (own_state old)
+      (settle (rules_of hash accepts old) old.id (marks (own_state old)) (own_state old)))
       ≡ None
-      → owed (rules_of hash accepts now) now.id (held_state now) ≡ Some note
+      → owed (rules_of hash accepts now) now.id (own_state now) ≡ Some note
       → HasNoted hash accepts (note ∷ []) now next
       → left old next < left old now
   settling_falls old now next p note bound more noted = go p.fuel refl

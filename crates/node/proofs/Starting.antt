@@ -20,13 +20,13 @@ use Rattle.node_disk.specs.Log.{LogState}
 use Rattle.shards.specs.Kept as kept
 use Rattle.shards.specs.Standing as shards
 use Rattle.node.specs.Asking.{asks}
-use Rattle.node.specs.Holding.{Holding, begun, came_of, held_state, member_of, rules_of}
+use Rattle.node.specs.Holding.{Holding, begun, came_of, own_state, member_of, rules_of}
 use Rattle.node.specs.Leading.{GoesOnFrom, is_led}
 use Rattle.node.specs.Standing.{PartsStand}
 use Rattle.node.specs.State.{stepped}
 use Rattle.node.specs.Store.{Store, stored_notes}
 use Rattle.node.specs.declared.leads.Led.{Led}
-use Rattle.voter.specs.Known.{Known, knows_note, unknowing}
+use Rattle.voter.specs.Known.{Known, with_note, unknowing}
 use Rattle.voter.specs.Standing as voter
 use Rattle.std.proofs.lemmas.Bool.{le-ltb}
 use Rattle.marshal.proofs.Floors.{no_notes}
@@ -35,7 +35,7 @@ use Rattle.node.proofs.Noting.{notes_on}
 -- a tally that is told more notes stands for the member with them
 pub stands_told : (hash : List ℕ → Digest32) (r : Rules)
     → ((t : Known) (s : State) → voter.IsTallyOf hash t r s → (note : Note)
-    → voter.IsTallyOf hash (knows_note t note) r (with_notes s (note ∷ [])))
+    → voter.IsTallyOf hash (with_note t note) r (with_notes s (note ∷ [])))
     → (notes : List Note) (t : Known) (s : State) → voter.IsTallyOf hash t r s
     → voter.IsTallyOf hash (record t { notes = t.notes ++ notes }) r (with_notes s notes)
 stands_told hash r law [] t s stands =
@@ -44,7 +44,7 @@ stands_told hash r law [] t s stands =
     (subst (λ (u : State). voter.IsTallyOf hash t r u) (sym (no_notes s)) stands)
 stands_told hash r law (note ∷ notes) t s stands =
     let more =
-    stands_told hash r law notes (knows_note t note) (with_notes s (note ∷ []))
+    stands_told hash r law notes (with_note t note) (with_notes s (note ∷ []))
     (law t s stands note) in
     subst (λ (u : Known). voter.IsTallyOf hash u r (with_notes s (note ∷ notes)))
     (λ i. record t { notes = append_assoc t.notes (note ∷ []) notes i })
@@ -95,7 +95,7 @@ module _ {D A : Type 0} (hash : List ℕ → Digest32) (accepts : A → Block �
       → ((u : Known) (s : State)
       → voter.IsTallyOf hash u (ruled travel hash x backlog (accepts app)) s
       → (note : Note)
-      → voter.IsTallyOf hash (knows_note u note) (ruled travel hash x backlog (accepts app))
+      → voter.IsTallyOf hash (with_note u note) (ruled travel hash x backlog (accepts app))
       (with_notes s (note ∷ [])))
       → voter.IsTallyOf hash (unknowing x id) (ruled travel hash x backlog (accepts app))
       (record { notes = []; came = nothing_came; given = t.given })
@@ -123,8 +123,8 @@ module _ {D A : Type 0} (hash : List ℕ → Digest32) (accepts : A → Block �
       → out.sent
       ≡ flat_map (note_sends (rules_of hash accepts h) h.id (stored_notes h.store))
       (unwrap_or (last_or None h.store.frames) [])
-      ++ asks h.id (missing (rules_of hash accepts h) (held_state h)) []
-      → out.handed ≡ deliveries (rules_of hash accepts h) (held_state h)
+      ++ asks h.id (missing (rules_of hash accepts h) (own_state h)) []
+      → out.handed ≡ deliveries (rules_of hash accepts h) (own_state h)
       → out.tickets ≡ []
       → d
       ≡ record h
@@ -135,7 +135,7 @@ module _ {D A : Type 0} (hash : List ℕ → Digest32) (accepts : A → Block �
       let frames = flat_map (λ (frame : List Note). frame) h.store.frames in
       let notes = ap (λ l. frames ++ l) quiet ∙ append-nil frames in
       let first : State = record { notes = frames; came = nothing_came; given = [] } in
-      let state : held_state h ≡ first =
+      let state : own_state h ≡ first =
       λ i. record { notes = notes i; came = fresh i; given = given i } in
       let all =
       sent

@@ -19,7 +19,7 @@ use Rattle.node.proofs.Rising.{next_grows, step_quiet}
 use Rattle.node.proofs.Votes.{frame_added}
 use Rattle.node.specs.Acting.{HasActed, notes_of_event}
 use Rattle.node.specs.Answering.{HasAnswered}
-use Rattle.node.specs.Holding.{Holding, came_of, held_state, member_of, rules_of}
+use Rattle.node.specs.Holding.{Holding, came_of, own_state, member_of, rules_of}
 use Rattle.node.specs.Leading.{GoesOnFrom, IsLedBy}
 use Rattle.node.specs.Noting.{committed}
 use Rattle.node.specs.Standing.{OwesNoBlock, PartsStand}
@@ -42,9 +42,9 @@ same_notes t = joined t.frames t.staged
 module _ {D A : Type 0} (hash : List ℕ → Digest32) (accepts : A → Block → Block → Bool) where
   -- a commit keeps what the rules ask about
   pub state_committed : (b c : Holding D A)
-      → c ≡ record b { store = committed b.store; log = c.log } → held_state c ≡ held_state b
+      → c ≡ record b { store = committed b.store; log = c.log } → own_state c ≡ own_state b
   state_committed b c is =
-      ap (λ (h : Holding D A). held_state h) is ∙ (λ i. record {
+      ap (λ (h : Holding D A). own_state h) is ∙ (λ i. record {
         notes = same_notes b.store i;
         came = came_of b;
         given = b.store.given;
@@ -75,7 +75,7 @@ module _ {D A : Type 0} (hash : List ℕ → Digest32) (accepts : A → Block �
   -- what is handed out is kept
   pub stands_handed : (b c : Holding D A) (out : List Handed) → PartsStand hash accepts b
       → voter.IsTallyOf hash b.tally (rules_of hash accepts b)
-      (rule.with_handed (held_state b) out)
+      (rule.with_handed (own_state b) out)
       → c ≡ record b { store = record b.store { given = b.store.given ++ map (λ h. h.height) out } }
       → PartsStand hash accepts c
   stands_handed b c out s tally is =
@@ -111,12 +111,12 @@ module _ {D A : Type 0} (hash : List ℕ → Digest32) (accepts : A → Block �
   pub rests_answered : (e : Event) (was : State) (b c d : Holding D A) (out : StepOut)
       → c ≡ record b { store = committed b.store; log = c.log }
       → HasAnswered hash accepts e was c d out
-      → OwesNoBlock (rules_of hash accepts b) (held_state b)
-      → OwesNoBlock (rules_of hash accepts d) (held_state d)
+      → OwesNoBlock (rules_of hash accepts b) (own_state b)
+      → OwesNoBlock (rules_of hash accepts d) (own_state d)
   rests_answered e was b c d out is a rests =
-      subst (λ (h : Holding D A). OwesNoBlock (rules_of hash accepts h) (held_state h))
+      subst (λ (h : Holding D A). OwesNoBlock (rules_of hash accepts h) (own_state h))
       (sym a.left)
-      (subst (λ (r : Rules). OwesNoBlock r (held_state c))
+      (subst (λ (r : Rules). OwesNoBlock r (own_state c))
       (sym (ap (λ (h : Holding D A). rules_of hash accepts h) is))
       (subst (λ (s : State). OwesNoBlock (rules_of hash accepts b) s)
       (sym (state_committed b c is)) rests))
@@ -125,12 +125,12 @@ module _ {D A : Type 0} (hash : List ℕ → Digest32) (accepts : A → Block �
   pub no_fewer : (signed : ℕ → Vote → Bool) (e : Event) (old b c : Holding D A) (n : ℕ)
       → HasActed hash accepts signed e old b
       → c ≡ record b { store = committed b.store; log = c.log } → n
-      ≡ length (held_state old).notes
+      ≡ length (own_state old).notes
       → n ≤ length (stored_notes c.store)
   no_fewer signed e old b c n acted is count =
       let all =
       ap (λ (s : State). length s.notes) (state_committed b c is ∙ acted.state)
-      ∙ length-append (held_state old).notes
+      ∙ length-append (own_state old).notes
       (notes_of_event (rules_of hash accepts old) signed e old) in
       omega (arith, all, count)
 
@@ -140,12 +140,12 @@ module _ {D A : Type 0} (hash : List ℕ → Digest32) (accepts : A → Block �
       → HasActed hash accepts signed e old b → rules_of hash accepts b ≡ rules_of hash accepts old
       → c ≡ record b { store = committed b.store; log = c.log }
       → IsLedBy (rules_of hash accepts old) (stored_notes old.store) entries
-      → GoesOnFrom (rules_of hash accepts c) (held_state old) (held_state c) entries
+      → GoesOnFrom (rules_of hash accepts c) (own_state old) (own_state c) entries
   goes_on signed e old b c entries acted rules is led = record {
     more = more;
     notes = ap (λ (s : State). s.notes) state;
     rises =
-        subst (λ (s : State). next (held_state old) ≤ next s) (sym state)
+        subst (λ (s : State). next (own_state old) ≤ next s) (sym state)
         (next_grows (stored_notes old.store) more (came_of old) during.came old.store.given
         (λ none. step_quiet r old.id during e none));
     led =
@@ -158,12 +158,12 @@ module _ {D A : Type 0} (hash : List ℕ → Digest32) (accepts : A → Block �
       r = rules_of hash accepts old
 
       during : State
-      during = taken r signed (held_state old) e
+      during = taken r signed (own_state old) e
 
       more : List Note
       more = notes_of_event r signed e old
 
-      state : held_state c ≡ with_notes during more
+      state : own_state c ≡ with_notes during more
       state = state_committed b c is ∙ acted.state
 
   module _ (signed : ℕ → Vote → Bool) (e : Event) (old b c d : Holding D A) (out : StepOut)
@@ -171,9 +171,9 @@ module _ {D A : Type 0} (hash : List ℕ → Digest32) (accepts : A → Block �
       (acted : HasActed hash accepts signed e old b)
       (rules : rules_of hash accepts b ≡ rules_of hash accepts old) (id : b.id ≡ old.id)
       (is : c ≡ record b { store = committed b.store; log = c.log })
-      (a : HasAnswered hash accepts e (held_state old) c d out) where
+      (a : HasAnswered hash accepts e (own_state old) c d out) where
     -- the state of the member before
-    before : held_state old ≡ rule.state_of (member_of true old)
+    before : own_state old ≡ rule.state_of (member_of true old)
     before =
         λ i. record {
           notes =
@@ -198,7 +198,7 @@ module _ {D A : Type 0} (hash : List ℕ → Digest32) (accepts : A → Block �
     after_id : c.id ≡ old.id
     after_id = ap (λ (h : Holding D A). h.id) is ∙ id
 
-    after_state : held_state c
+    after_state : own_state c
         ≡ with_notes
         (taken (rules_of hash accepts old) signed (rule.state_of (member_of true old)) e)
         (step_notes (rules_of hash accepts old) old.id
@@ -231,15 +231,15 @@ module _ {D A : Type 0} (hash : List ℕ → Digest32) (accepts : A → Block �
         ∙ (λ i. add_frame old.store.frames (notes i)))
 
     -- those of the step stand behind those before
-    behind : drop (length (held_state old).notes) (stored_notes c.store)
+    behind : drop (length (own_state old).notes) (stored_notes c.store)
         ≡ step_notes (rules_of hash accepts old) old.id
         (taken (rules_of hash accepts old) signed (rule.state_of (member_of true old)) e) e
     behind =
-        ap (λ (s : State). drop (length (held_state old).notes) s.notes)
+        ap (λ (s : State). drop (length (own_state old).notes) s.notes)
         (state_committed b c is ∙ acted.state)
-        ∙ (drop_at (held_state old).notes
+        ∙ (drop_at (own_state old).notes
         (notes_of_event (rules_of hash accepts old) signed e old)
-        (length (held_state old).notes) refl
+        (length (own_state old).notes) refl
         ∙ notes)
 
     sent : out.sent ≡ (step (rules_of hash accepts old) old.id signed (member_of true old) e).sent

@@ -11,9 +11,9 @@ use Rattle.node.specs.declared.arrival.Arrival.{Arrival}
 
 -- a map has at each commitment the place of the first that gives a block under it, and nothing at
 -- one under which none does
-abbrev pub HasFirsts : {X : Type 0} → (Commitment → X → Option Block) → List X
+abbrev pub HasFirstsUnder : {X : Type 0} → (Commitment → X → Option Block) → List X
     → List (Commitment × ℕ) → Type 0
-HasFirsts block_of xs entries =
+HasFirstsUnder block_of xs entries =
     (c : Commitment) → lookup (same_commitment c) entries
     ≡ position (λ x. is_some (block_of c x)) xs
 
@@ -29,13 +29,14 @@ abbrev pub first_child : List Arrival → List (Commitment × ℕ) → Block →
 first_child xs entries b =
     unwrap_or (lookup (same_commitment b.context.parent) entries) (length xs)
 
--- before that place no arrival is the block
-pub record IsFirstChild (xs : List Arrival) (entries : List (Commitment × ℕ)) (b : Block) : Type 0
+-- no arrival before the first over its parent is the block
+pub record IsNotBeforeFirstChild (xs : List Arrival) (entries : List (Commitment
+    × ℕ)) (b : Block) : Type 0
   where
     pub within : first_child xs entries b ≤ length xs
     pub none : list_any (is_whole b) (take (first_child xs entries b) xs) ≡ false
 
 -- two maps have the places of what came whole, under each commitment and over each parent
 pub record ArePlaces (xs : List Arrival) (under over : List (Commitment × ℕ)) : Type 0 where
-  pub wholes : HasFirsts whole_under xs under
-  pub children : (b : Block) → IsFirstChild xs over b
+  pub wholes : HasFirstsUnder whole_under xs under
+  pub children : (b : Block) → IsNotBeforeFirstChild xs over b

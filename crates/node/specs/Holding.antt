@@ -55,9 +55,9 @@ came_of h = record {
   wishes = h.wishes;
 }
 
--- what the rules ask about
-abbrev pub held_state : {D A : Type 0} → Holding D A → State
-held_state h = record { notes = stored_notes h.store; came = came_of h; given = h.store.given }
+-- what the rules ask about, of what a node holds
+abbrev pub own_state : {D A : Type 0} → Holding D A → State
+own_state h = record { notes = stored_notes h.store; came = came_of h; given = h.store.given }
 
 -- the rules that are followed
 abbrev pub rules_of : {D A : Type 0} → (List ℕ → Digest32) → (A → Block → Block → Bool)

@@ -59,7 +59,8 @@ is_new notes entries height c = not (has_block notes c) && not (is_led entries h
 
 -- the state goes on from an earlier one by more notes, no height is to be handed out again, and the
 -- map stands for the notes before
-pub record GoesOnFrom (r : Rules) (old now : State) (entries : List (Commitment × Led)) : Type 0 where
+pub record GoesOnFrom (r : Rules) (old now : State)
+    (entries : List (Commitment × Led)) : Type 0 where
   pub more : List Note
   pub notes : now.notes ≡ old.notes ++ more
   pub rises : next old ≤ next now

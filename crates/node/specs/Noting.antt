@@ -10,7 +10,7 @@ use Rattle.cw_rules.specs.Owed.{block_owed, epoch_owed, finalize_owed, floor_owe
 use Rattle.cw_rules.specs.Rules.{Rules}
 use Rattle.cw_rules.specs.Step.{add_frame, with_notes}
 use Rattle.node.specs.declared.arrival.Arrival.{Arrival}
-use Rattle.node.specs.Holding.{Holding, held_state}
+use Rattle.node.specs.Holding.{Holding, own_state}
 use Rattle.node.specs.Standing.{PartsStand}
 use Rattle.node.specs.Store.{Store}
 
@@ -35,7 +35,7 @@ with_all_staged s notes = record s { staged = s.staged ++ notes }
 pub record HasNoted {D A : Type 0} (hash : List ℕ → Digest32) (accepts : A → Block → Block → Bool)
     (notes : List Note) (old new : Holding D A) : Type 0 where
   pub stands : PartsStand hash accepts new
-  pub state : held_state new ≡ with_notes (held_state old) notes
+  pub state : own_state new ≡ with_notes (own_state old) notes
   pub store : new.store ≡ with_all_staged old.store notes
   pub travel : new.travel ≡ old.travel
   pub id : new.id ≡ old.id

@@ -12,7 +12,7 @@ use Rattle.cw_rules.specs.Rules.{Rules}
 use Rattle.shards.specs.Kept as kept
 use Rattle.shards.specs.Standing as shards
 use Rattle.voter.specs.Standing as voter
-use Rattle.node.specs.Holding.{Holding, came_of, count_rows, cut_rules, held_state, rules_of, shown_under}
+use Rattle.node.specs.Holding.{Holding, came_of, count_rows, cut_rules, own_state, rules_of, shown_under}
 use Rattle.node.specs.Leading.{IsLedBy}
 use Rattle.node.specs.Store.{stored_notes}
 use Rattle.node.specs.declared.leads.Led.{Led}
@@ -26,10 +26,10 @@ pub record PartsStand {D A : Type 0} (hash : List ℕ → Digest32) (accepts : A
   pub backlog : h.store.backlog ≡ h.backlog
   pub running : h.store.failed ≡ false
   pub id : h.tally.id ≡ h.id
-  pub tally : voter.IsTallyOf hash h.tally (rules_of hash accepts h) (held_state h)
+  pub tally : voter.IsTallyOf hash h.tally (rules_of hash accepts h) (own_state h)
   pub shards : shards.StandsFor hash h.shards (cut_rules hash accepts h) (came_of h)
   pub rows : count_rows h.arrivals ≡ length h.shards.kept
-  pub named : named_commitments (rules_of hash accepts h) (held_state h)
+  pub named : named_commitments (rules_of hash accepts h) (own_state h)
       ≡ map (λ a. a.commitment) h.arrivals
   pub shown : (c : Commitment) → 0 < c.config.minimum
       → shown (kept.chunk_rules hash h.shards.epochs) (kept.kept_came h.shards.kept) c
@@ -51,7 +51,7 @@ pub record IsReady {D A : Type 0} (hash : List ℕ → Digest32) (accepts : A �
     (h : Holding D A) : Type 0 where
   pub stands : PartsStand hash accepts h
   pub quiet : h.store.staged ≡ []
-  pub rests : OwesNoBlock (rules_of hash accepts h) (held_state h)
+  pub rests : OwesNoBlock (rules_of hash accepts h) (own_state h)
 
 -- what it holds then beside a map of what its notes lead to, which stands for them
 pub record IsAwake {D A : Type 0} (hash : List ℕ → Digest32) (accepts : A → Block → Block → Bool)

@@ -9,7 +9,7 @@ ghost use Rattle.node.specs.Accepting.{brings_row};
 ghost use Rattle.node.specs.Acting.{HasActed, IsBefore, IsSameHolder, notes_of_event};
 ghost use Rattle.node.specs.Answering.{HasAnswered};
 ghost use Rattle.node.specs.Disks.{HasTried};
-ghost use Rattle.node.specs.Holding.{came_of, held_state, knowing, member_of, rules_of};
+ghost use Rattle.node.specs.Holding.{came_of, own_state, knowing, member_of, rules_of};
 ghost use Rattle.node.specs.Noting.{committed};
 ghost use Rattle.node.specs.Leading.{GoesOnFrom, IsLedBy};
 ghost use Rattle.node.specs.Standing.{IsAwake, IsReady, PartsStand};
@@ -98,7 +98,7 @@ impl<H: Hasher<Digest = Digest32>, D: Disk, A: Application> Holding<H, D, A> {
             (HasActed H.digest_of A.accepts (V.signs verifier.now) event.now self.old self.new) }
         ensures before { IfOk result
             (λ before. IsBefore (rules_of H.digest_of A.accepts self.old) event.now
-            (held_state self.old) before) }
+            (own_state self.old) before) }
         ensures kept { self.new ≡ knowing self.old self.new }
     {
         let notes = self.store.notes().len();
@@ -127,15 +127,15 @@ impl<H: Hasher<Digest = Digest32>, D: Disk, A: Application> Holding<H, D, A> {
         requires notes { before.now.notes ≤ length (stored_notes self.now.store) }
         ensures out { (old : State)
             → IsBefore (rules_of H.digest_of A.accepts self.now) event.now old before.now
-            → GoesOnFrom (rules_of H.digest_of A.accepts self.now) old (held_state self.now)
+            → GoesOnFrom (rules_of H.digest_of A.accepts self.now) old (own_state self.now)
             leads.old.led.entries
             → IfOk result (λ out. out.items
             ≡ sends_rule.sends (rules_of H.digest_of A.accepts self.now) self.now.id old
-            (held_state self.now) event.now
+            (own_state self.now) event.now
             (drop before.now.notes (stored_notes self.now.store))) }
         ensures led { (old : State)
             → IsBefore (rules_of H.digest_of A.accepts self.now) event.now old before.now
-            → GoesOnFrom (rules_of H.digest_of A.accepts self.now) old (held_state self.now)
+            → GoesOnFrom (rules_of H.digest_of A.accepts self.now) old (own_state self.now)
             leads.old.led.entries
             → OnOk result (IsLedBy (rules_of H.digest_of A.accepts self.now)
             (stored_notes self.now.store) leads.new.led.entries) }
@@ -207,7 +207,7 @@ impl<H: Hasher<Digest = Digest32>, D: Disk, A: Application> Holding<H, D, A> {
         requires quiet { self.old.store.staged ≡ [] }
         ensures value { IfOk result
             (λ handed. handed.items ≡ rule.deliveries (rules_of H.digest_of A.accepts self.old)
-            (held_state self.old)) }
+            (own_state self.old)) }
         ensures ok { IfOk result (λ handed. self.new
             ≡ record self.old {
               store = record self.old.store
@@ -251,13 +251,13 @@ impl<H: Hasher<Digest = Digest32>, D: Disk, A: Application> Holding<H, D, A> {
         requires notes { before.now.notes ≤ length (stored_notes self.old.store) }
         ensures answer { (was : State)
             → IsBefore (rules_of H.digest_of A.accepts self.old) event.now was before.now
-            → GoesOnFrom (rules_of H.digest_of A.accepts self.old) was (held_state self.old)
+            → GoesOnFrom (rules_of H.digest_of A.accepts self.old) was (own_state self.old)
             leads.old.led.entries
             → IfOk result (λ out. HasAnswered H.digest_of A.accepts event.now was self.old self.new
             out) }
         ensures led { (was : State)
             → IsBefore (rules_of H.digest_of A.accepts self.old) event.now was before.now
-            → GoesOnFrom (rules_of H.digest_of A.accepts self.old) was (held_state self.old)
+            → GoesOnFrom (rules_of H.digest_of A.accepts self.old) was (own_state self.old)
             leads.old.led.entries
             → OnOk result (IsLedBy (rules_of H.digest_of A.accepts self.old)
             (stored_notes self.old.store) leads.new.led.entries) }

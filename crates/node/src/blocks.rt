@@ -8,7 +8,7 @@ ghost use Rattle.cw_rules.specs.Accepted.{first_some};
 ghost use Rattle.cw_rules.specs.Held as held_rule;
 ghost use Rattle.cw_rules.specs.Owed as rule;
 ghost use Rattle.node.specs.Noting.{arrival_owed};
-ghost use Rattle.node.specs.Holding.{came_of, held_state, rules_of};
+ghost use Rattle.node.specs.Holding.{came_of, own_state, rules_of};
 ghost use Rattle.node.specs.Standing.{OwesLast, PartsStand};
 ghost use Rattle.node.specs.Store.{stored_notes};
 
@@ -90,7 +90,7 @@ impl<H: Hasher<Digest = Digest32>, D: Disk, A: Application> Holding<H, D, A> {
     fn unnoted(&self, commitment: &Commitment) -> Option<&ChainBlock>
         requires { PartsStand H.digest_of A.accepts self.now }
         ensures { option_map (λ block. NoteValue.Block commitment.now block.now) result
-            ≡ rule.block_owed (rules_of H.digest_of A.accepts self.now) (held_state self.now)
+            ≡ rule.block_owed (rules_of H.digest_of A.accepts self.now) (own_state self.now)
             commitment.now }
     {
         match self.shown(commitment) {
@@ -109,10 +109,10 @@ impl<H: Hasher<Digest = Digest32>, D: Disk, A: Application> Holding<H, D, A> {
     // none was owed, so one can be owed only under the commitment that came last.
     pub(crate) fn owed_block(&self, alloc: Global) -> Result<Option<Note>, NoMemory>
         requires stands { PartsStand H.digest_of A.accepts self.now }
-        requires last { OwesLast (rules_of H.digest_of A.accepts self.now) (held_state self.now) }
+        requires last { OwesLast (rules_of H.digest_of A.accepts self.now) (own_state self.now) }
         ensures value { IfOk result
             (λ note. note ≡ first_some
-            (arrival_owed (rules_of H.digest_of A.accepts self.now) (held_state self.now))
+            (arrival_owed (rules_of H.digest_of A.accepts self.now) (own_state self.now))
             self.now.arrivals) }
         ensures storable { IfOk result (λ note. IfSome note (λ note. IsTrue (is_storable note))) }
     {

@@ -101,7 +101,7 @@ pub(crate) struct ShownBlocks {
 
 impl Model for ShownBlocks {
     ghost use Rattle.std.specs.Prelude.{List};
-    ghost use Rattle.node.specs.Arriving.{HasFirsts};
+    ghost use Rattle.node.specs.Arriving.{HasFirstsUnder};
     ghost use Rattle.node.specs.Holding.{shown_under};
     ghost use Rattle.node.specs.declared.arrival.Shown.{Shown};
 
@@ -109,7 +109,7 @@ impl Model for ShownBlocks {
 
     ghost view = { λ s. s.list.items };
 
-    ghost invariant = { λ s. HasFirsts shown_under s.list.items s.places.entries };
+    ghost invariant = { λ s. HasFirstsUnder shown_under s.list.items s.places.entries };
 }
 
 impl ShownBlocks {

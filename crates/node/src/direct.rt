@@ -12,7 +12,7 @@ ghost use Rattle.cw_rules.specs.Held as held_rule;
 ghost use Rattle.cw_rules.specs.Notes as notes_rule;
 ghost use Rattle.cw_rules.specs.Owed as owed_rule;
 ghost use Rattle.node.specs.Proposing.{is_fit, notes_proposed};
-ghost use Rattle.node.specs.Holding.{held_state, knowing, rules_of};
+ghost use Rattle.node.specs.Holding.{own_state, knowing, rules_of};
 ghost use Rattle.node.specs.Noting.{HasNoted};
 ghost use Rattle.node.specs.Standing.{PartsStand};
 ghost use Rattle.node.specs.Store.{stored_notes};
@@ -226,7 +226,8 @@ impl<H: Hasher<Digest = Digest32>, D: Disk, A: Application> Holding<H, D, A> {
         }
     }
 
-    // Whether the member may vote to nullify that view: it is its view, and not closed.
+    // Whether the member may vote to nullify that view: it is its view, below 2^64 - 1 and not
+    // closed, of an epoch whose member it is.
     fn may_nullify(&self, epoch: u64, view: u64) -> bool
         requires { PartsStand H.digest_of A.accepts self.now }
         ensures { result ≡ ((view == notes_rule.view_of (stored_notes self.now.store) epoch)
@@ -257,7 +258,7 @@ impl<H: Hasher<Digest = Digest32>, D: Disk, A: Application> Holding<H, D, A> {
         requires { PartsStand H.digest_of A.accepts self.old }
         ensures ok { OnOk result (HasNoted H.digest_of A.accepts
             (option_map_or (λ h. NoteValue.Ack h ∷ [])
-            (rule.least (held_rule.pending (held_state self.old))) []) self.old self.new) }
+            (rule.least (held_rule.pending (own_state self.old))) []) self.old self.new) }
         ensures kept { self.new ≡ knowing self.old self.new }
     {
         match self.store.least_pending() {
@@ -283,7 +284,7 @@ impl<H: Hasher<Digest = Digest32>, D: Disk, A: Application> Holding<H, D, A> {
         requires { PartsStand H.digest_of A.accepts self.old }
         ensures ok { OnOk result (HasNoted H.digest_of A.accepts
             (rule.direct (rules_of H.digest_of A.accepts self.old) self.old.id
-            (held_state self.old)
+            (own_state self.old)
             (event.Prune height)) self.old self.new) }
         ensures kept { self.new ≡ knowing self.old self.new }
     {
@@ -304,7 +305,7 @@ impl<H: Hasher<Digest = Digest32>, D: Disk, A: Application> Holding<H, D, A> {
         requires { PartsStand H.digest_of A.accepts self.old }
         ensures ok { OnOk result (HasNoted H.digest_of A.accepts
             (rule.direct (rules_of H.digest_of A.accepts self.old) self.old.id
-            (held_state self.old)
+            (own_state self.old)
             event.now) self.old self.new) }
         ensures kept { self.new ≡ knowing self.old self.new }
     {

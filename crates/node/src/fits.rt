@@ -6,7 +6,7 @@ ghost use Rattle.cw_rules.specs.Accepted.{first_some};
 ghost use Rattle.cw_rules.specs.Fits as fits_rule;
 ghost use Rattle.cw_rules.specs.Owed as rule;
 ghost use Rattle.cw_types.specs.Epochs as epochs_rule;
-ghost use Rattle.node.specs.Holding.{held_state, rules_of};
+ghost use Rattle.node.specs.Holding.{own_state, rules_of};
 ghost use Rattle.node.specs.Standing.{PartsStand};
 ghost use Rattle.node.specs.Store.{stored_notes};
 
@@ -132,8 +132,8 @@ impl<H: Hasher<Digest = Digest32>, D: Disk, A: Application> Holding<H, D, A> {
         requires { PartsStand H.digest_of A.accepts self.now }
         ensures value { IfOk result
             (λ note. note ≡ first_some
-            (rule.certified_owed (rules_of H.digest_of A.accepts self.now) (held_state self.now))
-            (rule.named_proposals (held_state self.now))) }
+            (rule.certified_owed (rules_of H.digest_of A.accepts self.now) (own_state self.now))
+            (rule.named_proposals (own_state self.now))) }
         ensures storable { IfOk result (λ note. IfSome note (λ note. IsTrue (is_storable note))) }
     {
         tally_stands();

@@ -1,14 +1,15 @@
 //! Which blocks are missing, and what is asked for.
 
 ghost use Rattle.std.specs.Prelude.{◌≡◌, ◌≤◌, ◌++◌, ◌∷◌, [], ℕ, IfOk, OnOk, None, Some, filter};
-ghost use Rattle.std.specs.Prelude.{filter_map, if◌then◌else◌, length, map, nat_lt, option_and_then};
+ghost use Rattle.std.specs.Prelude.{filter_map, if◌then◌else◌, length, map, nat_lt};
+ghost use Rattle.std.specs.Prelude.{option_and_then};
 ghost use Rattle.cw_types.specs.declared.message.Message.TheVariants as message;
 ghost use Rattle.cw_rules.specs.Accepted.{State};
 ghost use Rattle.cw_types.specs.Commit as first;
 ghost use Rattle.cw_rules.specs.Held as held_rule;
 ghost use Rattle.cw_rules.specs.Sends as rule;
 ghost use Rattle.node.specs.Asking.{asks};
-ghost use Rattle.node.specs.Holding.{held_state, rules_of};
+ghost use Rattle.node.specs.Holding.{own_state, rules_of};
 ghost use Rattle.node.specs.Leading.{GoesOnFrom, IsLedBy, is_new, lead_at, lead_height};
 ghost use Rattle.node.specs.Standing.{PartsStand};
 ghost use Rattle.node.specs.Store.{stored_notes};
@@ -26,7 +27,7 @@ use std::collections::BTreeSet;
 impl<H: Hasher<Digest = Digest32>, D: Disk, A: Application> Holding<H, D, A> {
     /// The height above which blocks lead to their parents.
     pub(crate) fn lead_height(&self) -> u64
-        ensures { result ≡ lead_height (held_state self.now) }
+        ensures { result ≡ lead_height (own_state self.now) }
     {
         let prune = self.store.greatest_prune().unwrap_or(0);
         self.store.next_height().max(prune.saturating_sub(1))
@@ -46,15 +47,15 @@ impl<H: Hasher<Digest = Digest32>, D: Disk, A: Application> Holding<H, D, A> {
         requires stands { PartsStand H.digest_of A.accepts self.now }
         requires place { place ≤ length (stored_notes self.now.store) }
         ensures asked { (old : State)
-            → GoesOnFrom (rules_of H.digest_of A.accepts self.now) old (held_state self.now)
+            → GoesOnFrom (rules_of H.digest_of A.accepts self.now) old (own_state self.now)
             leads.old.led.entries
             → place ≡ length old.notes → height ≡ lead_height old
             → OnOk result (out.new.items ≡ out.old.items
             ++ asks self.now.id
-            (rule.missing (rules_of H.digest_of A.accepts self.now) (held_state self.now))
+            (rule.missing (rules_of H.digest_of A.accepts self.now) (own_state self.now))
             (rule.missing (rules_of H.digest_of A.accepts self.now) old)) }
         ensures led { (old : State)
-            → GoesOnFrom (rules_of H.digest_of A.accepts self.now) old (held_state self.now)
+            → GoesOnFrom (rules_of H.digest_of A.accepts self.now) old (own_state self.now)
             leads.old.led.entries
             → place ≡ length old.notes
             → OnOk result (IsLedBy (rules_of H.digest_of A.accepts self.now)
@@ -136,7 +137,7 @@ impl<H: Hasher<Digest = Digest32>, D: Disk, A: Application> Holding<H, D, A> {
     ) -> Result<Vec<Commitment>, NoMemory>
         ensures { IfOk result (λ new. new.items
             ≡ filter (is_new (stored_notes self.now.store) map.now.led.entries height)
-            (filter_map (lead_at (held_rule.next (held_state self.now))) leads.now)) }
+            (filter_map (lead_at (held_rule.next (own_state self.now))) leads.now)) }
     {
         let next = self.store.next_height();
         let mut new = Vec::new(alloc);

@@ -11,7 +11,7 @@ ghost use Rattle.cw_rules.specs.Notes as notes_rule;
 ghost use Rattle.cw_rules.specs.Owed as rule;
 ghost use Rattle.node.specs.Noting.{last_owed};
 ghost use Rattle.std.specs.List.{list_all};
-ghost use Rattle.node.specs.Holding.{held_state, rules_of};
+ghost use Rattle.node.specs.Holding.{own_state, rules_of};
 ghost use Rattle.node.specs.Standing.{OwesLast, PartsStand};
 ghost use Rattle.node.specs.Store.{stored_notes};
 
@@ -29,7 +29,7 @@ impl<H: Hasher<Digest = Digest32>, D: Disk, A: Application> Holding<H, D, A> {
         requires { PartsStand H.digest_of A.accepts self.now }
         ensures value { IfOk result
             (λ note. note ≡ last_owed (rules_of H.digest_of A.accepts self.now) self.now.id
-            (held_state self.now)) }
+            (own_state self.now)) }
         ensures storable { IfOk result (λ note. IfSome note (λ note. IsTrue (is_storable note))) }
     {
         if let Some(note) = self.owed_floor() {
@@ -45,10 +45,10 @@ impl<H: Hasher<Digest = Digest32>, D: Disk, A: Application> Holding<H, D, A> {
     /// The note that is owed: that of the first case that applies. It can be stored.
     pub(crate) fn owed(&self, alloc: Global) -> Result<Option<Note>, NoMemory>
         requires stands { PartsStand H.digest_of A.accepts self.now }
-        requires last { OwesLast (rules_of H.digest_of A.accepts self.now) (held_state self.now) }
+        requires last { OwesLast (rules_of H.digest_of A.accepts self.now) (own_state self.now) }
         ensures value { IfOk result
             (λ note. note ≡ rule.owed (rules_of H.digest_of A.accepts self.now) self.now.id
-            (held_state self.now)) }
+            (own_state self.now)) }
         ensures storable { IfOk result (λ note. IfSome note (λ note. IsTrue (is_storable note))) }
     {
         if let Some(note) = self.owed_block(alloc)? {
@@ -72,7 +72,7 @@ impl<H: Hasher<Digest = Digest32>, D: Disk, A: Application> Holding<H, D, A> {
         ensures value { IfOk result
             (λ note. note ≡ first_some
             (rule.cert_owed (rules_of H.digest_of A.accepts self.now) self.now.id
-            (held_state self.now)) (rule.named_votes (held_state self.now))) }
+            (own_state self.now)) (rule.named_votes (own_state self.now))) }
         ensures storable { IfOk result (λ note. IfSome note (λ note. IsTrue (is_storable note))) }
     {
         tally_stands();
@@ -98,7 +98,7 @@ impl<H: Hasher<Digest = Digest32>, D: Disk, A: Application> Holding<H, D, A> {
 
     // Whether the height is one for a floor: it isn't handed out, and above those that are noted.
     fn is_floor(&self, height: u64) -> bool
-        ensures { result ≡ (nat_le (held_rule.next (held_state self.now)) height
+        ensures { result ≡ (nat_le (held_rule.next (own_state self.now)) height
             && list_all (λ h. nat_lt h height)
             (filter_map held_rule.floor_height (stored_notes self.now.store))) }
     {
@@ -108,7 +108,7 @@ impl<H: Hasher<Digest = Digest32>, D: Disk, A: Application> Holding<H, D, A> {
     // The height of the floor that is owed for a wish.
     fn floor_for(&self, commitment: &Commitment) -> Option<u64>
         ensures value { option_map NoteValue.Floor result
-            ≡ rule.floor_owed (rules_of H.digest_of A.accepts self.now) (held_state self.now)
+            ≡ rule.floor_owed (rules_of H.digest_of A.accepts self.now) (own_state self.now)
             commitment.now }
         ensures bound { IfSome result (λ height. height < 2 ^ 64 - 1) }
     {
@@ -129,7 +129,7 @@ impl<H: Hasher<Digest = Digest32>, D: Disk, A: Application> Holding<H, D, A> {
     fn first_floor(&self, wishes: &[Commitment]) -> Option<u64>
         ensures value { option_map NoteValue.Floor result
             ≡ first_some (rule.floor_owed (rules_of H.digest_of A.accepts self.now)
-            (held_state self.now)) wishes.now }
+            (own_state self.now)) wishes.now }
         ensures bound { IfSome result (λ height. height < 2 ^ 64 - 1) }
     {
         for wish in wishes {
@@ -143,7 +143,7 @@ impl<H: Hasher<Digest = Digest32>, D: Disk, A: Application> Holding<H, D, A> {
     // 4. A floor that is wished for, above those noted.
     fn owed_floor(&self) -> Option<Note>
         ensures value { result ≡ first_some
-            (rule.floor_owed (rules_of H.digest_of A.accepts self.now) (held_state self.now))
+            (rule.floor_owed (rules_of H.digest_of A.accepts self.now) (own_state self.now))
             self.now.wishes }
         ensures storable { IfSome result (λ note. IsTrue (is_storable note)) }
     {
@@ -210,7 +210,7 @@ impl<H: Hasher<Digest = Digest32>, D: Disk, A: Application> Holding<H, D, A> {
     fn owed_epoch(&self) -> Option<Note>
         requires { PartsStand H.digest_of A.accepts self.now }
         ensures value { result ≡ rule.epoch_owed (rules_of H.digest_of A.accepts self.now)
-            (held_state self.now) }
+            (own_state self.now) }
         ensures storable { IfSome result (λ note. IsTrue (is_storable note)) }
     {
         let top = self.top_height();

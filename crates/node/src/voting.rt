@@ -9,7 +9,7 @@ ghost use Rattle.cw_types.specs.Epochs as epochs_rule;
 ghost use Rattle.cw_types.specs.Values.{is_storable};
 ghost use Rattle.cw_types.specs.declared.note.Note.{Note as NoteValue};
 ghost use Rattle.cw_types.specs.declared.vote.Vote.{Vote as VoteValue};
-ghost use Rattle.node.specs.Holding.{held_state, rules_of};
+ghost use Rattle.node.specs.Holding.{own_state, rules_of};
 ghost use Rattle.node.specs.Standing.{PartsStand};
 ghost use Rattle.node.specs.Store.{stored_notes};
 ghost use Rattle.voter.specs.Owing as owing;
@@ -37,7 +37,7 @@ impl<H: Hasher<Digest = Digest32>, D: Disk, A: Application> Holding<H, D, A> {
     fn knows(&self, payload: &Commitment) -> bool
         requires { PartsStand H.digest_of A.accepts self.now }
         ensures { result ≡ rule.is_known (rules_of H.digest_of A.accepts self.now)
-            (held_state self.now) payload.now }
+            (own_state self.now) payload.now }
     {
         match self.shown(payload) {
             Some(_) => true,
@@ -80,7 +80,7 @@ impl<H: Hasher<Digest = Digest32>, D: Disk, A: Application> Holding<H, D, A> {
     fn is_ready_by_knowing(&self, proposal: &Proposal, parent: &Commitment) -> bool
         requires { PartsStand H.digest_of A.accepts self.now }
         ensures { result ≡ ((rule.is_known (rules_of H.digest_of A.accepts self.now)
-            (held_state self.now) proposal.now.payload
+            (own_state self.now) proposal.now.payload
             && rule.is_payload_for (rules_of H.digest_of A.accepts self.now) proposal.now
             parent.now)
             || rule.is_again (rules_of H.digest_of A.accepts self.now)
@@ -95,7 +95,7 @@ impl<H: Hasher<Digest = Digest32>, D: Disk, A: Application> Holding<H, D, A> {
         requires stands { PartsStand H.digest_of A.accepts self.now }
         requires uncut { self.now.travel ≡ Travel.Uncut }
         ensures { result ≡ rule.is_ready (rules_of H.digest_of A.accepts self.now)
-            self.now.tally.id (held_state self.now) proposal.now parent.now }
+            self.now.tally.id (own_state self.now) proposal.now parent.now }
     {
         self.is_ready_by_knowing(proposal, parent)
     }
@@ -105,7 +105,7 @@ impl<H: Hasher<Digest = Digest32>, D: Disk, A: Application> Holding<H, D, A> {
         requires stands { PartsStand H.digest_of A.accepts self.now }
         requires uncut { self.now.travel ≡ Travel.Uncut }
         ensures { result ≡ rule.can_vote (rules_of H.digest_of A.accepts self.now)
-            self.now.tally.id (held_state self.now) proposal.now }
+            self.now.tally.id (own_state self.now) proposal.now }
     {
         match self.tally.settled(proposal.epoch, proposal.parent) {
             Some(parent) => self.is_ready(proposal, &parent),
@@ -119,7 +119,7 @@ impl<H: Hasher<Digest = Digest32>, D: Disk, A: Application> Holding<H, D, A> {
         requires uncut { self.now.travel ≡ Travel.Uncut }
         ensures value { IfOk result
             (λ first. first ≡ find (rule.can_vote (rules_of H.digest_of A.accepts self.now)
-            self.now.tally.id (held_state self.now)) (owing.votable self.now.tally)) }
+            self.now.tally.id (own_state self.now)) (owing.votable self.now.tally)) }
         ensures storable { IfOk result (λ first. IfSome first
             (λ p. IsTrue (is_storable (NoteValue.Vote (VoteValue.Notarize p))))) }
     {
@@ -143,7 +143,7 @@ impl<H: Hasher<Digest = Digest32>, D: Disk, A: Application> Holding<H, D, A> {
         requires uncut { self.now.travel ≡ Travel.Uncut }
         ensures value { IfOk result (λ note. note ≡ first_some
             (rule.notarize_owed (rules_of H.digest_of A.accepts self.now) self.now.id
-            (held_state self.now)) (rule.named_proposals (held_state self.now))) }
+            (own_state self.now)) (rule.named_proposals (own_state self.now))) }
         ensures storable { IfOk result (λ note. IfSome note (λ note. IsTrue (is_storable note))) }
     {
         tally_stands();
@@ -158,7 +158,7 @@ impl<H: Hasher<Digest = Digest32>, D: Disk, A: Application> Holding<H, D, A> {
         requires { PartsStand H.digest_of A.accepts self.now }
         ensures value { result ≡ first_some
             (rule.finalize_owed (rules_of H.digest_of A.accepts self.now) self.now.id
-            (held_state self.now)) (rule.named_proposals (held_state self.now)) }
+            (own_state self.now)) (rule.named_proposals (own_state self.now)) }
         ensures storable { IfSome result (λ note. IsTrue (is_storable note)) }
     {
         tally_stands();
@@ -174,9 +174,9 @@ impl<H: Hasher<Digest = Digest32>, D: Disk, A: Application> Holding<H, D, A> {
         requires uncut { self.now.travel ≡ Travel.Uncut }
         ensures value { IfOk result (λ note. note ≡ option_or
             (first_some (rule.notarize_owed (rules_of H.digest_of A.accepts self.now) self.now.id
-            (held_state self.now)) (rule.named_proposals (held_state self.now)))
+            (own_state self.now)) (rule.named_proposals (own_state self.now)))
             (first_some (rule.finalize_owed (rules_of H.digest_of A.accepts self.now) self.now.id
-            (held_state self.now)) (rule.named_proposals (held_state self.now)))) }
+            (own_state self.now)) (rule.named_proposals (own_state self.now)))) }
         ensures storable { IfOk result (λ note. IfSome note (λ note. IsTrue (is_storable note))) }
     {
         if let Some(note) = self.owed_notarize()? {
@@ -191,9 +191,9 @@ impl<H: Hasher<Digest = Digest32>, D: Disk, A: Application> Holding<H, D, A> {
         requires cut { self.now.travel ≡ Travel.Chunked }
         ensures value { result ≡ option_or
             (first_some (rule.notarize_owed (rules_of H.digest_of A.accepts self.now) self.now.id
-            (held_state self.now)) (rule.named_proposals (held_state self.now)))
+            (own_state self.now)) (rule.named_proposals (own_state self.now)))
             (first_some (rule.finalize_owed (rules_of H.digest_of A.accepts self.now) self.now.id
-            (held_state self.now)) (rule.named_proposals (held_state self.now))) }
+            (own_state self.now)) (rule.named_proposals (own_state self.now))) }
         ensures storable { IfSome result (λ note. IsTrue (is_storable note)) }
     {
         tally_stands();
@@ -208,9 +208,9 @@ impl<H: Hasher<Digest = Digest32>, D: Disk, A: Application> Holding<H, D, A> {
         requires { PartsStand H.digest_of A.accepts self.now }
         ensures value { IfOk result (λ note. note ≡ option_or
             (first_some (rule.notarize_owed (rules_of H.digest_of A.accepts self.now) self.now.id
-            (held_state self.now)) (rule.named_proposals (held_state self.now)))
+            (own_state self.now)) (rule.named_proposals (own_state self.now)))
             (first_some (rule.finalize_owed (rules_of H.digest_of A.accepts self.now) self.now.id
-            (held_state self.now)) (rule.named_proposals (held_state self.now)))) }
+            (own_state self.now)) (rule.named_proposals (own_state self.now)))) }
         ensures storable { IfOk result (λ note. IfSome note (λ note. IsTrue (is_storable note))) }
     {
         match self.travel {

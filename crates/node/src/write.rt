@@ -3,7 +3,7 @@
 ghost use Rattle.std.specs.Prelude.{◌≡◌, ◌∷◌, [], IsTrue, OnOk};
 ghost use Rattle.cw_types.specs.Values.{is_storable};
 ghost use Rattle.cw_rules.specs.Step.{marks, settle};
-ghost use Rattle.node.specs.Holding.{held_state, knowing, rules_of};
+ghost use Rattle.node.specs.Holding.{own_state, knowing, rules_of};
 ghost use Rattle.node.specs.Noting.{HasNoted};
 ghost use Rattle.node.specs.Standing.{OwesLast, OwesNoBlock, PartsStand};
 
@@ -32,12 +32,12 @@ impl<H: Hasher<Digest = Digest32>, D: Disk, A: Application> Holding<H, D, A> {
     /// Writes the notes that are owed, until none is.
     pub(crate) fn settle(&mut self, alloc: Global) -> Result<(), NoMemory>
         requires stands { PartsStand H.digest_of A.accepts self.old }
-        requires last { OwesLast (rules_of H.digest_of A.accepts self.old) (held_state self.old) }
+        requires last { OwesLast (rules_of H.digest_of A.accepts self.old) (own_state self.old) }
         ensures ok { OnOk result (HasNoted H.digest_of A.accepts
             (settle (rules_of H.digest_of A.accepts self.old) self.old.id
-            (marks (held_state self.old)) (held_state self.old)) self.old self.new) }
+            (marks (own_state self.old)) (own_state self.old)) self.old self.new) }
         ensures rests { OnOk result
-            (OwesNoBlock (rules_of H.digest_of A.accepts self.new) (held_state self.new)) }
+            (OwesNoBlock (rules_of H.digest_of A.accepts self.new) (own_state self.new)) }
         ensures kept { self.new ≡ knowing self.old self.new }
     {
         bound_laws();

@@ -5,7 +5,7 @@ use Rattle.std.proofs.lemmas.Bool.Decides.{nat_tests}
 use Rattle.cw_base.specs.Causes.{Rose}
 use Rattle.node_disk.specs.Images.{Moment}
 use Rattle.node_disk.specs.Disk.{DeviceCall, told_more, put_at, Torn, HasWritten, HasFailedToWrite, HasSynced, HasFailedToSync}
-use Rattle.node_disk.specs.Record.{Held, Written, RecordedCall, Request, Write, Sync, request_of, recorded_of, range_of, moment_of, torn, done_writes, effect, held_at_opening, held_past, held_past_all, moments, empty_disk, held_after, past_of, told_calls, told_entry, told_request, has_succeeded, is_reached, is_to_fail, by_number, outcome_at}
+use Rattle.node_disk.specs.Record.{Held, Written, RecordedCall, Request, Write, Sync, request_of, recorded_of, range_of, moment_of, torn, done_writes, effect, held_at_opening, held_after_call, held_after_calls, moments, empty_disk, held_after, past_of, told_calls, told_call, told_request, has_succeeded, is_reached, is_to_fail, by_number, outcome_at}
 use Rattle.node_disk.specs.Memory.{MemoryState, memory_state, next_outcome, next_fails, IsHeldBy, HasCalled, Continues}
 use Rattle.node_disk.specs.MemoryLaws.{length-torn, length-put_torn}
 use Rattle.node_disk.specs.declared.record.Stop.{Stop}
@@ -15,18 +15,18 @@ use Rattle.node_disk.specs.declared.record.Outcome.TheVariants.{Done, Failed, St
 use Rattle.node_disk.proofs.Moments.{torn_same}
 
 run_push : (held : Held) (entries : List RecordedCall) (e : RecordedCall)
-    → held_past_all held (entries ++ e ∷ []) ≡ held_past (held_past_all held entries) e
+    → held_after_calls held (entries ++ e ∷ []) ≡ held_after_call (held_after_calls held entries) e
 run_push held [] e = refl
-run_push held (f ∷ entries) e = run_push (held_past held f) entries e
+run_push held (f ∷ entries) e = run_push (held_after_call held f) entries e
 
 moments_push : (held : Held) (entries : List RecordedCall) (e : RecordedCall)
     → moments held (entries ++ e ∷ [])
-    ≡ moments held entries ++ moment_of (held_at_opening e.reopened (held_past_all held entries))
+    ≡ moments held entries ++ moment_of (held_at_opening e.reopened (held_after_calls held entries))
     ∷ []
 moments_push held [] e = refl
 moments_push held (f ∷ entries) e =
     ap (λ (l : List Moment). moment_of (held_at_opening f.reopened held) ∷ l)
-    (moments_push (held_past held f) entries e)
+    (moments_push (held_after_call held f) entries e)
 
 done_only : (o : Outcome) → has_succeeded o ≡ true → o ≡ Done
 done_only Done is = refl
@@ -141,8 +141,8 @@ module _ (request : Request) (old new : MemoryState) (called : HasCalled request
   pub held_now : held_after new.calls new.reopened ≡ effect held request (next_outcome old)
   unfolding held_after
   held_now =
-      ap (λ (r : Bool). held_at_opening r (held_past_all empty_disk new.calls)) called.reopened
-      ∙ ap (λ (l : List RecordedCall). held_past_all empty_disk l) called.calls
+      ap (λ (r : Bool). held_at_opening r (held_after_calls empty_disk new.calls)) called.reopened
+      ∙ ap (λ (l : List RecordedCall). held_after_calls empty_disk l) called.calls
       ∙ run_push empty_disk old.calls entry
 
   pub past_now : past_of new.calls ≡ past_of old.calls ++ moment_of held ∷ []
@@ -154,7 +154,7 @@ module _ (request : Request) (old new : MemoryState) (called : HasCalled request
   told_now : told_calls new.calls
       ≡ told_calls old.calls ++ told_request request (has_succeeded (next_outcome old)) ∷ []
   unfolding told_calls
-  told_now = ap (map told_entry) called.calls ∙ map-append told_entry old.calls (entry ∷ [])
+  told_now = ap (map told_call) called.calls ∙ map-append told_call old.calls (entry ∷ [])
 
   pub told_some : (done : Bool) → has_succeeded (next_outcome old) ≡ done
       → (memory_state new).calls

@@ -6,7 +6,7 @@ use Rattle.std.proofs.lemmas.List.Folds.{list_all-append}
 use Rattle.node_disk.specs.Disk.{DeviceCall, IsCutShort, Synced, Wrote, failing}
 use Rattle.node_disk.specs.MemoryLaws.{calm_stop, calm_failing}
 use Rattle.node_disk.specs.Memory.{Continues, MemoryState, is_calm, is_stopped, memory_state, next_fails}
-use Rattle.node_disk.specs.Record.{RecordedCall, Request, Sync, Write, decided, told_calls, told_entry, told_request}
+use Rattle.node_disk.specs.Record.{RecordedCall, Request, Sync, Write, decided, told_calls, told_call, told_request}
 
 -- it isn't stopped, and its next device call doesn't fail
 pub calm_goes_on : (disk : MemoryState) → is_calm disk ≡ true → is_stopped disk ≡ false
@@ -34,7 +34,7 @@ failed (Synced done) = refl
 
 -- with no stop and no numbers that fail, each call goes well
 all_went : (made : ℕ) (reopened : Bool) (rs : List Request)
-    → list_all went (map told_entry (decided None [] made reopened rs)) ≡ true
+    → list_all went (map told_call (decided None [] made reopened rs)) ≡ true
 all_went made reopened [] = refl
 all_went made reopened (r ∷ rs) = rw (went_request r) (all_went (made + 1) false rs)
 
@@ -49,9 +49,9 @@ not_failed did next =
     and_false true = refl
     and_false false = refl
 
-told_append : (a b : List RecordedCall) → told_calls (a ++ b) ≡ told_calls a ++ map told_entry b
+told_append : (a b : List RecordedCall) → told_calls (a ++ b) ≡ told_calls a ++ map told_call b
 unfolding told_calls
-told_append a b = map-append told_entry a b
+told_append a b = map-append told_call a b
 
 -- so it cuts nothing short
 pub never_cut : (old new : MemoryState) (calls : List DeviceCall) → is_calm old ≡ true
@@ -67,13 +67,13 @@ never_cut old new calls calm went_on short =
     ≡ old.calls ++ decided None [] (length old.calls) old.reopened went_on.requests =
     rw (calm_stop old calm, calm_failing old calm) at went_on.calls in
     let is : told_calls old.calls
-    ++ map told_entry (decided None [] (length old.calls) old.reopened went_on.requests)
+    ++ map told_call (decided None [] (length old.calls) old.reopened went_on.requests)
     ≡ told_calls old.calls ++ (short.did ++ failing short.next ∷ []) =
     sym (told_append old.calls (decided None [] (length old.calls) old.reopened went_on.requests))
     ∙ sym (ap told_calls ran) ∙ same in
     let tail =
     append_cancel_left (told_calls old.calls)
-    (map told_entry (decided None [] (length old.calls) old.reopened went_on.requests))
+    (map told_call (decided None [] (length old.calls) old.reopened went_on.requests))
     (short.did ++ failing short.next ∷ []) is in
     let no : true ≡ false =
     sym (all_went (length old.calls) old.reopened went_on.requests) ∙ ap (list_all went) tail

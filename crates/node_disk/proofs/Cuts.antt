@@ -6,7 +6,7 @@ use Rattle.std.proofs.lemmas.Bool.Decides.{nat_tests}
 use Rattle.node_disk.specs.Disk.{DeviceCall, Wrote, Synced, failing, told_more, HasTold, put_at, Holds, IsCutShort}
 use Rattle.node_disk.specs.Frames.{body, blocks, IsAtRest, Finds}
 use Rattle.node_disk.specs.Log.{HasSettled, with_frame, append_calls, calls_of_append}
-use Rattle.node_disk.specs.Record.{Held, Written, RecordedCall, Request, Write, Sync, range_of, put_within, torn, put_torn, done_writes, effect, held_at_opening, held_past, held_past_all, empty_disk, held_after, told_calls, told_entry, told_request, has_succeeded, outcome_at, decided, reopened_still}
+use Rattle.node_disk.specs.Record.{Held, Written, RecordedCall, Request, Write, Sync, range_of, put_within, torn, put_torn, done_writes, effect, held_at_opening, held_after_call, held_after_calls, empty_disk, held_after, told_calls, told_call, told_request, has_succeeded, outcome_at, decided, reopened_still}
 use Rattle.node_disk.specs.MemoryLaws.{length-torn}
 use Rattle.node_disk.specs.Memory.{MemoryState, memory_state, Continues}
 use Rattle.node_disk.specs.Cut.{kept_frames, IsArmed}
@@ -28,16 +28,16 @@ told_back Sync done = refl
 -- the requests are those that were told
 requests_back : (stop : Option Stop) (fails : List ℕ) (made : ℕ) (reopened : Bool)
     (requests : List Request)
-    → map request_of_call (map told_entry (decided stop fails made reopened requests)) ≡ requests
+    → map request_of_call (map told_call (decided stop fails made reopened requests)) ≡ requests
 requests_back stop fails made reopened [] = refl
 requests_back stop fails made reopened (d ∷ requests) =
     λ i. told_back d (has_succeeded (outcome_at stop fails made)) i
     ∷ requests_back stop fails (made + 1) false requests i
 
-run_append : (held : Held) (xs ys : List RecordedCall) → held_past_all held (xs ++ ys)
-    ≡ held_past_all (held_past_all held xs) ys
+run_append : (held : Held) (xs ys : List RecordedCall) → held_after_calls held (xs ++ ys)
+    ≡ held_after_calls (held_after_calls held xs) ys
 run_append held [] ys = refl
-run_append held (x ∷ xs) ys = run_append (held_past held x) xs ys
+run_append held (x ∷ xs) ys = run_append (held_after_call held x) xs ys
 
 le_true : (m n : ℕ) → m ≤ n → nat_le m n ≡ true
 le_true m n le = grind (arith, nat_tests)
@@ -216,20 +216,20 @@ module _ (old new : MemoryState) (frames : List (List ℕ)) (gate : ℕ) (frame 
   -- the requests that were told
   told_new : (told : List DeviceCall)
       → (memory_state new).calls ≡ told_more (memory_state old).calls told
-      → map told_entry (decided one_stop [] made old.reopened go.requests) ≡ told
+      → map told_call (decided one_stop [] made old.reopened go.requests) ≡ told
   unfolding told_calls
   told_new told is =
-      let lists : map told_entry new.calls ≡ map told_entry old.calls ++ told = cc in
-      let joined : map told_entry old.calls
-      ++ map told_entry (decided old.stop old.failing made old.reopened go.requests)
-      ≡ map told_entry old.calls ++ told =
+      let lists : map told_call new.calls ≡ map told_call old.calls ++ told = cc in
+      let joined : map told_call old.calls
+      ++ map told_call (decided old.stop old.failing made old.reopened go.requests)
+      ≡ map told_call old.calls ++ told =
       sym
-      (map-append told_entry old.calls
+      (map-append told_call old.calls
       (decided old.stop old.failing made old.reopened go.requests))
-      ∙ ap (map told_entry) (sym go.calls) ∙ lists in
-      ap (map told_entry) (sym (same_requests go.requests))
-      ∙ append_cancel_left (map told_entry old.calls)
-      (map told_entry (decided old.stop old.failing made old.reopened go.requests)) told joined
+      ∙ ap (map told_call) (sym go.calls) ∙ lists in
+      ap (map told_call) (sym (same_requests go.requests))
+      ∙ append_cancel_left (map told_call old.calls)
+      (map told_call (decided old.stop old.failing made old.reopened go.requests)) told joined
 
   requests_are : (told : List DeviceCall)
       → (memory_state new).calls ≡ told_more (memory_state old).calls told
@@ -241,7 +241,7 @@ module _ (old new : MemoryState) (frames : List (List ℕ)) (gate : ℕ) (frame 
   -- what the disk holds then
   held_new : (d : Request) (requests : List Request) → go.requests ≡ d ∷ requests
       → held_after new.calls new.reopened
-      ≡ held_past_all (effect held d (outcome_at one_stop [] made))
+      ≡ held_after_calls (effect held d (outcome_at one_stop [] made))
       (decided one_stop [] (made + 1) false requests)
   unfolding held_after
   held_new d requests are =
@@ -251,8 +251,8 @@ module _ (old new : MemoryState) (frames : List (List ℕ)) (gate : ℕ) (frame 
       go.calls
       ∙ ap (λ l. old.calls ++ l)
       (same_requests go.requests ∙ ap (λ ds. decided one_stop [] made old.reopened ds) are) in
-      ap (λ r. held_at_opening r (held_past_all empty_disk new.calls)) still
-      ∙ ap (λ l. held_past_all empty_disk l) entries
+      ap (λ r. held_at_opening r (held_after_calls empty_disk new.calls)) still
+      ∙ ap (λ l. held_after_calls empty_disk l) entries
       ∙ run_append empty_disk old.calls (decided one_stop [] made old.reopened (d ∷ requests))
 
   abbrev Leaves : Type 0
@@ -275,9 +275,9 @@ module _ (old new : MemoryState) (frames : List (List ℕ)) (gate : ℕ) (frame 
   told_of : (requests : List Request) (told : List DeviceCall)
       → (memory_state new).calls ≡ told_more (memory_state old).calls told
       → map request_of_call told ≡ requests
-      → map told_entry (decided one_stop [] made old.reopened requests) ≡ told
+      → map told_call (decided one_stop [] made old.reopened requests) ≡ told
   told_of requests told is same =
-      ap (λ ds. map told_entry (decided one_stop [] made old.reopened ds))
+      ap (λ ds. map told_call (decided one_stop [] made old.reopened ds))
       (sym (requests_are told is ∙ same))
       ∙ told_new told is
 

@@ -56,7 +56,7 @@ abbrev pub next_fails : MemoryState → Bool
 next_fails disk =
     is_reached disk.stop (length disk.calls + 1) || is_to_fail disk.failing (length disk.calls + 1)
 
--- these are no numbers
+-- no number is listed
 abbrev pub is_none_listed : List ℕ → Bool
 is_none_listed [] = true
 is_none_listed (number ∷ failing) = false

@@ -5,7 +5,7 @@ use Rattle.std.proofs.lemmas.Bool.{cases_lt}
 use Rattle.std.proofs.lemmas.List.{get_or_append_left, get_or-append_right, get_or-take, get_or-drop, map-append, append-nil, length-replicate}
 use Rattle.node_disk.specs.Images.{IsImage, Untouched}
 use Rattle.node_disk.specs.Disk.{put_at}
-use Rattle.node_disk.specs.Record.{Held, Written, RecordedCall, Request, Write, Sync, range_of, moment_of, put_within, torn, put_torn, done_writes, effect, held_at_opening, held_past, held_past_all, empty_disk, held_after, outcome_at, decided, reopened_still}
+use Rattle.node_disk.specs.Record.{Held, Written, RecordedCall, Request, Write, Sync, range_of, moment_of, put_within, torn, put_torn, done_writes, effect, held_at_opening, held_after_call, held_after_calls, empty_disk, held_after, outcome_at, decided, reopened_still}
 use Rattle.std.specs.Option.{is_none}
 use Rattle.node_disk.specs.Memory.{MemoryState, memory_state, is_none_listed, is_calm, Continues}
 use Rattle.node_disk.specs.declared.record.Stop.{Stop}
@@ -178,10 +178,10 @@ good_opened true held good = good_synced held.seen
 good_opened false held good = good
 
 good_run : (held : Held) (entries : List RecordedCall) → IsGood held
-    → IsGood (held_past_all held entries)
+    → IsGood (held_after_calls held entries)
 good_run held [] good = good
 good_run held (e ∷ entries) good =
-    good_run (held_past held e) entries
+    good_run (held_after_call held e) entries
     (good_act (held_at_opening e.reopened held) e.request e.outcome
     (good_opened e.reopened held good))
 
@@ -189,7 +189,7 @@ pub seen_is_image : (disk : MemoryState)
     → IsImage (memory_state disk).now (memory_state disk).now.seen
 unfolding held_after
 seen_is_image disk =
-    good_opened disk.reopened (held_past_all empty_disk disk.calls)
+    good_opened disk.reopened (held_after_calls empty_disk disk.calls)
     (good_run empty_disk disk.calls (good_synced []))
 
 still_false : (requests : List Request) → reopened_still false requests ≡ false

@@ -28,7 +28,7 @@ abbrev pub request_of : Action → Request
 request_of (action.Write place bytes) = Write place bytes.items
 request_of action.Sync = Sync
 
--- the entry that a recorded call keeps
+-- a recorded call, as contracts see it
 abbrev pub recorded_of : Call → RecordedCall
 recorded_of call =
     record { reopened = call.reopened; request = request_of call.action; outcome = call.outcome }
@@ -116,19 +116,20 @@ held_at_opening true held = record { seen = held.seen; synced = held.seen; write
 held_at_opening false held = held
 
 -- what a disk holds after a recorded call
-abbrev pub held_past : Held → RecordedCall → Held
-held_past held entry = effect (held_at_opening entry.reopened held) entry.request entry.outcome
+abbrev pub held_after_call : Held → RecordedCall → Held
+held_after_call held entry = effect (held_at_opening entry.reopened held) entry.request
+    entry.outcome
 
 -- what a disk holds after these calls, one after another
-abbrev pub held_past_all : Held → List RecordedCall → Held
-held_past_all held [] = held
-held_past_all held (entry ∷ entries) = held_past_all (held_past held entry) entries
+abbrev pub held_after_calls : Held → List RecordedCall → Held
+held_after_calls held [] = held
+held_after_calls held (entry ∷ entries) = held_after_calls (held_after_call held entry) entries
 
 -- the moments before each of these calls
 abbrev pub moments : Held → List RecordedCall → List Moment
 moments held [] = []
 moments held (entry ∷ entries) =
-    moment_of (held_at_opening entry.reopened held) ∷ moments (held_past held entry) entries
+    moment_of (held_at_opening entry.reopened held) ∷ moments (held_after_call held entry) entries
 
 -- a device call succeeded
 abbrev pub has_succeeded : Outcome → Bool
@@ -142,12 +143,12 @@ told_request (Write place bytes) done = Wrote place bytes done
 told_request Sync done = Synced done
 
 -- a recorded device call as the disk tells it
-abbrev pub told_entry : RecordedCall → DeviceCall
-told_entry entry = told_request entry.request (has_succeeded entry.outcome)
+abbrev pub told_call : RecordedCall → DeviceCall
+told_call entry = told_request entry.request (has_succeeded entry.outcome)
 
 -- what a disk holds after these calls from the first on, and then reopened or not
 unfoldable pub held_after : List RecordedCall → Bool → Held
-held_after calls reopened = held_at_opening reopened (held_past_all empty_disk calls)
+held_after calls reopened = held_at_opening reopened (held_after_calls empty_disk calls)
 
 -- the moments before each of these calls, from the first on
 unfoldable pub past_of : List RecordedCall → List Moment
@@ -155,7 +156,7 @@ past_of calls = moments empty_disk calls
 
 -- these recorded device calls as the disk tells them
 unfoldable pub told_calls : List RecordedCall → List DeviceCall
-told_calls calls = map told_entry calls
+told_calls calls = map told_call calls
 
 -- the device call of this number, counted from 1, is a stop's or comes behind it
 abbrev pub is_reached : Option Stop → ℕ → Bool

@@ -184,7 +184,7 @@ pub(crate) fn change(
     }
 }
 
-fn is_listed(failing: &[u64], number: u64) -> bool
+fn is_to_fail(failing: &[u64], number: u64) -> bool
     ensures { result ≡ is_to_fail failing.now number }
 {
     failing.iter().any(|x| *x == number)
@@ -195,7 +195,7 @@ fn numbered(failing: &[u64], made: u64) -> Outcome
     requires { made + 1 < 2 ^ 64 }
     ensures { result ≡ by_number failing.now made }
 {
-    if is_listed(failing, made + 1) {
+    if is_to_fail(failing, made + 1) {
         Outcome::Failed
     } else {
         Outcome::Done
@@ -227,7 +227,7 @@ pub(crate) fn outcome_of(stop: Option<Stop>, failing: &[u64], made: u64) -> Outc
     }
 }
 
-pub(crate) fn is_done(outcome: Outcome) -> bool
+pub(crate) fn has_succeeded(outcome: Outcome) -> bool
     ensures { result ≡ has_succeeded outcome }
 {
     match outcome {

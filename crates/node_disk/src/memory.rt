@@ -8,7 +8,7 @@ ghost use Rattle.node_disk.specs.Memory.{memory_state, new_disk, reopened_disk, 
 ghost use Rattle.node_disk.specs.Memory.{stop_from_now, HasCalled, next_outcome, HasCounted};
 ghost use Rattle.node_disk.specs.Memory.{answer_of};
 
-use crate::effects::{add_call, change, count_fault, is_done, outcome_of};
+use crate::effects::{add_call, change, count_fault, has_succeeded, outcome_of};
 use crate::record::{Action, Call, Pending, Stop};
 use crate::{Disk, DiskError};
 use std::alloc::{AllocError, Global};
@@ -191,7 +191,7 @@ impl MemoryDisk {
         }
         add_call(&mut self.calls, self.reopened, action, outcome);
         self.reopened = false;
-        Ok(is_done(outcome))
+        Ok(has_succeeded(outcome))
     }
 
     // The same of a write, whose bytes the record keeps.

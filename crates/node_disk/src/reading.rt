@@ -1,7 +1,8 @@
 //! Reading a log's bytes.
 
 ghost use Rattle.std.specs.Prelude.{◌≡◌, ◌+◌, ◌≤◌, ◌<◌, ◌++◌, [], ◌∷◌, ℕ, List, length, IfOk};
-ghost use Rattle.std.specs.Prelude.{IsErrOf, Ok, Err, MatchOption, Some, map, slice_get, take, drop};
+ghost use Rattle.std.specs.Prelude.{IsErrOf, Ok, Err, MatchOption, Some, map, slice_get, take};
+ghost use Rattle.std.specs.Prelude.{drop};
 ghost use Rattle.node_disk.specs.Frames.{count_of, read_log, IsAtRest};
 
 use crate::StoreError;

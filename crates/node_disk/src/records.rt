@@ -32,8 +32,8 @@ pub trait Records {
             → is_record (length frames) frame.now ≡ read) };
 }
 
-/// Reads the records of a log's bytes, without a disk: those that a start reads on a disk that gives
-/// these bytes. `Foreign` is the place that such a start refuses.
+/// Reads the records of a log's bytes, without a disk: those that a start reads on a disk that
+/// gives these bytes. `Foreign` is the place that such a start refuses.
 pub fn read_records<K: Records>(
     alloc: Global,
     bytes: &[u8],

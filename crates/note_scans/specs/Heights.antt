@@ -11,16 +11,6 @@ abbrev pub greatest_of : List ℕ → Option ℕ
 greatest_of [] = None
 greatest_of (x ∷ xs) = Some (greatest (x ∷ xs))
 
--- the height is above the one that was acknowledged last, and not below the floor
-abbrev pub is_pending : Option ℕ → ℕ → ℕ → Bool
-is_pending acked floor height =
-    option_map_or (λ a. nat_lt a height) acked true && nat_le floor height
-
 -- the lesser of a height and one before it, if there is one
 abbrev pub least_with : Option ℕ → ℕ → Option ℕ
 least_with least height = Some (option_map_or (λ other. min other height) least height)
-
--- the height to be handed out next, by the notes and the heights handed out
-abbrev pub next_of : List Note → List ℕ → ℕ
-next_of notes given =
-    max (option_map_or (λ h. h + 1) (last_or None given) (resume notes)) (greatest_floor notes)

@@ -1,5 +1,6 @@
 -- What names a vote in a map.
-use Rattle.std.specs.Prelude.{ℕ, ◌&&◌, ◌==◌, Bool, replicate}
+use Rattle.std.specs.Prelude.{ℕ, ◌&&◌, ◌==◌, Bool}
+use Rattle.cw_types.specs.Commit.{no_commitment}
 use Rattle.cw_types.specs.Same.{same_commitment}
 use Rattle.cw_types.specs.declared.commitment.Commitment.{Commitment}
 use Rattle.note_scans.specs.declared.key.VoteKey.{VoteKey}
@@ -9,12 +10,7 @@ use Rattle.cw_types.specs.declared.vote.Vote.TheVariants.{Finalize, Notarize, Nu
 
 -- what stands in the key of a vote that is on no payload
 abbrev pub no_payload : Commitment
-no_payload = record {
-  block = record { 0 = replicate 32 0 };
-  root = record { 0 = replicate 32 0 };
-  context = record { 0 = replicate 32 0 };
-  config = record { minimum = 1; extra = 1 };
-}
+no_payload = no_commitment
 
 -- that of a vote of this kind on a proposal
 abbrev pub keyed : ℕ → Proposal → VoteKey

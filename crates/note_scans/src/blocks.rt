@@ -1,7 +1,7 @@
 //! The blocks that are noted, and what notes say of commitments.
 
-ghost use Rattle.std.specs.Prelude.{◌≡◌, ◌<◌, ◌&&◌, None, Some, filter_map, if◌then◌else◌, nat_lt};
-ghost use Rattle.std.specs.Prelude.{option_and_then, option_map};
+ghost use Rattle.std.specs.Prelude.{◌≡◌, ◌<◌, ◌&&◌, None, Some, filter_map};
+ghost use Rattle.std.specs.Prelude.{option_map};
 ghost use Rattle.std.specs.List.{last_or};
 ghost use Rattle.cw_rules.specs.Accepted.{first_some};
 ghost use Rattle.cw_rules.specs.Held as held;
@@ -34,11 +34,7 @@ pub fn first_block<'a>(notes: &'a [Note], commitment: &Commitment) -> Option<&'a
 /// The first noted block under a commitment, unless it was pruned. So it is the held block wherever
 /// the commitment isn't that of genesis.
 pub fn kept_block<'a>(notes: &'a [Note], commitment: &Commitment) -> Option<&'a ChainBlock>
-    ensures { option_map (λ b. b.now) result
-        ≡ option_and_then
-        (λ b. if nat_lt 0 b.height && nat_lt b.height (held.greatest_prune notes.now)
-        then None else Some b)
-        (first_some (held.noted_block_of commitment.now) notes.now) }
+    ensures { option_map (λ b. b.now) result ≡ held.kept_block notes.now commitment.now }
 {
     match first_block(notes, commitment) {
         Some(block) => {

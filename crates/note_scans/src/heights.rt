@@ -6,7 +6,8 @@ ghost use Rattle.std.specs.List.{AllByRecursion, last_or, list_all};
 ghost use Rattle.cw_rules.specs.Direct.{least};
 ghost use Rattle.cw_rules.specs.Held as rule;
 ghost use Rattle.cw_types.specs.Values.{IsNote};
-ghost use Rattle.note_scans.specs.Heights.{greatest_of, is_pending, least_with, next_of};
+ghost use Rattle.cw_rules.specs.Held.{is_pending, next_of};
+ghost use Rattle.note_scans.specs.Heights.{greatest_of, least_with};
 
 use cw_types::Note;
 

@@ -1,5 +1,5 @@
-//! What a member's notes tell, in the words of the cluster rules: each call is the rules' own
-//! function of a slice of notes.
+//! What a member's notes tell, in the words of the cluster rules: each call is a definition of the
+//! rules, or one made of them, of a slice of notes.
 //!
 //! Nothing here takes memory or keeps anything. The calls go over the notes from the first to the
 //! last, so each costs as much as there are notes, and one that asks for a range of views as much

@@ -43,7 +43,7 @@ pub fn settled(genesis: Commitment, notes: &[Note], epoch: u64, view: u64) -> Op
 }
 
 fn root_of(genesis: Commitment, notes: &[Note], epoch: u64) -> Option<Commitment>
-    ensures { result ≡ rule.root_of genesis notes.now epoch }
+    ensures { result ≡ rule.epoch_parent genesis notes.now epoch }
 {
     if epoch == 0 {
         return Some(genesis);
@@ -55,7 +55,7 @@ fn root_of(genesis: Commitment, notes: &[Note], epoch: u64) -> Option<Commitment
 }
 
 fn first_entry(notes: &[Note], epoch: u64) -> Option<(u64, Commitment)>
-    ensures { result ≡ find (λ e. e.0 == epoch) (filter_map rule.entry notes.now) }
+    ensures { result ≡ find (λ e. e.0 == epoch) (filter_map rule.epoch_entered notes.now) }
 {
     notes
         .iter()
@@ -64,7 +64,7 @@ fn first_entry(notes: &[Note], epoch: u64) -> Option<(u64, Commitment)>
 }
 
 fn entry(note: &Note) -> Option<(u64, Commitment)>
-    ensures { result ≡ rule.entry note.now }
+    ensures { result ≡ rule.epoch_entered note.now }
 {
     match note {
         Note::Epoch(epoch, commitment) => Some((*epoch, *commitment)),

@@ -9,7 +9,7 @@ use Rattle.std.proofs.lemmas.List.Filters.{length-filter_both}
 use Rattle.cw_base.specs.Rows.{row_of}
 use Rattle.rs_code.specs.Codeword.{through, codeword, ArePoints}
 use Rattle.rs_code.specs.Coefficients.{distance, symbol_through}
-use Rattle.rs_code.specs.Completions.{given_originals, given_recoveries, apart, FitsTransform, AreSpots, AreSources}
+use Rattle.rs_code.specs.Completions.{given_originals, given_recoveries, apart, AreCompletable, AreSpots, AreSources}
 use Rattle.rs_code.specs.Field.{times, inverse}
 use Rattle.rs_code.specs.Rows.{symbol, symbol_bytes, joined, row_through, code_row, AreRows}
 use Rattle.rs_code.proofs.Codewords.{through_here, through_fits, product_fits, keeps_originals, of_product, plus, mul, o, e, inv, xor_zero}
@@ -42,7 +42,7 @@ distance_nonzero c K x fits less z =
     )))
     (sym (of_product c (λ u. bit_xor x (K u))) ∙ ap of (sym (distance_is c K x) ∙ z) ∙ of_zero)
 
-module _ (k m : ℕ) (points : List ℕ) (F : FitsTransform k m points) where
+module _ (k m : ℕ) (points : List ℕ) (F : AreCompletable k m points) where
   abbrev P : ℕ → ℕ
   P s = get_or points s 0
 

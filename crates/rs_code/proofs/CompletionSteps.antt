@@ -6,7 +6,7 @@ use Rattle.std.proofs.Math.Nat.{mul-mod_left}
 use Rattle.std.proofs.lemmas.Bool.{cases_lt}
 use Rattle.cw_base.specs.Rows.{row_of}
 use Rattle.rs_code.specs.Coefficients.{distance, symbol_through}
-use Rattle.rs_code.specs.Completions.{given_originals, given_recoveries, apart, FitsTransform, ArePartsOf}
+use Rattle.rs_code.specs.Completions.{given_originals, given_recoveries, apart, AreCompletable, ArePartsOf}
 use Rattle.rs_code.specs.Field.{times, inverse}
 use Rattle.rs_code.specs.Plans.{Shape}
 use Rattle.rs_code.specs.Rows.{symbol, symbol_bytes, joined, row_through, code_row, AreRows}
@@ -36,7 +36,7 @@ codeword_long k m w old new even long h =
 -- ---- how the parts are made
 
 pub scales_made : (k m : ℕ) (points originals recoveries scales : List ℕ)
-    (F : FitsTransform k m points) →
+    (F : AreCompletable k m points) →
     originals ≡ given_originals k points → recoveries ≡ given_recoveries k points →
     ((i : ℕ) → i < length recoveries
     → distance (length originals) (λ u. get_or originals u 0) (get_or recoveries i 0) ≢ 0
@@ -71,7 +71,7 @@ distances_made k points originals missing distances own each i h =
 
 -- ---- what the steps give
 
-module _ (k m w : ℕ) (points rows basis : List ℕ) (parts : Parts) (F : FitsTransform k m points)
+module _ (k m w : ℕ) (points rows basis : List ℕ) (parts : Parts) (F : AreCompletable k m points)
     (B : basis ≡ given_recoveries k points) (A : ArePartsOf k points parts)
     (some : 0 < w) (R : AreRows k w rows) where
   abbrev places : List ℕ

@@ -18,8 +18,8 @@ unfoldable pub apart : (k : ℕ) (points : List ℕ) (x : ℕ) → ℕ
 apart k points x =
     distance (length (given_originals k points)) (λ u. slice_index (given_originals k points) u) x
 
--- indices of k different rows of a codeword that has its recoveries by the transform
-pub record FitsTransform (k m : ℕ) (points : List ℕ) : Type 0 where
+-- indices of k different rows of a codeword of k originals and m recoveries
+pub record AreCompletable (k m : ℕ) (points : List ℕ) : Type 0 where
   pub originals : 1 ≤ k
   pub recoveries : 1 ≤ m
   pub total : k + m ≤ 65535

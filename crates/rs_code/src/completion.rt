@@ -4,12 +4,13 @@
 //! own. The wanted one, p, has the same values at these originals: so p = q + z * g, where z is the
 //! product of the differences to them, and g a polynomial below the number of the recoveries that
 //! are given. It is known at each of these, where it is (p + q) / z. So what goes by the product of
-//! two numbers of rows goes by those that are missing alone, and the rest by the transform.
+//! two numbers of rows goes by those that are missing alone, and the rest as recoveries are made,
+//! by the transform where there are many.
 
 ghost use Rattle.std.specs.Prelude.{◌≡◌, ℕ, ◌+◌, ◌*◌, ◌/◌, ◌%◌, ◌^◌, ◌<◌, ◌≤◌, ◌++◌, length};
 ghost use Rattle.std.specs.Prelude.{slice_index, bit_xor, replicate, All, IfOk, IsTrue};
 ghost use Rattle.cw_base.specs.Rows.{row_of};
-ghost use Rattle.rs_code.specs.Completions.{FitsTransform};
+ghost use Rattle.rs_code.specs.Completions.{AreCompletable};
 ghost use Rattle.rs_code.specs.Field.{times};
 ghost use Rattle.rs_code.specs.Rows.{joined, row_through, symbol, symbol_bytes};
 
@@ -53,14 +54,14 @@ struct Parts {
 
 impl Model for Completion {
     ghost use Rattle.std.specs.Prelude.{◌≡◌};
-    ghost use Rattle.rs_code.specs.Completions.{given_recoveries, ArePartsOf, FitsTransform};
+    ghost use Rattle.rs_code.specs.Completions.{given_recoveries, ArePartsOf, AreCompletable};
     ghost use Rattle.rs_code.specs.Plans.{Shape};
 
     ghost Value = { Shape };
 
     ghost view = { λ c. record { k = c.k; m = c.m; points = c.points.items } };
 
-    ghost invariant = { λ c. FitsTransform c.k c.m c.points.items
+    ghost invariant = { λ c. AreCompletable c.k c.m c.points.items
         × (c.basis ≡ given_recoveries c.k c.points.items)
         × ArePartsOf c.k c.points.items c.parts };
 }
@@ -68,7 +69,7 @@ impl Model for Completion {
 impl Completion {
     /// For codewords of `k` originals and `m` recoveries, by the rows at these `k` indices.
     pub fn new(alloc: Global, k: u16, m: u16, points: Vec<u16>) -> Result<Completion, AllocError>
-        requires { FitsTransform k m points.items }
+        requires { AreCompletable k m points.items }
         ensures { IfOk result (λ c. c ≡ record { k = k; m = m; points = points.items }) }
     {
         let Split {

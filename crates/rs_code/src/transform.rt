@@ -36,8 +36,8 @@ fn factor_at(scales: &[u16; STEPS], t: usize, block: usize) -> u16
     vanishing_at(scales, t - 1, (block * size(t)) as u16)
 }
 
-/// From the coefficients in 2^t rows to their polynomial's values at the elements of a block, in the
-/// rows that are asked for. What the others have then isn't said.
+/// From the coefficients in 2^t rows to their polynomial's values at the elements of a block, in
+/// the rows that are asked for. What the others have then isn't said.
 pub fn forward(
     rows: &mut [u16],
     n: usize,
@@ -84,8 +84,8 @@ pub fn forward(
     forward(high, n, scales, t - 1, 2 * block + 1, back);
 }
 
-/// From the values of a polynomial at the first elements of a block, and its coefficients from their
-/// number on, to all its coefficients.
+/// From the values of a polynomial at the first elements of a block, and its coefficients from
+/// their number on, to all its coefficients.
 pub fn inverse(
     rows: &mut [u16],
     n: usize,

@@ -16,8 +16,8 @@ use crate::transform::{Part, forward, inverse, size};
 use cw_base::bytes_fit;
 use std::alloc::{AllocError, Global};
 
-// How many coefficients are worked on at once. A factor's tables are made anew for each piece of the
-// columns; the steps go by halves, so most of them stay in the caches near the processor.
+// How many coefficients are worked on at once. A factor's tables are made anew for each piece of
+// the columns; the steps go by halves, so most of them stay in the caches near the processor.
 const SYMBOLS: usize = 524288;
 
 // For how many originals and recoveries rows are made, the exponent of the least power of two that

@@ -53,8 +53,8 @@ pub fn archive_program<
     // Whether or not the source tells its bytes: the usage is the answer to other words alone.
     ensures usage_only { result ≡ Exit.Usage → spec.limit_of (map string_bytes words.now) ≡ None }
 
-    // Whether or not the source tells its bytes: done is told with what some text's run gives, whose
-    // text was written.
+    // Whether or not the source tells its bytes: done is told with what some text's run gives,
+    // whose text was written.
     ensures run { (limit : ℕ) → spec.limit_of (map string_bytes words.now) ≡ Some limit
         → HasRun (IsDone H.digest_of limit) (O.held output.old) (O.held output.new) result }
 

@@ -11,8 +11,8 @@ use Rattle.cw_rules.specs.declared.travel.Travel.TheVariants as travel
 use Rattle.hail_world.specs.declared.report.Report.{Report}
 use Rattle.hail_world.specs.Places.{script_rules}
 use Rattle.hail_world.specs.Reports.{IsReport, shown_report}
-use Rattle.run_ledger.specs.Giving.{payloads_of_all, replica_payloads}
-use Rattle.run_ledger.specs.Ledgers.{AreDone, NeverFails, honest_members}
+use Rattle.run_ledger.specs.Giving.{all_replica_payloads, replica_payloads}
+use Rattle.run_ledger.specs.Ledgers.{AreDone, NeverFails, reported_numbers}
 use Rattle.run_ledger.specs.Text.{ledger_text}
 use Rattle.run_ledger.proofs.Ends.{all_ledgers}
 
@@ -27,12 +27,12 @@ all_push xs ys x all one is = subst (AllByRecursion NeverFails) (sym is) (push x
     push (y ∷ xs) all = (all.0, push xs all.1)
 
 module _ {H : Type 0} (report : Report H Chunked) (replicas : List (Ledger MemoryState))
-    (given : map (λ r. r.payloads) replicas ≡ payloads_of_all (shown_report report)) where
+    (given : map (λ r. r.payloads) replicas ≡ all_replica_payloads (shown_report report)) where
   -- there is a replica for each honest member
   as_many : length report.acked ≡ length replicas
   as_many =
       sym
-      (length-map (honest_members (shown_report report)) (replica_payloads (shown_report report))
+      (length-map (reported_numbers (shown_report report)) (replica_payloads (shown_report report))
       ∙ length-map report.acked (λ a. a.member))
       ∙ ap (λ (l : List (List (List ℕ))). length l) (sym given)
       ∙ length-map replicas (λ r. r.payloads)

@@ -4,7 +4,7 @@ use Rattle.std.specs.Option.{option_map_or}
 use Rattle.cw_types.specs.Block.{Block}
 use Rattle.cw_rules.specs.Report.{Report as Reported}
 use Rattle.cw_ledger.specs.Ledger.{applied}
-use Rattle.run_ledger.specs.Ledgers.{handed_to, honest_members}
+use Rattle.run_ledger.specs.Ledgers.{handed_to, reported_numbers}
 
 -- the payloads once the link of a height was given
 abbrev pub given_one : List Block → List (List ℕ) → ℕ → List (List ℕ)
@@ -17,5 +17,6 @@ given_all chain payloads heights = fold (given_one chain) payloads heights
 abbrev pub replica_payloads : Reported → ℕ → List (List ℕ)
 replica_payloads r member = given_all r.chain [] (handed_to r member)
 
-abbrev pub payloads_of_all : Reported → List (List (List ℕ))
-payloads_of_all r = map (replica_payloads r) (honest_members r)
+-- so of each honest member, by number
+abbrev pub all_replica_payloads : Reported → List (List (List ℕ))
+all_replica_payloads r = map (replica_payloads r) (reported_numbers r)

@@ -45,8 +45,8 @@ AreLedgers r (member ∷ members) (ledger ∷ ledgers) =
 AreLedgers r _ _ = ⊥
 
 -- the numbers of the honest members
-abbrev pub honest_members : Reported → List ℕ
-honest_members r = map (λ a. a.member) r.acked
+abbrev pub reported_numbers : Reported → List ℕ
+reported_numbers r = map (λ a. a.member) r.acked
 
 -- no call of the replica is refused but for memory: no earlier call left its disk in doubt, and no
 -- call of the disk fails
@@ -58,7 +58,7 @@ NeverFails r = (r.failed ≡ false) × (is_calm r.disk ≡ true)
 pub record AreDone {H : Type 0} (hash : List ℕ → Digest32) (text : List ℕ)
     (done : Report H Chunked × List (Ledger MemoryState)) (due : List ℕ) : Type 0 where
   pub report : IsReport travel.Chunked hash text done.0
-  pub ledgers : AreLedgers (shown_report done.0) (honest_members (shown_report done.0)) done.1
+  pub ledgers : AreLedgers (shown_report done.0) (reported_numbers (shown_report done.0)) done.1
   pub whole : AllByRecursion NeverFails done.1
   pub lines : due
-      ≡ ledger_text (honest_members (shown_report done.0)) (map (λ r. r.payloads) done.1)
+      ≡ ledger_text (reported_numbers (shown_report done.0)) (map (λ r. r.payloads) done.1)

@@ -2,7 +2,8 @@
 
 ghost use Rattle.std.specs.Prelude.{◌≡◌, [], IfOk, OnOk, map};
 ghost use Rattle.std.specs.List.{AllByRecursion};
-ghost use Rattle.run_ledger.specs.Giving.{given_all, given_one, payloads_of_all, replica_payloads};
+ghost use Rattle.run_ledger.specs.Giving.{given_all, given_one, all_replica_payloads};
+ghost use Rattle.run_ledger.specs.Giving.{replica_payloads};
 ghost use Rattle.run_ledger.specs.Ledgers.{NeverFails, handed_in_entries};
 ghost use Rattle.hail_world.specs.Reports.{shown_report};
 
@@ -23,7 +24,7 @@ pub(crate) fn replicas_of<H: Hasher<Digest = Digest32>>(
     report: &Report<H, Chunked>,
 ) -> Result<Items<Replica<MemoryDisk>>, NoMemory>
     ensures given { IfOk result (λ replicas. map (λ r. r.payloads) replicas
-        ≡ payloads_of_all (shown_report report.now)) }
+        ≡ all_replica_payloads (shown_report report.now)) }
     ensures works { IfOk result (λ replicas. AllByRecursion NeverFails replicas) }
 {
     let mut replicas = Items::new(alloc);

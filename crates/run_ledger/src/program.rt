@@ -52,8 +52,8 @@ pub fn ledger_program<
     // Whether or not the source tells its bytes: the usage is the answer to words alone.
     ensures usage_only { result ≡ Exit.Usage → length words.now ≢ 0 }
 
-    // Whether or not the source tells its bytes: done is told with what some text's run gives, whose
-    // text was written.
+    // Whether or not the source tells its bytes: done is told with what some text's run gives,
+    // whose text was written.
     ensures run { length words.now ≡ 0
         → HasRun (AreDone H.digest_of) (O.held output.old) (O.held output.new) result }
 

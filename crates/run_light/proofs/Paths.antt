@@ -17,7 +17,7 @@ use Rattle.cw_rules.specs.Held.{greatest_prune, held, noted_block_of, parent_of}
 use Rattle.cw_rules.specs.Rules.{Rules, genesis, genesis_commitment}
 use Rattle.cw_rules.proofs.Lists.{and_then_some}
 use Rattle.cw_light.specs.declared.check.Answer.TheVariants.{Yes}
-use Rattle.run_light.specs.Finding.{path_to, path_within, shown_by_note}
+use Rattle.run_light.specs.Finding.{path_to, held_path_within, shown_by_note}
 use Rattle.run_light.specs.declared.search.Shown.{Shown}
 
 module _ (r : Rules) (notes : List Note) (height : ℕ) where
@@ -47,58 +47,60 @@ module _ (r : Rules) (notes : List Note) (height : ℕ) where
 
   -- what is found from a block, if there is one
   abbrev pub from : Option Block → Option (List Block)
-  from o = option_and_then (λ b. path_within r notes b.height height b) o
+  from o = option_and_then (λ b. held_path_within r notes b.height height b) o
 
   -- below the height nothing is found
-  pub below_none : (n : ℕ) (b : Block) → b.height < height → path_within r notes n height b ≡ None
+  pub below_none : (n : ℕ) (b : Block) → b.height < height → held_path_within r notes n height b
+      ≡ None
   below_none zero b lt =
       cond-false (b.height == height) (Some (b ∷ [])) None
       (ne_eqb b.height height (λ e. omega arith))
   below_none (suc n) b lt =
       cond-false (b.height == height) (Some (b ∷ []))
       (option_map (λ path. b ∷ path)
-      (option_and_then (path_within r notes n height) (parent_of r notes b)))
+      (option_and_then (held_path_within r notes n height) (parent_of r notes b)))
       (ne_eqb b.height height (λ e. omega arith))
       ∙ go (parent_of r notes b) refl (below_none n)
     where
       go : (o : Option Block) → parent_of r notes b ≡ o
-          → ((a : Block) → a.height < height → path_within r notes n height a ≡ None)
-          → option_map (λ path. b ∷ path) (option_and_then (path_within r notes n height) o) ≡ None
+          → ((a : Block) → a.height < height → held_path_within r notes n height a ≡ None)
+          → option_map (λ path. b ∷ path) (option_and_then (held_path_within r notes n height) o)
+          ≡ None
       go None e later = refl
       go (Some a) e later =
           ap (option_map (λ path. b ∷ path)) (later a (omega (arith, (parent_low b a e).1)))
 
   -- at the height it is the block alone
   pub at_end : (n : ℕ) (b : Block) → b.height ≡ height
-      → path_within r notes n height b ≡ Some (b ∷ [])
+      → held_path_within r notes n height b ≡ Some (b ∷ [])
   at_end zero b e = cond-true (b.height == height) (Some (b ∷ [])) None (eq-eqb b.height height e)
   at_end (suc n) b e =
       cond-true (b.height == height) (Some (b ∷ []))
       (option_map (λ path. b ∷ path)
-      (option_and_then (path_within r notes n height) (parent_of r notes b)))
+      (option_and_then (held_path_within r notes n height) (parent_of r notes b)))
       (eq-eqb b.height height e)
 
   -- above the height it goes on from the parent
   pub above_on : (b : Block) → height < b.height
-      → path_within r notes b.height height b
+      → held_path_within r notes b.height height b
       ≡ option_map (λ path. b ∷ path) (from (parent_of r notes b))
   above_on b lt =
       let n : ℕ = b.height - 1 in
       let e : b.height ≡ suc n = omega arith in
-      ap (λ k. path_within r notes k height b) e
+      ap (λ k. held_path_within r notes k height b) e
       ∙ cond-false (b.height == height) (Some (b ∷ []))
       (option_map (λ path. b ∷ path)
-      (option_and_then (path_within r notes n height) (parent_of r notes b)))
+      (option_and_then (held_path_within r notes n height) (parent_of r notes b)))
       (ne_eqb b.height height (λ e. omega arith))
       ∙ go n e (parent_of r notes b) refl
     where
       go : (n : ℕ) → b.height ≡ suc n → (o : Option Block) → parent_of r notes b ≡ o
-          → option_map (λ path. b ∷ path) (option_and_then (path_within r notes n height) o)
+          → option_map (λ path. b ∷ path) (option_and_then (held_path_within r notes n height) o)
           ≡ option_map (λ path. b ∷ path) (from o)
       go n e None h = refl
       go n e (Some a) h =
           let s : n ≡ a.height = omega (arith, (parent_low b a h).1) in
-          ap (λ k. option_map (λ path. b ∷ path) (path_within r notes k height a)) s
+          ap (λ k. option_map (λ path. b ∷ path) (held_path_within r notes k height a)) s
 
   -- the way from here, behind what was gone
   abbrev pub behind : List Block → Option Block → Option (List Block)

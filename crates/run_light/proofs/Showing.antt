@@ -35,7 +35,7 @@ use Rattle.cw_light.specs.declared.check.Answer.TheVariants.{BadSigners, Broken,
 use Rattle.cw_light.proofs.Believed.{AreTwo, believed, known_under}
 use Rattle.cw_rules.proofs.Blocks.{first_in}
 use Rattle.hail_world.specs.Reports.{honest}
-use Rattle.run_light.specs.Finding.{first_shown, found_in, path_to, path_within, shown_by_note, shown_of}
+use Rattle.run_light.specs.Finding.{first_shown, found_in, path_to, held_path_within, shown_by_note, shown_of}
 use Rattle.run_light.specs.declared.search.Shown.{Shown}
 use Rattle.run_light.proofs.Paths.{parent_low}
 use Rattle.run_light.proofs.Searching.{found_by}
@@ -127,7 +127,8 @@ module _ (r : Rules) (script : List Line) (w : World) (c : IsCluster r script)
         all x (inr j) = absurd j
 
     whole_path : (n : ℕ) (d : Commitment) (b : Block) (path : List Block)
-        → block_under r w d ≡ Some b → path_within r notes n height b ≡ Some path → Whole b path
+        → block_under r w d ≡ Some b → held_path_within r notes n height b ≡ Some path
+        → Whole b path
     whole_path zero d b path u h = go (cases_Bool (b.height == height))
       where
         go : ((b.height == height) ≡ true) ⊎ ((b.height == height) ≡ false) → Whole b path
@@ -137,7 +138,7 @@ module _ (r : Rules) (script : List Line) (w : World) (c : IsCluster r script)
     whole_path (suc n) d b path u h = go (cases_Bool (b.height == height)) (whole_path n)
       where
         more : Option (List Block)
-        more = option_and_then (path_within r notes n height) (parent_of r notes b)
+        more = option_and_then (held_path_within r notes n height) (parent_of r notes b)
 
         on : (a : Block) (below : List Block) → is_parent_of r b a ≡ true → Whole a below
             → b ∷ below ≡ path → Whole b path
@@ -160,7 +161,7 @@ module _ (r : Rules) (script : List Line) (w : World) (c : IsCluster r script)
 
         go : ((b.height == height) ≡ true) ⊎ ((b.height == height) ≡ false)
             → ((d : Commitment) (a : Block) (below : List Block) → block_under r w d ≡ Some a
-            → path_within r notes n height a ≡ Some below → Whole a below)
+            → held_path_within r notes n height a ≡ Some below → Whole a below)
             → Whole b path
         go (inl t) later =
             alone d b path u t
@@ -176,7 +177,7 @@ module _ (r : Rules) (script : List Line) (w : World) (c : IsCluster r script)
             (option_map (λ xs. b ∷ xs) more) f)
             ∙ h) in
             let (a, p, q) =
-            and_then_some (path_within r notes n height) (parent_of r notes b) below e in
+            and_then_some (held_path_within r notes n height) (parent_of r notes b) below e in
             let (ha, up) = parent_low r notes height b a p in
             let ua = under b.context.parent a ha in
             let t =
@@ -205,7 +206,7 @@ module _ (r : Rules) (script : List Line) (w : World) (c : IsCluster r script)
         → finalized s.vote ≡ Some p → path_to r notes height p.payload ≡ Some path → Passes s path
     passes s p path v f h =
         let (b, e, g) =
-        and_then_some (λ (b : Block). path_within r notes b.height height b)
+        and_then_some (λ (b : Block). held_path_within r notes b.height height b)
         (held r notes p.payload) path h in
         let u = under p.payload b e in
         by_whole b u (whole_path b.height p.payload b path u g)

@@ -13,18 +13,18 @@ use Rattle.cw_rules.specs.Step.{Member, member_notes}
 use Rattle.run_light.specs.declared.search.Shown.{Shown}
 
 -- the blocks from b down to the one of that height, by held parents, in at most so many steps
-abbrev pub path_within : Rules → List Note → ℕ → ℕ → Block → Option (List Block)
-path_within r notes zero height b = if b.height == height then Some (b ∷ []) else None
-path_within r notes (suc steps) height b =
+abbrev pub held_path_within : Rules → List Note → ℕ → ℕ → Block → Option (List Block)
+held_path_within r notes zero height b = if b.height == height then Some (b ∷ []) else None
+held_path_within r notes (suc steps) height b =
     if b.height == height then Some (b ∷ [])
     else option_map (λ path. b ∷ path)
-    (option_and_then (path_within r notes steps height) (parent_of r notes b))
+    (option_and_then (held_path_within r notes steps height) (parent_of r notes b))
 
 -- the blocks from the held one of a commitment down to the one of that height. Heights fall by one,
 -- so as many steps are enough
 abbrev pub path_to : Rules → List Note → ℕ → Commitment → Option (List Block)
 path_to r notes height c =
-    option_and_then (λ b. path_within r notes b.height height b) (held r notes c)
+    option_and_then (λ b. held_path_within r notes b.height height b) (held r notes c)
 
 -- a valid finalization whose held payload reaches that height
 abbrev pub shown_of : Rules → (ℕ → Vote → Bool) → ℕ → List Note → Cert → Option Shown

@@ -46,7 +46,7 @@ pub(crate) fn found_in<H: Hasher<Digest = Digest32>, V: Verifier>(
     for disk in disks {
         let notes = notes_of(alloc, disk.as_slice())?;
         let notes = notes.as_slice();
-        if let Some(found) = found_at::<H, V>(alloc, committees, verifier, height, notes)? {
+        if let Some(found) = first_shown::<H, V>(alloc, committees, verifier, height, notes)? {
             return Ok(Some(found));
         }
     }
@@ -66,7 +66,7 @@ fn notes_of(alloc: Global, disk: &[u8]) -> Result<Items<Note>, NoMemory>
 }
 
 // The first finalization among these notes that is valid and whose held payload reaches a height.
-fn found_at<H: Hasher<Digest = Digest32>, V: Verifier>(
+fn first_shown<H: Hasher<Digest = Digest32>, V: Verifier>(
     alloc: Global,
     committees: &Committees,
     verifier: &V,

@@ -8,7 +8,8 @@ use Rattle.cw_rules.specs.World.{line_member}
 use Rattle.run_picture.specs.Elements.{arrow_of, bow, straight}
 use Rattle.run_picture.specs.Frame.{x_of, y_of}
 use Rattle.run_picture.specs.Lines.{ask_of_line, number_in}
-use Rattle.run_picture.specs.Steps.{Step, brought, is_marked, live_after}
+use Rattle.hail_script.specs.Admission.{is_marked}
+use Rattle.run_picture.specs.Steps.{Step, brought, live_after}
 use Rattle.run_picture.specs.Told.{class_of, letters}
 use Rattle.run_picture.specs.declared.flights.Flight.{Flight}
 
@@ -24,8 +25,8 @@ abbrev pub dashes : List Bool → Flight → List ℕ
 dashes faulty f = if is_marked faulty f.from then codes " z" else []
 
 -- who sent what, and who gets it
-unfoldable pub title_text : ℕ → ℕ → Flight → List ℕ
-title_text number member f =
+unfoldable pub arrow_title : ℕ → ℕ → Flight → List ℕ
+arrow_title number member f =
     letters f.said.says ++ codes " from " ++ decimal f.from ++ codes " to " ++ decimal member
     ++ codes ", lines " ++ decimal f.line ++ codes " to " ++ decimal number
 
@@ -35,7 +36,7 @@ arrow_text faulty is_live row s f =
     arrow_of
     (way_text (x_of (length faulty) f.from) (y_of f.row)
     (x_of (length faulty) (line_member s.line)) (y_of row))
-    (tone is_live f) (dashes faulty f) (title_text s.number (line_member s.line) f)
+    (tone is_live f) (dashes faulty f) (arrow_title s.number (line_member s.line) f)
 
 -- of the message that a line brings
 abbrev pub arrow_at : List Bool → List Flight → ℕ → List Bool → Step → List ℕ

@@ -21,8 +21,8 @@ text_at x y class words =
     ∷ codes "'>" ∷ words ∷ codes "</text>" ∷ [])
 
 -- a line along a way
-unfoldable pub path_of : List ℕ → List ℕ → List ℕ
-path_of way class =
+unfoldable pub line_along : List ℕ → List ℕ → List ℕ
+line_along way class =
     lined (codes "<path d='" ∷ way ∷ codes "' class='" ∷ class ∷ codes "'/>" ∷ [])
 
 -- a line along a way for a message, with what it is told of it

@@ -18,8 +18,8 @@ unfoldable pub y_of : ℕ → ℕ
 y_of row = 124 + 20 * row
 
 -- half a row above
-abbrev pub above : ℕ → ℕ
-above row = y_of row - 10
+abbrev pub row_top : ℕ → ℕ
+row_top row = y_of row - 10
 
 -- how wide a picture of so many members is
 unfoldable pub width : ℕ → ℕ

@@ -2,8 +2,8 @@
 use Rattle.std.specs.Prelude.{ℕ, ◌+◌, ◌==◌, ◌&&◌, ◌++◌, List, [], ◌∷◌, codes, Bool, true, false, if◌then◌else◌, is_some}
 use Rattle.std.specs.Fmt.{decimal}
 use Rattle.cw_rules.specs.World.{line_member}
-use Rattle.run_picture.specs.Elements.{down, path_of, text_at}
-use Rattle.run_picture.specs.Frame.{above, x_of, y_of}
+use Rattle.run_picture.specs.Elements.{down, line_along, text_at}
+use Rattle.run_picture.specs.Frame.{row_top, x_of, y_of}
 use Rattle.run_picture.specs.Steps.{Step, live_after, stops}
 use Rattle.run_picture.specs.declared.flights.Flight.{Flight}
 
@@ -15,7 +15,7 @@ lane_class true = codes "lane bad"
 -- a strip down to y, and above it the member's number
 abbrev pub lane_text : ℕ → ℕ → ℕ → Bool → List ℕ
 lane_text x y member is_faulty =
-    path_of (down x 132 y) (lane_class is_faulty)
+    line_along (down x 132 y) (lane_class is_faulty)
     ++ text_at x 122 (codes "head mid") (decimal member)
 
 -- the lanes of members, from one on
@@ -27,7 +27,7 @@ lanes_from total y member (is_faulty ∷ more) =
 -- a member is stopped between two places of its lane
 abbrev pub gap_text : ℕ → ℕ → ℕ → List ℕ
 gap_text x from y =
-    path_of (down x from y) (codes "gap") ++ path_of (down x from y) (codes "stopped")
+    line_along (down x from y) (codes "gap") ++ line_along (down x from y) (codes "stopped")
 
 -- the member is started again at the line
 abbrev pub is_back : ℕ → Step → Bool
@@ -35,7 +35,7 @@ is_back member s = (line_member s.line == member) && is_some s.found
 
 -- where that is, of lines in rows from one on; else the rows' end
 abbrev pub back_at : ℕ → ℕ → List Step → ℕ
-back_at member row [] = above row
+back_at member row [] = row_top row
 back_at member row (s ∷ more) = if is_back member s then y_of row else back_at member (row + 1) more
 
 -- behind a line at which its member stops

@@ -3,12 +3,12 @@ use Rattle.std.specs.Prelude.{ℕ, ◌+◌, ◌-◌, ◌*◌, ◌==◌, ◌++◌
 use Rattle.std.specs.Fmt.{decimal}
 use Rattle.hex.specs.Hex.{encode_lower}
 use Rattle.cw_base.specs.declared.hash.Digest32.{Digest32}
-use Rattle.run_picture.specs.Elements.{across, box_at, path_of, text_at}
+use Rattle.run_picture.specs.Elements.{across, box_at, line_along, text_at}
 
 -- what joins a box to the one before it; nothing for genesis
 abbrev pub join_text : ℕ → ℕ → ℕ → List ℕ
 join_text x y height =
-    if height == 0 then [] else path_of (across x (y + 15) (x - 14)) (codes "link")
+    if height == 0 then [] else line_along (across x (y + 15) (x - 14)) (codes "link")
 
 -- a box at x and y
 abbrev pub box_text : ℕ → ℕ → ℕ → Digest32 → List ℕ

@@ -65,8 +65,8 @@ mark_class flights row live s =
     else codes "g"
 
 -- what is told of a line
-unfoldable pub title_text : Step → List ℕ
-title_text s = codes "lined " ++ decimal s.number ++ codes ", " ++ line_text s.line
+unfoldable pub mark_title : Step → List ℕ
+mark_title s = codes "line " ++ decimal s.number ++ codes ", " ++ line_text s.line
 
 -- ---- labels
 
@@ -88,15 +88,15 @@ badge_of _ _ = []
 abbrev pub badge_text : List ℕ → List ℕ
 badge_text handed = badge_of (slice_get handed 0) (slice_get handed (length handed - 1))
 
--- the member stops
-abbrev pub cut_mark : Bool → List ℕ
-cut_mark false = []
-cut_mark true = part_text (codes "bad") (codes "cut")
+-- the part that says that the member stops
+abbrev pub cut_part : Bool → List ℕ
+cut_part false = []
+cut_part true = part_text (codes "bad") (codes "cut")
 
--- how many notes a restart found
-abbrev pub found_text : Option ℕ → List ℕ
-found_text None = []
-found_text (Some notes) = part_text (codes "ink") (codes "found " ++ decimal notes)
+-- the part that says how many notes a restart found
+abbrev pub found_part : Option ℕ → List ℕ
+found_part None = []
+found_part (Some notes) = part_text (codes "ink") (codes "found " ++ decimal notes)
 
 -- a message, but not once more behind one of the same letters
 abbrev pub said_text : List ℕ → Said → List ℕ
@@ -112,7 +112,7 @@ sent_text before (said ∷ more) = said_text before said ++ sent_text (letters s
 -- all parts of a label
 abbrev pub parts_text : Bool → Step → List ℕ
 parts_text is_stop s =
-    badge_text s.handed ++ cut_mark is_stop ++ found_text s.found ++ sent_text [] s.sent
+    badge_text s.handed ++ cut_part is_stop ++ found_part s.found ++ sent_text [] s.sent
 
 -- where a label begins, beside x and y, and where it ends
 unfoldable pub label_begin : ℕ → ℕ → List ℕ
@@ -132,7 +132,7 @@ label_text x y parts = label_begin x y ++ parts ++ label_end
 abbrev pub mark_at : ℕ → List Flight → ℕ → List Bool → Step → List ℕ
 mark_at total flights row live s =
     mark_of (x_of total (line_member s.line)) (y_of row) (shape_of flights row live s.line)
-    (mark_class flights row live s) (title_text s)
+    (mark_class flights row live s) (mark_title s)
     ++ label_text (x_of total (line_member s.line)) (y_of row)
     (parts_text (stops flights row live s.line) s)
 

@@ -42,8 +42,8 @@ title_words total lines drawn messages blocks =
     ∷ decimal messages ∷ codes " messages, a chain of " ∷ decimal blocks
     ∷ codes " with genesis" ∷ [])
 
-unfoldable pub end : List ℕ
-end = lined (codes "</svg>" ∷ [])
+unfoldable pub svg_end : List ℕ
+svg_end = lined (codes "</svg>" ∷ [])
 
 -- all that is drawn of steps and their messages
 abbrev pub drawing : List Bool → List Flight → List Step → List ℕ
@@ -73,7 +73,7 @@ heading total lines drawn messages blocks =
 abbrev pub foot : ℕ → List Digest32 → List ℕ
 foot rows chain =
     text_at 14 (y_of rows + 50) (codes "big") (codes "chain") ++ links_text (y_of rows + 62) chain
-    ++ end
+    ++ svg_end
 
 -- of a script with so many lines those that are drawn
 abbrev pub picture_of : List Bool → ℕ → List Step → List Digest32 → List ℕ

@@ -1,7 +1,8 @@
 -- What each line of a run did: which message it brings, and which members are live.
-use Rattle.std.specs.Prelude.{ℕ, ◌+◌, ◌&&◌, ◌++◌, ◌∷◌, [], List, map, Bool, true, false, if◌then◌else◌, is_some, nat_lt, Option, Some, None, option_and_then, slice_get, slice_set, slice_index_or}
+use Rattle.std.specs.Prelude.{ℕ, ◌+◌, ◌&&◌, ◌++◌, ◌∷◌, [], List, map, Bool, true, false, if◌then◌else◌, is_some, nat_lt, Option, Some, None, option_and_then, slice_get, slice_set}
 use Rattle.std.specs.Option.{option_map_or}
 use Rattle.cw_rules.specs.World.{Ask, Floor, Line, is_to, line_member}
+use Rattle.hail_script.specs.Admission.{is_marked}
 use Rattle.run_picture.specs.Lines.{ask_of_line, is_cut, number_in}
 use Rattle.run_picture.specs.Told.{is_finalization}
 use Rattle.run_picture.specs.declared.flights.Flight.{Flight}
@@ -55,10 +56,6 @@ brought flights row line = option_and_then (taken_flight flights row (line_membe
     (ask_of_line line)
 
 -- ---- members
-
--- the member is marked
-abbrev pub is_marked : List Bool → ℕ → Bool
-is_marked marks member = slice_index_or marks member false
 
 -- what is asked for is there
 abbrev pub is_there : List Flight → ℕ → ℕ → Ask → Bool

@@ -84,12 +84,12 @@ begin = lined (codes "<style>" ∷ [])
 unfoldable pub middle : List ℕ
 middle = lined (codes "</style><defs>" ∷ [])
 
-unfoldable pub end : List ℕ
-end = lined (codes "</defs>" ∷ [])
+unfoldable pub defs_end : List ℕ
+defs_end = lined (codes "</defs>" ∷ [])
 
 -- all of them
 unfoldable pub style : List ℕ
-style = begin ++ text_styles ++ line_styles ++ colours ++ middle ++ tips ++ shapes ++ end
+style = begin ++ text_styles ++ line_styles ++ colours ++ middle ++ tips ++ shapes ++ defs_end
 
 -- ---- what lines and marks mean
 

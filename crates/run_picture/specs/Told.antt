@@ -1,11 +1,12 @@
 -- What a picture tells of a message: its letters, and the class of its colour.
-use Rattle.std.specs.Prelude.{ℕ, ◌==◌, ◌++◌, List, codes, Bool, true, false, if◌then◌else◌}
+use Rattle.std.specs.Prelude.{ℕ, ◌++◌, List, codes, Bool, true, false}
 use Rattle.std.specs.Fmt.{decimal}
 use Rattle.cw_types.specs.declared.message.Message.{Message}
 use Rattle.cw_types.specs.declared.message.Message.TheVariants as message
 use Rattle.cw_types.specs.declared.vote.Vote.{Vote}
 use Rattle.cw_types.specs.declared.vote.Vote.TheVariants.{Notarize, Nullify, Finalize}
 use Rattle.cw_rules.specs.World.{Sent}
+use Rattle.hail_script.specs.Views.{view_text}
 use Rattle.run_picture.specs.declared.told.Said.{Said}
 use Rattle.run_picture.specs.declared.told.Says.{Says}
 use Rattle.run_picture.specs.declared.told.Says.TheVariants.{Shard, Ballot, Cert, Ask, AskHeight, Whole, Junk}
@@ -23,11 +24,6 @@ says_of (message.Junk bytes) = Junk
 -- what is told of a message that was sent
 abbrev pub said_of : Sent → Said
 said_of s = record { to = s.to; says = says_of s.message }
-
--- V, or `E/V` for a view of an epoch E above 0
-unfoldable pub view_text : ℕ → ℕ → List ℕ
-view_text epoch view =
-    if epoch == 0 then decimal view else decimal epoch ++ codes "/" ++ decimal view
 
 -- `N`, `X` or `F`, and the view
 unfoldable pub vote_letters : Vote → List ℕ

@@ -121,9 +121,9 @@ fn dashes(faulty: &[bool], flight: &Flight) -> &'static str
     ""
 }
 
-#[tactic(auto, unfolding(crate::specs::Arrows::title_text))]
+#[tactic(auto, unfolding(crate::specs::Arrows::arrow_title))]
 fn title_text(alloc: Global, number: u64, member: u64, flight: &Flight) -> Result<String, NoMemory>
-    ensures { IfOk result (λ text. string_bytes text ≡ spec.title_text number member flight.now) }
+    ensures { IfOk result (λ text. string_bytes text ≡ spec.arrow_title number member flight.now) }
 {
     let mut text = letters_of(alloc, &flight.said.says)?;
     let from = flight.from;

@@ -36,10 +36,10 @@ pub(crate) fn put_text(
 }
 
 /// A line along a way.
-#[tactic(auto, unfolding(crate::specs::Elements::path_of))]
+#[tactic(auto, unfolding(crate::specs::Elements::line_along))]
 pub(crate) fn put_path(out: &mut String, way: &str, class: &str) -> Result<(), NoMemory>
     ensures { OnOk result
-        (string_bytes out.new ≡ string_bytes out.old ++ spec.path_of way.now class.now) }
+        (string_bytes out.new ≡ string_bytes out.old ++ spec.line_along way.now class.now) }
 {
     write!(out, "<path d='{way}' class='{class}'/>\n")?;
     Ok(())

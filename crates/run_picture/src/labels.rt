@@ -86,7 +86,7 @@ fn heights_text(alloc: Global, first: u64, last: u64) -> Result<String, NoMemory
 }
 
 fn put_cut(out: &mut String, is_stop: bool) -> Result<(), NoMemory>
-    ensures { OnOk result (string_bytes out.new ≡ string_bytes out.old ++ spec.cut_mark is_stop) }
+    ensures { OnOk result (string_bytes out.new ≡ string_bytes out.old ++ spec.cut_part is_stop) }
 {
     if is_stop {
         return put_part(out, "bad", "cut");
@@ -96,7 +96,7 @@ fn put_cut(out: &mut String, is_stop: bool) -> Result<(), NoMemory>
 
 // How many notes a restart found.
 fn put_found(alloc: Global, out: &mut String, found: Option<u64>) -> Result<(), NoMemory>
-    ensures { OnOk result (string_bytes out.new ≡ string_bytes out.old ++ spec.found_text found) }
+    ensures { OnOk result (string_bytes out.new ≡ string_bytes out.old ++ spec.found_part found) }
 {
     let Some(notes) = found else {
         return Ok(());

@@ -1,6 +1,7 @@
 //! Which members are live.
 
 ghost use Rattle.std.specs.Prelude.{◌≡◌, IfOk, map, not, slice_set};
+ghost use Rattle.hail_script.specs.Admission as admission;
 ghost use Rattle.run_picture.specs.Steps as spec;
 
 use crate::flights::{Flight, can_be};
@@ -12,7 +13,7 @@ use std::alloc::Global;
 
 /// Whether a member is marked.
 pub(crate) fn is_marked(marks: &[bool], member: u64) -> bool
-    ensures { result ≡ spec.is_marked marks.now member }
+    ensures { result ≡ admission.is_marked marks.now member }
 {
     let member = member as usize;
     member < marks.len() && marks[member]

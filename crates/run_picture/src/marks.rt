@@ -61,9 +61,9 @@ fn put_mark_at(
     put_label(alloc, out, x, y, stops(flights, row, live, step.line), step)
 }
 
-#[tactic(auto, unfolding(crate::specs::Marks::title_text))]
+#[tactic(auto, unfolding(crate::specs::Marks::mark_title))]
 fn title_text(alloc: Global, step: &Step) -> Result<String, NoMemory>
-    ensures { IfOk result (λ text. string_bytes text ≡ spec.title_text step.now) }
+    ensures { IfOk result (λ text. string_bytes text ≡ spec.mark_title step.now) }
 {
     let mut text = String::new(alloc);
     let number = step.number;

@@ -36,9 +36,9 @@ fn put_middle(out: &mut String) -> Result<(), NoMemory>
     Ok(())
 }
 
-#[tactic(auto, unfolding(crate::specs::Style::end))]
+#[tactic(auto, unfolding(crate::specs::Style::defs_end))]
 fn put_end(out: &mut String) -> Result<(), NoMemory>
-    ensures { OnOk result (string_bytes out.new ≡ string_bytes out.old ++ spec.end) }
+    ensures { OnOk result (string_bytes out.new ≡ string_bytes out.old ++ spec.defs_end) }
 {
     out.push_str("</defs>\n")?;
     Ok(())

@@ -5,6 +5,7 @@ ghost use Rattle.run_picture.specs.Told as spec;
 
 use cw_base::NoMemory;
 use cw_types::{Message, To, Vote};
+use hail_script::view_text;
 use std::alloc::Global;
 
 /// What a message says.
@@ -86,19 +87,6 @@ fn vote_letters(alloc: Global, vote: &Vote) -> Result<String, NoMemory>
         Vote::Nullify { .. } => write!(text, "X{view}")?,
         Vote::Finalize(_) => write!(text, "F{view}")?,
     }
-    Ok(text)
-}
-
-#[tactic(auto, unfolding(crate::specs::Told::view_text))]
-fn view_text(alloc: Global, epoch: u64, view: u64) -> Result<String, NoMemory>
-    ensures { IfOk result (λ text. string_bytes text ≡ spec.view_text epoch view) }
-{
-    let mut text = String::new(alloc);
-    if epoch == 0 {
-        write!(text, "{view}")?;
-        return Ok(text);
-    }
-    write!(text, "{epoch}/{view}")?;
     Ok(text)
 }
 

@@ -202,9 +202,9 @@ fn put_foot(
     put_end(out)
 }
 
-#[tactic(auto, unfolding(crate::specs::Picture::end))]
+#[tactic(auto, unfolding(crate::specs::Picture::svg_end))]
 fn put_end(out: &mut String) -> Result<(), NoMemory>
-    ensures { OnOk result (string_bytes out.new ≡ string_bytes out.old ++ spec.end) }
+    ensures { OnOk result (string_bytes out.new ≡ string_bytes out.old ++ spec.svg_end) }
 {
     out.push_str("</svg>\n")?;
     Ok(())

@@ -8,7 +8,7 @@ use Rattle.cw_types.specs.Same.{same_commitment}
 use Rattle.cw_types.specs.declared.commitment.Commitment.{Commitment}
 use Rattle.cw_rules.specs.Accepted.{first_some, is_chunk_of}
 use Rattle.cw_rules.specs.Coding.{AreApart}
-use Rattle.cw_rules.specs.Held.{if_committed, row_of, shown, shown_by, shown_by_rows, whole_of}
+use Rattle.cw_rules.specs.Held.{if_committed, chunk_under, shown, shown_by, shown_by_rows, whole_of}
 use Rattle.cw_rules.specs.Rules.{Chunk, Rules, block_of}
 use Rattle.cw_rules.specs.declared.travel.Travel.TheVariants.{Chunked}
 use Rattle.shards.specs.Kept.{AreTakenOnce, chunks_of, is_kept_chunk, kept_came, part_of, with_chunk}
@@ -19,13 +19,13 @@ use Rattle.cw_rules.proofs.Codewords.{apart_more}
 
 -- the rows of a commitment that came are the chunks that were kept of it
 pub rows_kept : (c : Commitment) (kept : List KeptChunk)
-    → filter_map (row_of c) (map part_of kept) ≡ chunks_of c kept
+    → filter_map (chunk_under c) (map part_of kept) ≡ chunks_of c kept
 rows_kept c [] = refl
 rows_kept c (k ∷ ks) = go (same_commitment c k.commitment) refl (rows_kept c ks)
   where
     go : (b : Bool) → same_commitment c k.commitment ≡ b
-        → filter_map (row_of c) (map part_of ks) ≡ chunks_of c ks
-        → filter_map (row_of c) (map part_of (k ∷ ks)) ≡ chunks_of c (k ∷ ks)
+        → filter_map (chunk_under c) (map part_of ks) ≡ chunks_of c ks
+        → filter_map (chunk_under c) (map part_of (k ∷ ks)) ≡ chunks_of c (k ∷ ks)
     go true e more = rw e (ap (λ xs. k.chunk ∷ xs) more)
     go false e more = rw e more
 

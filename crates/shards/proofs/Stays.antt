@@ -10,7 +10,7 @@ use Rattle.cw_types.specs.Same.{same_commitment}
 use Rattle.cw_types.specs.declared.commitment.Commitment.{Commitment}
 use Rattle.cw_rules.specs.Accepted.{Came, Part, Row, Whole, first_some, is_chunk_of}
 use Rattle.cw_rules.specs.Coding.{IsCoder}
-use Rattle.cw_rules.specs.Held.{if_committed, row_of, shown, shown_by, shown_by_rows, whole_of}
+use Rattle.cw_rules.specs.Held.{if_committed, chunk_under, shown, shown_by, shown_by_rows, whole_of}
 use Rattle.cw_rules.specs.Rules.{Chunk, Rules, block_of}
 use Rattle.cw_rules.specs.declared.travel.Travel.TheVariants.{Chunked}
 use Rattle.shards.specs.Kept.{Gathered, chunk_rules, chunks_of, is_kept_chunk, kept_came, with_chunk}
@@ -37,21 +37,21 @@ shown_first r cut kept c =
 -- ---- of a member
 
 came_rows : (c : Commitment) (parts : List Part)
-    → filter_map (row_of c) parts ≡ chunks_of c (filter_map kept_of parts)
+    → filter_map (chunk_under c) parts ≡ chunks_of c (filter_map kept_of parts)
 came_rows c [] = refl
 came_rows c (Whole b ∷ parts) = came_rows c parts
 came_rows c (Row d y ∷ parts) = go (same_commitment c d) refl (came_rows c parts)
   where
     go : (b : Bool) → same_commitment c d ≡ b
-        → filter_map (row_of c) parts ≡ chunks_of c (filter_map kept_of parts)
-        → filter_map (row_of c) (Row d y ∷ parts)
+        → filter_map (chunk_under c) parts ≡ chunks_of c (filter_map kept_of parts)
+        → filter_map (chunk_under c) (Row d y ∷ parts)
         ≡ chunks_of c (filter_map kept_of (Row d y ∷ parts))
     go true e more = rw e (ap (λ xs. y ∷ xs) more)
     go false e more = rw e more
 
 module _ (hash : List ℕ → Digest32) (t : Gathered) (r : Rules) (came : Came)
     (stands : StandsFor hash t r came) where
-  pub member_rows : (c : Commitment) → filter_map (row_of c) came.parts ≡ chunks_of c t.kept
+  pub member_rows : (c : Commitment) → filter_map (chunk_under c) came.parts ≡ chunks_of c t.kept
   member_rows c = came_rows c came.parts ∙ ap (chunks_of c) stands.rows
 
   pub member_shown : (c : Commitment) → first_some (whole_of r c) came.parts ≡ None

@@ -13,7 +13,7 @@ ghost use Rattle.cw_types.specs.declared.event.Event.{Event};
 ghost use Rattle.cw_types.specs.declared.vote.Vote.{Vote};
 ghost use Rattle.cw_rules.specs.Accepted.{Came, Row, first_some, is_chunk_of, same_part, take_part};
 ghost use Rattle.cw_rules.specs.Coding.{IsCoder};
-ghost use Rattle.cw_rules.specs.Held.{if_committed, row_of, shown, whole_of};
+ghost use Rattle.cw_rules.specs.Held.{if_committed, chunk_under, shown, whole_of};
 ghost use Rattle.cw_rules.specs.Rules.{Chunk, Rules, block_of};
 ghost use Rattle.cw_rules.specs.declared.travel.Travel.TheVariants.{Chunked};
 ghost use Rattle.cw_rules.specs.Step.{nothing_came, taken_came};
@@ -72,7 +72,7 @@ pub fn shown_by_kept()
     // the chunks of a commitment that came to the member are those that are kept of it
     ensures rows { (hash : List ℕ → Digest32) (t : Gathered) (r : Rules) (came : Came)
         → StandsFor hash t r came
-        → (c : Commitment) → filter_map (row_of c) came.parts ≡ chunks_of c t.kept }
+        → (c : Commitment) → filter_map (chunk_under c) came.parts ≡ chunks_of c t.kept }
     // where no whole block came under it, the member is shown what is kept shows
     ensures shown { (hash : List ℕ → Digest32) (t : Gathered) (r : Rules) (came : Came)
         → StandsFor hash t r came

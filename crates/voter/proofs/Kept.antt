@@ -16,7 +16,7 @@ use Rattle.cw_rules.specs.Owed.{is_row_at}
 use Rattle.cw_rules.specs.Rules.{Chunk, Rules}
 use Rattle.cw_rules.specs.Step.{nothing_came, with_handed, with_notes}
 use Rattle.cw_types.proofs.Same.{same_commitment-true}
-use Rattle.voter.specs.Known.{Known, is_own_at, known_came, knows_note, unknowing, with_ballot, with_own}
+use Rattle.voter.specs.Known.{Known, is_own_at, known_came, with_note, unknowing, with_ballot, with_own}
 use Rattle.voter.specs.Standing.{IsTallyOf, with_came}
 
 or_false : (b : Bool) → (b || false) ≡ b
@@ -147,7 +147,7 @@ start_stands hash r id given h b c =
 
 module _ (hash : List ℕ → Digest32) (t : Known) (r : Rules) (s : State)
     (stands : IsTallyOf hash t r s) where
-  pub note_kept : (note : Note) → IsTallyOf hash (knows_note t note) r (with_notes s (note ∷ []))
+  pub note_kept : (note : Note) → IsTallyOf hash (with_note t note) r (with_notes s (note ∷ []))
   note_kept note = record {
     epochs = stands.epochs;
     hash_same = stands.hash_same;

@@ -7,7 +7,7 @@ use Rattle.std.proofs.lemmas.Bool.Decides.{nat_tests}
 use Rattle.cw_types.specs.declared.commitment.Commitment.{Commitment}
 use Rattle.cw_types.specs.declared.note.Note.{Note}
 use Rattle.cw_types.specs.declared.vote.Proposal.{Proposal}
-use Rattle.cw_rules.specs.Notes.{nullified, root_of, settled, settler, view_of}
+use Rattle.cw_rules.specs.Notes.{nullified, epoch_parent, settled, settler, view_of}
 use Rattle.cw_rules.specs.Owed.{all_nullified, views_between}
 use Rattle.cw_rules.proofs.Lists.{all_range, one_test, range_all}
 use Rattle.voter.specs.Owing.{parent_below, parent_over}
@@ -288,6 +288,6 @@ settled_apart genesis notes epoch top =
         test
         ∙ sym
         (ap
-        (λ b. if b then root_of genesis notes epoch
+        (λ b. if b then epoch_parent genesis notes epoch
         else option_map (λ (p : Proposal). p.payload) (settler notes epoch (suc n)))
         test)

@@ -15,7 +15,7 @@ use Rattle.cw_types.specs.declared.vote.Proposal.{Proposal}
 use Rattle.cw_types.specs.declared.vote.Vote.{Vote}
 use Rattle.cw_types.specs.declared.vote.Vote.TheVariants.{Finalize, Notarize, Nullify}
 use Rattle.cw_rules.specs.Accepted.{first_some}
-use Rattle.cw_rules.specs.Notes.{ended, ended_by, ends_in, entry, greatest, settler, settling}
+use Rattle.cw_rules.specs.Notes.{ended, ended_by, ends_in, epoch_entered, greatest, settler, settling}
 use Rattle.voter.specs.Facts.{HasEnded, HasFirstSettled, IsEndThere, ended_at, ending, ending_vote, greatest_ended, settled_at, settled_by, settles}
 use Rattle.note_scans.specs.Keys.{in_view, same_key}
 use Rattle.note_scans.specs.declared.key.VoteKey.{VoteKey}
@@ -121,7 +121,7 @@ settled_view epoch view (note ∷ notes) = go note (settled_view epoch view note
 pub settled_epoch : (epoch : ℕ) (notes : List Note)
     → first_some (settled_at (in_view 7 epoch 0)) notes
     ≡ option_map (λ (e : ℕ × Commitment). e.1)
-    (find (λ (e : ℕ × Commitment). e.0 == epoch) (filter_map entry notes))
+    (find (λ (e : ℕ × Commitment). e.0 == epoch) (filter_map epoch_entered notes))
 settled_epoch epoch [] = refl
 settled_epoch epoch (note ∷ notes) = go note (settled_epoch epoch notes)
   where
@@ -129,7 +129,7 @@ settled_epoch epoch (note ∷ notes) = go note (settled_epoch epoch notes)
     rest = first_some (settled_at (in_view 7 epoch 0)) notes
 
     found : Option (ℕ × Commitment)
-    found = find (λ (e : ℕ × Commitment). e.0 == epoch) (filter_map entry notes)
+    found = find (λ (e : ℕ × Commitment). e.0 == epoch) (filter_map epoch_entered notes)
 
     and_true : (b : Bool) → (b && true) ≡ b
     and_true true = refl
@@ -157,7 +157,7 @@ settled_epoch epoch (note ∷ notes) = go note (settled_epoch epoch notes)
         → rest ≡ option_map (λ (x : ℕ × Commitment). x.1) found
         → option_or (settled_at (in_view 7 epoch 0) n) rest
         ≡ option_map (λ (x : ℕ × Commitment). x.1)
-        (find (λ (x : ℕ × Commitment). x.0 == epoch) (filter_map entry (n ∷ notes)))
+        (find (λ (x : ℕ × Commitment). x.0 == epoch) (filter_map epoch_entered (n ∷ notes)))
     go (Note.Block c b) more = more
     go (Note.Verified e w c) more = more
     go (Note.Certified p) more = more

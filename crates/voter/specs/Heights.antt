@@ -1,12 +1,12 @@
 -- The heights of noted blocks, by commitment, in place of a search.
-use Rattle.std.specs.Prelude.{ℕ, ◌&&◌, ◌+◌, ◌≡◌, List, None, Option, Some, if◌then◌else◌, max, nat_lt, option_and_then, option_map, true, unwrap_or}
+use Rattle.std.specs.Prelude.{ℕ, ◌&&◌, ◌+◌, ◌≡◌, List, None, Option, Some, if◌then◌else◌, max, option_map, true, unwrap_or}
 use Rattle.std.specs.Map.{lookup}
 use Rattle.std.specs.Option.{is_some, option_map_or}
 use Rattle.cw_types.specs.Same.{same_commitment}
 use Rattle.cw_types.specs.declared.commitment.Commitment.{Commitment}
 use Rattle.cw_types.specs.declared.note.Note.{Note}
 use Rattle.cw_rules.specs.Accepted.{first_some}
-use Rattle.cw_rules.specs.Held.{greatest_prune, noted_block_of, pruned_height}
+use Rattle.cw_rules.specs.Held.{kept_block, noted_block_of, pruned_height}
 
 -- the commitment of a noted block, and one above its height
 abbrev pub noted_above : Note → Option (Commitment × ℕ)
@@ -35,8 +35,4 @@ pruned_with prune note = option_map_or (λ h. max prune h) (pruned_height note) 
 
 -- the height of the first noted block of a commitment, unless that block was pruned
 abbrev pub kept_height : List Note → Commitment → Option ℕ
-kept_height notes c =
-    option_map (λ b. b.height)
-    (option_and_then
-    (λ b. if nat_lt 0 b.height && nat_lt b.height (greatest_prune notes) then None else Some b)
-    (first_some (noted_block_of c) notes))
+kept_height notes c = option_map (λ b. b.height) (kept_block notes c)

@@ -28,8 +28,8 @@ abbrev pub unknowing : Epochs → ℕ → Known
 unknowing x id = record { epochs = x; id = id; notes = []; ballots = []; own = [] }
 
 -- one more note
-abbrev pub knows_note : Known → Note → Known
-knows_note t note = record {
+abbrev pub with_note : Known → Note → Known
+with_note t note = record {
   epochs = t.epochs;
   id = t.id;
   notes = t.notes ++ note ∷ [];

@@ -51,8 +51,8 @@ unfoldable pub is_votable : Known → Proposal → Bool
 is_votable t p = is_turn t p && rule.all_nullified t.notes p.epoch p.parent p.view
 
 -- the member can vote for it over the payload that is settled for its parent view
-unfoldable pub is_ready : (List ℕ → Digest32) → Known → Proposal → Bool
-is_ready hash t p =
+unfoldable pub can_vote_for : (List ℕ → Digest32) → Known → Proposal → Bool
+can_vote_for hash t p =
     option_map_or (rule.is_ready (vote_rules hash t.epochs) t.id (known_state t) p)
     (settled (genesis_commitment hash) t.notes p.epoch p.parent) false
 

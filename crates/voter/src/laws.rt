@@ -24,7 +24,7 @@ ghost use Rattle.cw_rules.specs.Rules.{Chunk, Rules};
 ghost use Rattle.cw_rules.specs.declared.travel.Travel.TheVariants.{Chunked};
 ghost use Rattle.cw_rules.specs.Step.{nothing_came, with_handed, with_notes};
 ghost use Rattle.note_scans.specs.Countable.{is_countable};
-ghost use Rattle.voter.specs.Known.{Known, knows_note, unknowing, with_ballot, with_own};
+ghost use Rattle.voter.specs.Known.{Known, with_note, unknowing, with_ballot, with_own};
 ghost use Rattle.voter.specs.Owing as owing;
 ghost use Rattle.voter.specs.Standing.{IsTallyOf, best_from, is_formed, is_signed, with_came};
 
@@ -102,7 +102,7 @@ pub fn standing_is_kept()
         (record { notes = []; came = nothing_came; given = given }) }
     ensures note { (hash : List ℕ → Digest32) (t : Known) (r : Rules) (s : State)
         → IsTallyOf hash t r s
-        → (note : Note) → IsTallyOf hash (knows_note t note) r (with_notes s (note ∷ [])) }
+        → (note : Note) → IsTallyOf hash (with_note t note) r (with_notes s (note ∷ [])) }
     ensures ballot { (hash : List ℕ → Digest32) (t : Known) (r : Rules) (s : State)
         → IsTallyOf hash t r s
         → (x : Ballot) → IsTallyOf hash (with_ballot t x) r

@@ -98,7 +98,7 @@ impl Settled {
     pub(crate) fn of_epoch(&self, epoch: u64) -> Option<Commitment>
         ensures { (notes : List NoteValue) → HasFirstSettled notes self.now.by_key.entries
             → result ≡ option_map (λ e. e.1)
-            (find (λ e. e.0 == epoch) (filter_map rule.entry notes)) }
+            (find (λ e. e.0 == epoch) (filter_map rule.epoch_entered notes)) }
     {
         self.by_key.get(&VoteKey::in_view(7, epoch, 0)).copied()
     }

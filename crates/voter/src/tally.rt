@@ -7,7 +7,7 @@ ghost use Rattle.cw_rules.specs.Notes as rule;
 ghost use Rattle.cw_types.specs.Commit.{genesis_commitment};
 ghost use Rattle.cw_types.specs.Votes as votes;
 ghost use Rattle.note_scans.specs.Countable.{is_countable};
-ghost use Rattle.voter.specs.Known.{knows_note, unknowing, with_ballot, with_own};
+ghost use Rattle.voter.specs.Known.{with_note, unknowing, with_ballot, with_own};
 ghost use Rattle.voter.specs.Signing.{counted_vote};
 ghost use Rattle.voter.specs.Standing.{are_signers};
 
@@ -110,7 +110,7 @@ impl<H> Tally<H> {
     /// Takes a note of the member's own, at the end. Where memory is short nothing changes.
     pub fn take_note(&mut self, note: &Note) -> Result<(), NoMemory>
         requires { IsTrue (is_countable note.now) }
-        ensures ok { OnOk result (self.new ≡ knows_note self.old note.now) }
+        ensures ok { OnOk result (self.new ≡ with_note self.old note.now) }
         ensures err { OnErr result (self.new ≡ self.old) }
     {
         let counted = self.counted_vote(note);

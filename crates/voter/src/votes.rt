@@ -94,7 +94,8 @@ impl<H> Tally<H> {
         self.index.facts.kept_height(commitment)
     }
 
-    // Whether the proposal is certified, in a view that the member hasn't closed.
+    // Whether the proposal is certified, and the member is one of its epoch and hasn't closed its
+    // view.
     fn can_finalize(&self, proposal: &Proposal) -> bool
         ensures { result ≡ (notes_rule.has_certified self.now.notes proposal.now
             && is_member self.now.epochs proposal.now.epoch self.now.id
@@ -193,9 +194,9 @@ impl<H: Hasher<Digest = Digest32>> Tally<H> {
 
     // Whether the member can vote for the proposal over the payload that is settled for its parent
     // view.
-    #[tactic(auto, unfolding(crate::specs::Owing::is_ready))]
-    fn is_ready_over_settled(&self, proposal: &Proposal) -> bool
-        ensures { result ≡ owing.is_ready H.digest_of self.now proposal.now }
+    #[tactic(auto, unfolding(crate::specs::Owing::can_vote_for))]
+    fn can_vote(&self, proposal: &Proposal) -> bool
+        ensures { result ≡ owing.can_vote_for H.digest_of self.now proposal.now }
     {
         match self.settled(proposal.epoch, proposal.parent) {
             Some(parent) => self.is_ready(proposal, &parent),
@@ -206,9 +207,9 @@ impl<H: Hasher<Digest = Digest32>> Tally<H> {
     // Whether all is there for a vote to notarize the proposal.
     fn can_notarize(&self, proposal: &Proposal) -> bool
         ensures { result ≡ (owing.is_votable self.now proposal.now
-            && owing.is_ready H.digest_of self.now proposal.now) }
+            && owing.can_vote_for H.digest_of self.now proposal.now) }
     {
-        self.is_votable(proposal) && self.is_ready_over_settled(proposal)
+        self.is_votable(proposal) && self.can_vote(proposal)
     }
 
     // Whether a vote to notarize the proposal is owed.

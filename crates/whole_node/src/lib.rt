@@ -18,8 +18,8 @@ use std::thread::Threads;
 
 /// A member of a cluster in which blocks travel whole: a block goes to all in one message, is named
 /// by [`whole_commit`], and is voted for where it came or is held. In all else it is a
-/// [`Node`](node::Node), and has the same calls with the same contracts and refusals: `start`,
-/// `step`, `marshal`, `view`, `epoch`, `into_disk`.
+/// [`Node`](node::Node): it has all calls of a [`Member`](node::Member), with the same contracts
+/// and refusals.
 ///
 /// [`start_whole`] starts it among the members of one epoch. Its own `start` asks for no such
 /// committees: what it promises holds over any, by the rules of epochs.

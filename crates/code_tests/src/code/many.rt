@@ -22,7 +22,7 @@ fn are_recoveries<R: Threads + Sync>(rt: &R, alloc: Global, part: &str) -> Resul
     if stripe_count(usize::from(*width), 4) == 1 {
         return Ok(right && joined);
     }
-    let cut = recoveries(rt, alloc, *k, *m, &originals, *width, &Gate::new())?;
+    let cut = recoveries(rt, alloc, *k, *m, &originals, *width, &FourPieces::new())?;
     Ok(right && joined && cut.as_slice() == found.as_slice())
 }
 

@@ -87,9 +87,9 @@ pub fn numbers(alloc: Global, from: u16, count: u16) -> Result<Vec<u16>, AllocEr
     Ok(all)
 }
 
-// Originals, recoveries, and the width of a row: less than a block of columns, a block, one column
-// more, and three blocks and one column more; then the widest narrow row, one column more, and a
-// few columns.
+// Originals, recoveries, and the width of a row: one column; half a block of columns but one, half
+// a block, and one column more; 33 columns; a block and a half and one column more; then the widest
+// narrow row, one column more, and five columns.
 const SHAPES: [(u16, u16, u16); 9] = [
     (1, 1, 2),
     (2, 2, 8190),
@@ -136,7 +136,7 @@ fn recoveries_are_those_of_the_plain_definition(rt: HostRuntime) -> Result<(), F
         let right = are_plain_recoveries(rt.alloc(), k, m, &originals, &found, width)?;
         assert!(rt; right, "{k} and {m}, {width} bytes");
         if stripe_count(usize::from(width), 4) > 1 {
-            let cut = recoveries(&rt, rt.alloc(), k, m, &originals, width, &Gate::new())?;
+            let cut = recoveries(&rt, rt.alloc(), k, m, &originals, width, &FourPieces::new())?;
             assert!(rt; cut.as_slice() == found.as_slice());
         }
     }

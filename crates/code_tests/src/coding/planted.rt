@@ -125,7 +125,7 @@ fn shards_of_many_widths_check_and_do_not_decode(rt: HostRuntime) -> Result<(), 
     let mut indices = downwards(rt.alloc(), 64)?;
     indices.reverse();
     assert!(rt; check_at_once(&rt, rt.alloc(), &many, &indices, &Sequential)?);
-    let gate = Gate::new();
+    let gate = FourPieces::new();
     assert!(rt; check_at_once(&rt, rt.alloc(), &many, &indices, &gate)?);
     assert_eq!(rt; gate.passed(), 1);
     let answer = decoded(&rt, rt.alloc(), &many, &indices);

@@ -1,7 +1,7 @@
 //! A text whose rows are wide enough for two stripes, coded by any strategy.
 
 use super::{Rs, checked, config, decoded_of, picked};
-use crate::gate::Gate;
+use crate::gate::FourPieces;
 use cw_base::{Digest32, NoGate, Sequential, Sha256, Strategy};
 use cw_coding::{Chunk, ReedSolomonError, Scheme};
 use rs_code::stripe_count;
@@ -45,10 +45,11 @@ fn stripes_change_no_chunk(rt: HostRuntime) -> Result<(), Fail> {
     let alone = sent_by(&rt, alloc, &text, &Sequential)?;
     let four = sent_by(&rt, alloc, &text, &cw_base::Threads::new(4, NoGate))?;
     assert!(rt; four.as_slice() == alone.as_slice());
-    let gate = Gate::new();
+    let gate = FourPieces::new();
     let gated = sent_by(&rt, alloc, &text, &gate)?;
     assert!(rt; gated.as_slice() == alone.as_slice());
-    assert!(rt; 1 <= gate.passed());
+    // The stripes of the recoveries, and the five rows.
+    assert_eq!(rt; gate.passed(), 2);
     Ok(())
 }
 
@@ -62,9 +63,10 @@ fn stripes_are_decoded_beside_each_other(rt: HostRuntime) -> Result<(), Fail> {
     let given = picked(alloc, &all, &[1, 3, 4])?;
     let alone = decoded_of(&rt, alloc, &config, &root, &given)?;
     assert!(rt; alone.as_slice() == text.as_slice());
-    let gate = Gate::new();
+    let gate = FourPieces::new();
     let gated = Rs::decode(&rt, alloc, &config, &root, given.iter().copied(), &gate)?;
     assert!(rt; gated.as_slice() == text.as_slice());
-    assert!(rt; 1 <= gate.passed());
+    // The stripes of the originals, those of the recoveries, and the rows that weren't given.
+    assert_eq!(rt; gate.passed(), 3);
     Ok(())
 }

@@ -41,7 +41,7 @@ fn a_chunk_is_written_in_its_format(rt: HostRuntime) -> Result<(), Fail> {
     Ok(())
 }
 
-// Whether a chunk has so many bytes, reads back as itself from all of them, and has an equal copy.
+// Whether a chunk has so many bytes, and reads back as itself from all of them.
 fn is_read_back(
     alloc: Global,
     config: &Config,

@@ -1,5 +1,5 @@
-//! What comes from outside fails, or is too large. The texts follow from what each program writes of
-//! a cluster in which nothing happens.
+//! What comes from outside fails, or is too large. The texts follow from what each program writes
+//! of a cluster in which nothing happens.
 
 /// The source fails.
 pub(crate) const SOURCE_FAILS: &str = "\

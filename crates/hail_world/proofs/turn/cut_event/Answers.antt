@@ -8,21 +8,21 @@ use Rattle.node_disk.specs.Memory.{is_stopped}
 use Rattle.node_disk.proofs.Calm.{calm_goes_on}
 use Rattle.hail_world.specs.Places.{SitsAs, IsPutOut, table}
 use Rattle.hail_report.specs.Pool.{sent_in}
-use Rattle.hail_world.specs.LiveNodes.{HasStepped, LiveNode, WasStopped, live_step_notes, rules_by, with_stop}
+use Rattle.hail_world.specs.MemoryNodes.{HasStepped, MemoryNode, WasStopped, rules_by, with_stop}
 use Rattle.hail_world.proofs.Cutting.{IsCut, cut_whole, cut_short}
 use Rattle.hail_world.proofs.Stops.{armed, is_member}
 use Rattle.hail_world.proofs.turn.cut_event.Goals as goal
 
 pub stopped-requires-after_bounds : goal.stopped-requires-after_bounds
 stopped-requires-after_bounds g c κs within =
-    let s : LiveNode = c.args.node in
-    let new : LiveNode = c.step.new.node in
+    let s : MemoryNode = c.args.node in
+    let new : MemoryNode = c.step.new.node in
     let r : Rules = rules_by g.H.Hasher.digest_of s in
     let signed = table c.args.setting.now.faulty.now (sent_in c.args.setting.now.pool.now) in
     let is = c.stop_at.ensures.armed (calm_goes_on s.log.disk c.requires.calm) in
     let h =
     subst
-    (λ (x : LiveNode). HasStepped (rules_by g.H.Hasher.digest_of x) signed c.args.event.now x
+    (λ (x : MemoryNode). HasStepped (rules_by g.H.Hasher.digest_of x) signed c.args.event.now x
     new c.in-Ok.out)
     is c.in-Ok.ensures.ok in
     let done =
@@ -38,14 +38,14 @@ stopped-requires-after_bounds g c κs within =
 
 pub returns-in_ok-stopped-in-Ok-clause-cut : goal.returns-in_ok-stopped-in-Ok-clause-cut
 returns-in_ok-stopped-in-Ok-clause-cut g c =
-    let s : LiveNode = c.args.node in
-    let new : LiveNode = c.step.new.node in
+    let s : MemoryNode = c.args.node in
+    let new : MemoryNode = c.step.new.node in
     let r : Rules = rules_by g.H.Hasher.digest_of s in
     let signed = table c.args.setting.now.faulty.now (sent_in c.args.setting.now.pool.now) in
     let is = c.stop_at.ensures.armed (calm_goes_on s.log.disk c.requires.calm) in
     let h =
     subst
-    (λ (x : LiveNode). HasStepped (rules_by g.H.Hasher.digest_of x) signed c.args.event.now x
+    (λ (x : MemoryNode). HasStepped (rules_by g.H.Hasher.digest_of x) signed c.args.event.now x
     new c.in-Ok.out)
     is c.in-Ok.ensures.ok in
     let cut : Stepped =
@@ -67,15 +67,15 @@ returns-in_ok-stopped-in-Ok-clause-cut g c =
 
 pub stopped-requires-in-Err-Disk-after_bounds : goal.stopped-requires-in-Err-Disk-after_bounds
 stopped-requires-in-Err-Disk-after_bounds g c κs within =
-    let s : LiveNode = c.args.node in
-    let new : LiveNode = c.step.new.node in
+    let s : MemoryNode = c.args.node in
+    let new : MemoryNode = c.step.new.node in
     let r : Rules = rules_by g.H.Hasher.digest_of s in
     let signed = table c.args.setting.now.faulty.now (sent_in c.args.setting.now.pool.now) in
     let is = c.stop_at.ensures.armed (calm_goes_on s.log.disk c.requires.calm) in
     let raw = c.in-Err-Disk.ensures.cut (ap Err c.in-Err-Disk.field-0-is) in
     let h =
     subst
-    (λ (x : LiveNode). WasStopped (rules_by g.H.Hasher.digest_of x) signed c.args.event.now x
+    (λ (x : MemoryNode). WasStopped (rules_by g.H.Hasher.digest_of x) signed c.args.event.now x
     new)
     is raw in
     let law =
@@ -90,15 +90,15 @@ stopped-requires-in-Err-Disk-after_bounds g c κs within =
 
 pub returns-in_ok-stopped-in-Err-Disk-clause-cut : goal.returns-in_ok-stopped-in-Err-Disk-clause-cut
 returns-in_ok-stopped-in-Err-Disk-clause-cut g c =
-    let s : LiveNode = c.args.node in
-    let new : LiveNode = c.step.new.node in
+    let s : MemoryNode = c.args.node in
+    let new : MemoryNode = c.step.new.node in
     let r : Rules = rules_by g.H.Hasher.digest_of s in
     let signed = table c.args.setting.now.faulty.now (sent_in c.args.setting.now.pool.now) in
     let is = c.stop_at.ensures.armed (calm_goes_on s.log.disk c.requires.calm) in
     let raw = c.in-Err-Disk.ensures.cut (ap Err c.in-Err-Disk.field-0-is) in
     let h =
     subst
-    (λ (x : LiveNode). WasStopped (rules_by g.H.Hasher.digest_of x) signed c.args.event.now x
+    (λ (x : MemoryNode). WasStopped (rules_by g.H.Hasher.digest_of x) signed c.args.event.now x
     new)
     is raw in
     let law =

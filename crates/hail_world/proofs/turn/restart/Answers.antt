@@ -4,7 +4,7 @@ use Rattle.cw_types.specs.declared.event.StepOut.{StepOut}
 use Rattle.cw_rules.specs.Step.{Member, start}
 use Rattle.cw_rules.specs.declared.travel.Travel.{Travel}
 use Rattle.cw_rules_coded.specs.Coded.{ruled}
-use Rattle.hail_world.specs.LiveNodes.{out_of}
+use Rattle.hail_world.specs.MemoryNodes.{out_of}
 use Rattle.node_disk.specs.MemoryLaws.{calm_stays}
 use Rattle.hail_world.proofs.turn.restart.Goals as goal
 

@@ -1,7 +1,7 @@
 use Rattle.std.proofs.Common.{rules, tests}
 use Rattle.std.proofs.lemmas.Iterator.{YieldsList-from_slice}
 use Rattle.std.proofs.lemmas.Iterator.Consumers.{YieldsList-from_copied, YieldsList-from_filter, count_from_yields_List}
-use Rattle.note_scans.specs.Heights.{is_pending}
+use Rattle.cw_rules.specs.Held.{is_pending}
 use Rattle.note_scans.proofs.heights.count_pending.Goals as goal
 
 pub returns : goal.returns

@@ -2,7 +2,8 @@ use Rattle.std.proofs.Common.{◌≡◌, ◌-◌, ◌^◌, None, filter, rules, 
 use Rattle.std.proofs.lemmas.Iterator.{YieldsList-from_slice}
 use Rattle.std.proofs.lemmas.Iterator.Consumers.{YieldsList-from_copied, YieldsList-from_filter, fold_from_yields_List}
 use Rattle.cw_rules.specs.Direct.{least}
-use Rattle.note_scans.specs.Heights.{is_pending, least_with}
+use Rattle.cw_rules.specs.Held.{is_pending}
+use Rattle.note_scans.specs.Heights.{least_with}
 use Rattle.note_scans.proofs.Least.{fold_least, least_below}
 use Rattle.note_scans.proofs.heights.least_pending.Goals as goal
 

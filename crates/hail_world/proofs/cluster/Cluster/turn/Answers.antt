@@ -3,10 +3,10 @@ use Rattle.std.specs.Prelude.{slice_get}
 use Rattle.std.proofs.lemmas.Option.{slice_get_read}
 use Rattle.cw_rules.specs.World.{Line}
 use Rattle.hail_world.specs.declared.place.Place.{Place}
-use Rattle.hail_world.specs.Clusters.{ClusterStands, rows_at}
+use Rattle.hail_world.specs.Clusters.{ClusterStands, lines_of_turns}
 use Rattle.hail_world.specs.Places.{script_rules}
 use Rattle.hail_world.specs.Runs.{opened}
-use Rattle.hail_world.specs.LiveNodes.{LiveNode}
+use Rattle.hail_world.specs.MemoryNodes.{MemoryNode}
 use Rattle.hail_world.proofs.Clusters.{begins, below_inside, line_lent, same_played, seen_more, seen_stopped, turned, whole_inside}
 use Rattle.hail_world.proofs.Known.{known_at}
 use Rattle.hail_world.proofs.Running.{whole_front}
@@ -33,7 +33,7 @@ turn_line-requires-clause-count g c κs within =
     c.self.invariant.2
     (whole_inside hash i.script i.turns.items i.over c.args.self.now c.self.view_is
     c.requires.whole) in
-    ap (λ (l : List (Place LiveNode)). length l) c.deref_mut.ensures.value ∙ u.count
+    ap (λ (l : List (Place MemoryNode)). length l) c.deref_mut.ensures.value ∙ u.count
 
 pub returns-in-Err-clause-err : goal.returns-in-Err-clause-err
 returns-in-Err-clause-err g c = λ line there.
@@ -41,7 +41,7 @@ returns-in-Err-clause-err g c = λ line there.
     let hash = g.H.Hasher.digest_of in
     let s = i.script in
     let r = script_rules hash s in
-    let rows = rows_at s.lines i.turns.items in
+    let rows = lines_of_turns s.lines i.turns.items in
     let mine : Line = c.index-lines-at.result in
     let below =
     below_inside hash s i.turns.items i.over c.args.self.now c.self.view_is c.args.at
@@ -73,7 +73,7 @@ invariant_of-self-2 g c =
     let hash = g.H.Hasher.digest_of in
     let s = i.script in
     let r = script_rules hash s in
-    let rows = rows_at s.lines i.turns.items in
+    let rows = lines_of_turns s.lines i.turns.items in
     let line : Line = c.index-lines-at.result in
     let below =
     below_inside hash s i.turns.items i.over c.args.self.now c.self.view_is c.args.at
@@ -88,9 +88,10 @@ invariant_of-self-2 g c =
     let played =
     same_played r (opened hash s) rows i.pool i.places.items c.deref_mut.result.now i.known
     i.faulty.items c.deref.result.now c.deref_mut.ensures.value c.deref.ensures.value u.played in
-    let places : List (Place LiveNode) = c.turn_line.new.places in
+    let places : List (Place MemoryNode) = c.turn_line.new.places in
     let count : length places ≡ s.committees.total =
-    c.turn_line.auto.places ∙ ap (λ (l : List (Place LiveNode)). length l) c.deref_mut.ensures.value
+    c.turn_line.auto.places
+    ∙ ap (λ (l : List (Place MemoryNode)). length l) c.deref_mut.ensures.value
     ∙ u.count in
     let back : take i.places.len (places ++ drop (length places) i.places.items) ≡ places =
     whole_front places (drop (length places) i.places.items) i.places.len
@@ -101,8 +102,9 @@ invariant_of-self-2 g c =
     i.faulty.items refl (sym c.deref.ensures.value)
     (c.in-Ok.ensures.played (opened hash s) rows begin played) in
     subst
-    (λ (l : List (Place LiveNode)). ClusterStands hash g.W.Way.travel s i.opening
-    (rows_at s.lines c.put_turn.new.turns.items) false c.put_turn.new.pool l c.turn_line.new.known
+    (λ (l : List (Place MemoryNode)). ClusterStands hash g.W.Way.travel s i.opening
+    (lines_of_turns s.lines c.put_turn.new.turns.items) false c.put_turn.new.pool l
+    c.turn_line.new.known
     i.faulty.items)
     (sym back)
     (turned hash g.W.Way.travel s i.opening i.turns.items c.put_turn.new.turns.items i.pool

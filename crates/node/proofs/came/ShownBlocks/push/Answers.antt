@@ -1,5 +1,5 @@
 use Rattle.std.proofs.Common.{◌∙◌, ◌++◌, ◌∷◌, [], List, ap, length, subst, sym}
-use Rattle.node.specs.Arriving.{HasFirsts}
+use Rattle.node.specs.Arriving.{HasFirstsUnder}
 use Rattle.node.specs.Holding.{shown_under}
 use Rattle.node.specs.declared.arrival.Shown.{Shown}
 use Rattle.node.proofs.Placing.{one_placed, shown_is}
@@ -11,7 +11,7 @@ invariant_of-self-2 c =
     let xs = c.self.inside.list.items in
     let new = c.put_first.new.places.entries in
     let same = ap (λ (l : List Shown). l ++ x ∷ []) c.in_ok-reserve.ensures.items in
-    subst (λ (l : List Shown). HasFirsts shown_under l new)
+    subst (λ (l : List Shown). HasFirstsUnder shown_under l new)
     (sym (c.push_reserved.ensures.items ∙ same))
     (one_placed shown_under xs c.self.inside.places.entries new x.commitment c.len.result x
     c.self.invariant c.in_ok-put_first.ensures.ok

@@ -6,7 +6,7 @@ use Rattle.node.specs.Disks.{HasTried}
 use Rattle.node.proofs.Stepping.{goes_on, no_fewer, rests_answered, stands_committed, whole_step}
 use Rattle.node.proofs.Tried.{err_is, tried_none}
 use Rattle.node.specs.Acting.{IsBefore, notes_of_event}
-use Rattle.node.specs.Holding.{Holding, held_state, rules_of}
+use Rattle.node.specs.Holding.{Holding, own_state, rules_of}
 use Rattle.node.specs.Leading.{IsLedBy}
 use Rattle.node.specs.Store.{stored_notes}
 use Rattle.node.proofs.holding.Holding.act.Goals as goal
@@ -72,7 +72,7 @@ returns-clause-step g c =
     let later =
     ap (λ (k : Holding g.row.D.Denot g.row.A.Denot). rules_of hash accepts k) is ∙ rules in
     let before =
-    subst (λ (r : Rules). IsBefore r ev (held_state h) c.in_ok-before.before) (sym later)
+    subst (λ (r : Rules). IsBefore r ev (own_state h) c.in_ok-before.before) (sym later)
     c.in_ok-before.ensures.before in
     let on =
     goes_on hash accepts signed ev h b m c.args.leads.now.led.entries acted rules is
@@ -80,7 +80,7 @@ returns-clause-step g c =
     whole_step hash accepts signed ev h b m c.answer.new.self c.in_ok-out.out
     c.requires.ready.quiet acted
     rules (ap (λ (k : Holding g.row.D.Denot g.row.A.Denot). k.id) kept) is
-    (c.in_ok-out.ensures.answer (held_state h) before on)
+    (c.in_ok-out.ensures.answer (own_state h) before on)
 
 pub returns-clause-awake : goal.returns-clause-awake
 returns-clause-awake g c =
@@ -98,12 +98,12 @@ returns-clause-awake g c =
     let later =
     ap (λ (k : Holding g.row.D.Denot g.row.A.Denot). rules_of hash accepts k) is ∙ rules in
     let before =
-    subst (λ (r : Rules). IsBefore r ev (held_state h) c.in_ok-before.before) (sym later)
+    subst (λ (r : Rules). IsBefore r ev (own_state h) c.in_ok-before.before) (sym later)
     c.in_ok-before.ensures.before in
     let on =
     goes_on hash accepts signed ev h b m c.args.leads.now.led.entries acted rules is
     c.requires.led in
-    let left = (c.in_ok-out.ensures.answer (held_state h) before on).left in
+    let left = (c.in_ok-out.ensures.answer (own_state h) before on).left in
     record {
       ready =
           record {
@@ -111,8 +111,8 @@ returns-clause-awake g c =
             quiet =
                 ap (λ (k : Holding g.row.D.Denot g.row.A.Denot). k.store.staged) left
                 ∙ ap (λ (k : Holding g.row.D.Denot g.row.A.Denot). k.store.staged) is;
-            rests = rests_answered hash accepts ev (held_state h) b m c.answer.new.self
-                c.in_ok-out.out is (c.in_ok-out.ensures.answer (held_state h) before on)
+            rests = rests_answered hash accepts ev (own_state h) b m c.answer.new.self
+                c.in_ok-out.out is (c.in_ok-out.ensures.answer (own_state h) before on)
                 acted.rests;
           };
       led =
@@ -120,5 +120,5 @@ returns-clause-awake g c =
           (λ (k : Holding g.row.D.Denot g.row.A.Denot). IsLedBy (rules_of hash accepts k)
           (stored_notes k.store) c.answer.new.leads.led.entries)
           (sym left)
-          (c.in_ok-out.ensures.led (held_state h) before on);
+          (c.in_ok-out.ensures.led (own_state h) before on);
     }

@@ -3,7 +3,7 @@ use Rattle.cw_types.specs.declared.commitment.Commitment.{Commitment}
 use Rattle.cw_types.specs.declared.event.Event.TheVariants as event
 use Rattle.cw_types.specs.declared.message.Message.TheVariants as message
 use Rattle.node.proofs.Accepting.{came_whole}
-use Rattle.node.specs.Holding.{Holding, came_of, cut_rules, held_state, rules_of}
+use Rattle.node.specs.Holding.{Holding, came_of, cut_rules, own_state, rules_of}
 use Rattle.node.specs.declared.arrival.Arrival.{Arrival}
 use Rattle.node.proofs.holding.Holding.add_whole.Goals as goal
 
@@ -27,7 +27,7 @@ returns-clause-ok g c =
     e
     ∙ ap (λ (m : Commitment). h.arrivals ++ arrival m ∷ []) c.requires.commitment) in
     came_whole hash g.A.Application.accepts h _ c.args.block c.requires.stands c.requires.new
-    (c.standing_is_kept.ensures.whole_block hash h.tally r (held_state h) c.requires.stands.tally
+    (c.standing_is_kept.ensures.whole_block hash h.tally r (own_state h) c.requires.stands.tally
     c.args.block)
     (c.shards_stand.ensures.events hash h.shards (cut_rules hash g.A.Application.accepts h)
     (came_of h) c.requires.stands.shards

@@ -1,6 +1,6 @@
 use Rattle.std.proofs.Common.{◌∙◌, ap, ◌++◌, ◌∷◌, []}
 use Rattle.node.proofs.Accepting.{came_wish}
-use Rattle.node.specs.Holding.{Holding, held_state, rules_of}
+use Rattle.node.specs.Holding.{Holding, own_state, rules_of}
 use Rattle.node.proofs.holding.Holding.add_wish.Goals as goal
 
 pub returns-clause-ok : goal.returns-clause-ok
@@ -14,5 +14,5 @@ returns-clause-ok g c =
     e in
     came_wish hash g.A.Application.accepts h _ c.args.commitment.now c.requires
     (c.standing_is_kept.ensures.wish hash h.tally (rules_of hash g.A.Application.accepts h)
-    (held_state h) c.requires.tally c.args.commitment.now)
+    (own_state h) c.requires.tally c.args.commitment.now)
     (λ i. record (e i) { wishes = t i })

@@ -3,7 +3,7 @@ use Rattle.cw_types.specs.Block.{Block}
 use Rattle.cw_types.specs.Commit.{genesis_commitment}
 use Rattle.cw_rules.specs.Held.{held}
 use Rattle.voter.specs.Owing.{parent_over}
-use Rattle.node.specs.Holding.{Holding, held_state, rules_of}
+use Rattle.node.specs.Holding.{Holding, own_state, rules_of}
 use Rattle.node.specs.Store.{stored_notes}
 use Rattle.node.proofs.holding.Holding.best_parent.Goals as goal
 
@@ -31,7 +31,7 @@ returns-in-Some-held-clause-value g c =
     ∙ ap (option_map (λ (x : Bor Block). x.now)) c.in-Some-held.is)) in
     sym
     (c.loop-parent.invariant.rest
-    ∙ c.parent_stands.ensures.held hash h.tally r (held_state h) s.tally c.args.epoch
+    ∙ c.parent_stands.ensures.held hash h.tally r (own_state h) s.tally c.args.epoch
     c.loop-parent.below c.in-Some.parent c.in-Some.payload c.in-Some-held.block.now p b)
 
 pub loop-parent-smaller : goal.loop-parent-smaller
@@ -78,7 +78,7 @@ loop-parent-preserved g c =
       low = let l = c.loop-parent.invariant.low in omega (arith, down);
       rest =
           c.loop-parent.invariant.rest
-          ∙ c.parent_stands.ensures.next hash h.tally r (held_state h) s.tally c.args.epoch
+          ∙ c.parent_stands.ensures.next hash h.tally r (own_state h) s.tally c.args.epoch
           c.loop-parent.below c.in-Some.parent c.in-Some.payload p b;
     }
 
@@ -95,7 +95,7 @@ returns-clause-value g c =
     c.self.view_is in
     sym
     (c.loop-parent.invariant.rest
-    ∙ c.parent_stands.ensures.none hash h.tally r (held_state h) s.tally c.args.epoch
+    ∙ c.parent_stands.ensures.none hash h.tally r (own_state h) s.tally c.args.epoch
     c.loop-parent.below (sym told ∙ (sym c.propose_parent.ensures ∙ c.in_default.is)))
 
 pub returns-in-Some-held-clause-below : goal.returns-in-Some-held-clause-below

@@ -3,7 +3,7 @@ use Rattle.std.proofs.lemmas.Option.{slice_get_within}
 use Rattle.cw_rules.specs.Owed.{can_vote}
 use Rattle.voter.specs.Owing.{votable}
 use Rattle.node.proofs.Tops.{find_end, find_here, find_next}
-use Rattle.node.specs.Holding.{Holding, held_state, rules_of}
+use Rattle.node.specs.Holding.{Holding, own_state, rules_of}
 use Rattle.node.proofs.holding.Holding.first_ready.Goals as goal
 
 pub loop-proposal-preserved : goal.loop-proposal-preserved
@@ -11,7 +11,7 @@ loop-proposal-preserved g c =
     let h = c.args.self.now in
     let hash = g.H.Hasher.digest_of in
     let r = rules_of hash g.A.Application.accepts h in
-    let ready = can_vote r h.tally.id (held_state h) in
+    let ready = can_vote r h.tally.id (own_state h) in
     let same =
     ap
     (λ (k : Holding g.row.D.Denot g.row.A.Denot). slice_get (votable k.tally)
@@ -30,7 +30,7 @@ loop-proposal-smaller g c =
     let h = c.args.self.now in
     let hash = g.H.Hasher.digest_of in
     let r = rules_of hash g.A.Application.accepts h in
-    let ready = can_vote r h.tally.id (held_state h) in
+    let ready = can_vote r h.tally.id (own_state h) in
     let same =
     ap
     (λ (k : Holding g.row.D.Denot g.row.A.Denot). slice_get (votable k.tally)
@@ -48,7 +48,7 @@ returns-then-can_vote-clause-value g c =
     let h = c.args.self.now in
     let hash = g.H.Hasher.digest_of in
     let r = rules_of hash g.A.Application.accepts h in
-    let ready = can_vote r h.tally.id (held_state h) in
+    let ready = can_vote r h.tally.id (own_state h) in
     let same =
     ap
     (λ (k : Holding g.row.D.Denot g.row.A.Denot). slice_get (votable k.tally)
@@ -65,7 +65,7 @@ returns-clause-value g c =
     let h = c.args.self.now in
     let hash = g.H.Hasher.digest_of in
     let r = rules_of hash g.A.Application.accepts h in
-    let ready = can_vote r h.tally.id (held_state h) in
+    let ready = can_vote r h.tally.id (own_state h) in
     let same =
     ap
     (λ (k : Holding g.row.D.Denot g.row.A.Denot). slice_get (votable k.tally)

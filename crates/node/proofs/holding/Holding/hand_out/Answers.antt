@@ -4,7 +4,7 @@ use Rattle.cw_rules_coded.specs.Coded.{coded}
 use Rattle.cw_types.specs.declared.event.Handed.{Handed}
 use Rattle.node.proofs.Stepping.{stands_handed}
 use Rattle.marshal.proofs.Applications.{any_deliveries}
-use Rattle.node.specs.Holding.{Holding, came_of, held_state, rules_of}
+use Rattle.node.specs.Holding.{Holding, came_of, own_state, rules_of}
 use Rattle.node.specs.Store.{stored_notes, stored_rules, stored_state}
 use Rattle.node.proofs.holding.Holding.hand_out.Goals as goal
 
@@ -41,6 +41,6 @@ returns-clause-stands g c =
     let l =
     c.in_ok-handed.ensures.log ∙ ap (λ (k : Holding g.row.D.Denot g.row.A.Denot). k.log) e in
     stands_handed hash accepts h _ c.in_ok-handed.handed.items c.requires.stands
-    (c.standing_is_kept.ensures.handed hash h.tally (rules_of hash accepts h) (held_state h)
+    (c.standing_is_kept.ensures.handed hash h.tally (rules_of hash accepts h) (own_state h)
     c.requires.stands.tally c.in_ok-handed.handed.items)
     (λ i. record (e i) { store = t i; log = l i })

@@ -6,7 +6,7 @@ use Rattle.cw_rules.specs.Accepted.{Row, take_part}
 use Rattle.voter.specs.Standing.{with_came}
 use Rattle.node.proofs.Rows.{row_none, row_some, row_stands, shows_held, shows_same}
 use Rattle.node.specs.Accepting.{with_row}
-use Rattle.node.specs.Holding.{Holding, came_of, cut_rules, held_state, rules_of}
+use Rattle.node.specs.Holding.{Holding, came_of, cut_rules, own_state, rules_of}
 use Rattle.node.specs.declared.arrival.Arrival.{Arrival}
 use Rattle.node.proofs.holding.Holding.keep_chunk.Goals as goal
 
@@ -132,10 +132,10 @@ returns-in_ok-add_row-in-Kept-clause-come g c =
     let foreign =
     c.shards_stand.ensures.foreign hash h.shards s (came_of h) c.requires.shards m x in
     let tally =
-    row_stands hash h.tally r (with_came (held_state h) (take_part (came_of h) true (Row m x)))
+    row_stands hash h.tally r (with_came (own_state h) (take_part (came_of h) true (Row m x)))
     h.epochs h.id m x.index (sym c.requires.tally.epochs) c.requires.id
-    (c.standing_is_kept.ensures.own_chunk hash h.tally r (held_state h) c.requires.tally m x)
-    (c.standing_is_kept.ensures.other_chunk hash h.tally r (held_state h) c.requires.tally m
+    (c.standing_is_kept.ensures.own_chunk hash h.tally r (own_state h) c.requires.tally m x)
+    (c.standing_is_kept.ensures.other_chunk hash h.tally r (own_state h) c.requires.tally m
     x) in
     let chunks = c.shards_stand.ensures.taken hash h.shards s (came_of h) c.requires.shards m x in
     let row : Arrival = record { commitment = m; block = None } in
@@ -182,10 +182,10 @@ returns-in_ok-add_row-in-Kept-clause-new g c =
     let foreign =
     c.shards_stand.ensures.foreign hash h.shards s (came_of h) c.requires.shards m x in
     let tally =
-    row_stands hash h.tally r (with_came (held_state h) (take_part (came_of h) true (Row m x)))
+    row_stands hash h.tally r (with_came (own_state h) (take_part (came_of h) true (Row m x)))
     h.epochs h.id m x.index (sym c.requires.tally.epochs) c.requires.id
-    (c.standing_is_kept.ensures.own_chunk hash h.tally r (held_state h) c.requires.tally m x)
-    (c.standing_is_kept.ensures.other_chunk hash h.tally r (held_state h) c.requires.tally m
+    (c.standing_is_kept.ensures.own_chunk hash h.tally r (own_state h) c.requires.tally m x)
+    (c.standing_is_kept.ensures.other_chunk hash h.tally r (own_state h) c.requires.tally m
     x) in
     let chunks = c.shards_stand.ensures.taken hash h.shards s (came_of h) c.requires.shards m x in
     let row : Arrival = record { commitment = m; block = None } in
@@ -232,10 +232,10 @@ returns-in_ok-add_row-in-Garbage-clause-come g c =
     let foreign =
     c.shards_stand.ensures.foreign hash h.shards s (came_of h) c.requires.shards m x in
     let tally =
-    row_stands hash h.tally r (with_came (held_state h) (take_part (came_of h) true (Row m x)))
+    row_stands hash h.tally r (with_came (own_state h) (take_part (came_of h) true (Row m x)))
     h.epochs h.id m x.index (sym c.requires.tally.epochs) c.requires.id
-    (c.standing_is_kept.ensures.own_chunk hash h.tally r (held_state h) c.requires.tally m x)
-    (c.standing_is_kept.ensures.other_chunk hash h.tally r (held_state h) c.requires.tally m
+    (c.standing_is_kept.ensures.own_chunk hash h.tally r (own_state h) c.requires.tally m x)
+    (c.standing_is_kept.ensures.other_chunk hash h.tally r (own_state h) c.requires.tally m
     x) in
     let chunks = c.shards_stand.ensures.taken hash h.shards s (came_of h) c.requires.shards m x in
     let row : Arrival = record { commitment = m; block = None } in
@@ -282,10 +282,10 @@ returns-in_ok-add_row-in-Garbage-clause-new g c =
     let foreign =
     c.shards_stand.ensures.foreign hash h.shards s (came_of h) c.requires.shards m x in
     let tally =
-    row_stands hash h.tally r (with_came (held_state h) (take_part (came_of h) true (Row m x)))
+    row_stands hash h.tally r (with_came (own_state h) (take_part (came_of h) true (Row m x)))
     h.epochs h.id m x.index (sym c.requires.tally.epochs) c.requires.id
-    (c.standing_is_kept.ensures.own_chunk hash h.tally r (held_state h) c.requires.tally m x)
-    (c.standing_is_kept.ensures.other_chunk hash h.tally r (held_state h) c.requires.tally m
+    (c.standing_is_kept.ensures.own_chunk hash h.tally r (own_state h) c.requires.tally m x)
+    (c.standing_is_kept.ensures.other_chunk hash h.tally r (own_state h) c.requires.tally m
     x) in
     let chunks = c.shards_stand.ensures.taken hash h.shards s (came_of h) c.requires.shards m x in
     let row : Arrival = record { commitment = m; block = None } in
@@ -332,10 +332,10 @@ returns-in_ok-add_last_row-in-Held-clause-come g c =
     let foreign =
     c.shards_stand.ensures.foreign hash h.shards s (came_of h) c.requires.shards m x in
     let tally =
-    row_stands hash h.tally r (with_came (held_state h) (take_part (came_of h) true (Row m x)))
+    row_stands hash h.tally r (with_came (own_state h) (take_part (came_of h) true (Row m x)))
     h.epochs h.id m x.index (sym c.requires.tally.epochs) c.requires.id
-    (c.standing_is_kept.ensures.own_chunk hash h.tally r (held_state h) c.requires.tally m x)
-    (c.standing_is_kept.ensures.other_chunk hash h.tally r (held_state h) c.requires.tally m
+    (c.standing_is_kept.ensures.own_chunk hash h.tally r (own_state h) c.requires.tally m x)
+    (c.standing_is_kept.ensures.other_chunk hash h.tally r (own_state h) c.requires.tally m
     x) in
     let chunks = c.shards_stand.ensures.taken hash h.shards s (came_of h) c.requires.shards m x in
     let row : Arrival = record { commitment = m; block = None } in
@@ -385,10 +385,10 @@ returns-in_ok-add_last_row-in-Held-clause-new g c =
     let foreign =
     c.shards_stand.ensures.foreign hash h.shards s (came_of h) c.requires.shards m x in
     let tally =
-    row_stands hash h.tally r (with_came (held_state h) (take_part (came_of h) true (Row m x)))
+    row_stands hash h.tally r (with_came (own_state h) (take_part (came_of h) true (Row m x)))
     h.epochs h.id m x.index (sym c.requires.tally.epochs) c.requires.id
-    (c.standing_is_kept.ensures.own_chunk hash h.tally r (held_state h) c.requires.tally m x)
-    (c.standing_is_kept.ensures.other_chunk hash h.tally r (held_state h) c.requires.tally m
+    (c.standing_is_kept.ensures.own_chunk hash h.tally r (own_state h) c.requires.tally m x)
+    (c.standing_is_kept.ensures.other_chunk hash h.tally r (own_state h) c.requires.tally m
     x) in
     let chunks = c.shards_stand.ensures.taken hash h.shards s (came_of h) c.requires.shards m x in
     let row : Arrival = record { commitment = m; block = None } in

@@ -6,7 +6,7 @@ use Rattle.cw_types.specs.declared.event.Out.{Out}
 use Rattle.cw_rules.specs.Sends.{missing, note_sends}
 use Rattle.node.proofs.Starting.{from_nothing, knows_nothing, opened}
 use Rattle.node.specs.Asking.{asks}
-use Rattle.node.specs.Holding.{Holding, held_state, rules_of}
+use Rattle.node.specs.Holding.{Holding, own_state, rules_of}
 use Rattle.node.specs.Leading.{IsLedBy}
 use Rattle.node.specs.Standing.{OwesNoBlock}
 use Rattle.node.specs.Store.{stored_notes}
@@ -26,11 +26,11 @@ returns-clause-start g c =
     c.self.view_is in
     let notes =
     c.in_ok-sent.ensures ∙ ap (flat_map (note_sends r h.id (stored_notes h.store))) frame in
-    let on = from_nothing r (held_state h) c.args.leads.now.led.entries c.requires.nothing in
+    let on = from_nothing r (own_state h) c.args.leads.now.led.entries c.requires.nothing in
     let sent =
     c.from_vec.ensures
     ∙ (c.in_ok-put_missing.ensures.asked knows_nothing on refl refl
-    ∙ ap (λ (l : List Out). l ++ asks h.id (missing r (held_state h)) []) notes) in
+    ∙ ap (λ (l : List Out). l ++ asks h.id (missing r (own_state h)) []) notes) in
     let left =
     c.in_ok-handed.ensures.ok
     ∙ ap
@@ -54,7 +54,7 @@ returns-clause-awake g c =
     let accepts = g.A.Application.accepts in
     let new = c.put_missing.new.leads.led.entries in
     let on =
-    from_nothing (rules_of hash accepts h) (held_state h) c.args.leads.now.led.entries
+    from_nothing (rules_of hash accepts h) (own_state h) c.args.leads.now.led.entries
     c.requires.nothing in
     record {
       ready =
@@ -67,7 +67,7 @@ returns-clause-awake g c =
             rests =
                 subst
                 (λ (k : Holding g.row.D.Denot g.row.A.Denot). OwesNoBlock (rules_of hash accepts k)
-                (held_state k))
+                (own_state k))
                 (sym c.in_ok-handed.ensures.ok) c.requires.ready.rests;
           };
       led =

@@ -1,7 +1,7 @@
 use Rattle.std.proofs.Common.{Bor, List, Some, ap, length, option_map, slice_get, sym, ◌-◌, ◌∙◌}
 use Rattle.cw_types.specs.Block.{Block}
 use Rattle.cw_types.specs.declared.note.Note.{Note}
-use Rattle.node.specs.Holding.{Holding, held_state, rules_of}
+use Rattle.node.specs.Holding.{Holding, own_state, rules_of}
 use Rattle.node.specs.declared.arrival.Arrival.{Arrival}
 use Rattle.node.proofs.Resting.{last_arrival}
 use Rattle.node.proofs.holding.Holding.owed_block.Goals as goal
@@ -18,7 +18,7 @@ returns-in_ok-copy-in-Some-unnoted-clause-value g c =
     c.in-Some.ensures.value
     ∙ ap (λ (l : List Arrival). slice_get l (length l - 1)) arrived in
     let all =
-    last_arrival (rules_of g.H.Hasher.digest_of g.A.Application.accepts h) (held_state h)
+    last_arrival (rules_of g.H.Hasher.digest_of g.A.Application.accepts h) (own_state h)
     h.arrivals
     last c.requires.stands.named c.requires.last (sym at) in
     let note = λ (b : Bor Block). Note.Block last.commitment b.now in
@@ -36,7 +36,7 @@ returns-in-None-clause-value g c =
     c.in-Some.ensures.value
     ∙ ap (λ (l : List Arrival). slice_get l (length l - 1)) arrived in
     let all =
-    last_arrival (rules_of g.H.Hasher.digest_of g.A.Application.accepts h) (held_state h)
+    last_arrival (rules_of g.H.Hasher.digest_of g.A.Application.accepts h) (own_state h)
     h.arrivals
     last c.requires.stands.named c.requires.last (sym at) in
     let note = λ (b : Bor Block). Note.Block last.commitment b.now in

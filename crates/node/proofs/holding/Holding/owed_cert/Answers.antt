@@ -5,7 +5,7 @@ use Rattle.cw_types.specs.Votes.{well_formed}
 use Rattle.cw_rules.specs.Accepted.{first_some}
 use Rattle.cw_rules.specs.Owed.{cert_owed, named_votes}
 use Rattle.voter.specs.Owing as owing
-use Rattle.node.specs.Holding.{Holding, held_state, rules_of}
+use Rattle.node.specs.Holding.{Holding, own_state, rules_of}
 use Rattle.node.proofs.Bridges.{cert_storable}
 use Rattle.node.proofs.holding.Holding.owed_cert.Goals as goal
 
@@ -14,10 +14,10 @@ returns-in-Some-clause-value g c =
     let h = c.args.self.now in
     let r = rules_of g.H.Hasher.digest_of g.A.Application.accepts h in
     let law =
-    c.tally_stands.ensures.certificates g.H.Hasher.digest_of h.tally r (held_state h)
+    c.tally_stands.ensures.certificates g.H.Hasher.digest_of h.tally r (own_state h)
     c.requires.tally in
     let by =
-    ap (λ (n : ℕ). first_some (cert_owed r n (held_state h)) (named_votes (held_state h)))
+    ap (λ (n : ℕ). first_some (cert_owed r n (own_state h)) (named_votes (own_state h)))
     c.requires.id in
     let same =
     ap
@@ -32,10 +32,10 @@ returns-in-None-clause-value g c =
     let h = c.args.self.now in
     let r = rules_of g.H.Hasher.digest_of g.A.Application.accepts h in
     let law =
-    c.tally_stands.ensures.certificates g.H.Hasher.digest_of h.tally r (held_state h)
+    c.tally_stands.ensures.certificates g.H.Hasher.digest_of h.tally r (own_state h)
     c.requires.tally in
     let by =
-    ap (λ (n : ℕ). first_some (cert_owed r n (held_state h)) (named_votes (held_state h)))
+    ap (λ (n : ℕ). first_some (cert_owed r n (own_state h)) (named_votes (own_state h)))
     c.requires.id in
     let same =
     ap

@@ -5,7 +5,7 @@ use Rattle.cw_types.specs.declared.vote.Proposal.{Proposal}
 use Rattle.cw_rules.specs.Fits.{block_fits}
 use Rattle.voter.specs.Owing.{uncertified}
 use Rattle.node.proofs.Tops.{find_end, find_here, find_next}
-use Rattle.node.specs.Holding.{Holding, held_state, rules_of}
+use Rattle.node.specs.Holding.{Holding, own_state, rules_of}
 use Rattle.node.specs.Store.{stored_notes}
 use Rattle.node.proofs.holding.Holding.owed_certified.Goals as goal
 
@@ -20,7 +20,7 @@ loop-proposal-preserved g c =
     (λ (k : Holding g.row.D.Denot g.row.A.Denot). slice_get (uncertified k.tally)
     c.loop-proposal.index)
     c.self.view_is in
-    let law = c.tally_stands.ensures.certified hash h.tally r (held_state h) c.requires.tally in
+    let law = c.tally_stands.ensures.certified hash h.tally r (own_state h) c.requires.tally in
     let noted =
     ap (λ l. option_map Note.Certified (find (block_fits r l) (uncertified h.tally)))
     c.requires.tally.notes in
@@ -46,7 +46,7 @@ loop-proposal-smaller g c =
     (λ (k : Holding g.row.D.Denot g.row.A.Denot). slice_get (uncertified k.tally)
     c.loop-proposal.index)
     c.self.view_is in
-    let law = c.tally_stands.ensures.certified hash h.tally r (held_state h) c.requires.tally in
+    let law = c.tally_stands.ensures.certified hash h.tally r (own_state h) c.requires.tally in
     let noted =
     ap (λ l. option_map Note.Certified (find (block_fits r l) (uncertified h.tally)))
     c.requires.tally.notes in
@@ -71,7 +71,7 @@ returns-then-branch-clause-value g c =
     (λ (k : Holding g.row.D.Denot g.row.A.Denot). slice_get (uncertified k.tally)
     c.loop-proposal.index)
     c.self.view_is in
-    let law = c.tally_stands.ensures.certified hash h.tally r (held_state h) c.requires.tally in
+    let law = c.tally_stands.ensures.certified hash h.tally r (own_state h) c.requires.tally in
     let noted =
     ap (λ l. option_map Note.Certified (find (block_fits r l) (uncertified h.tally)))
     c.requires.tally.notes in
@@ -99,7 +99,7 @@ returns-clause-value g c =
     (λ (k : Holding g.row.D.Denot g.row.A.Denot). slice_get (uncertified k.tally)
     c.loop-proposal.index)
     c.self.view_is in
-    let law = c.tally_stands.ensures.certified hash h.tally r (held_state h) c.requires.tally in
+    let law = c.tally_stands.ensures.certified hash h.tally r (own_state h) c.requires.tally in
     let noted =
     ap (λ l. option_map Note.Certified (find (block_fits r l) (uncertified h.tally)))
     c.requires.tally.notes in

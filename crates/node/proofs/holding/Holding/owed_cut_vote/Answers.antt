@@ -4,7 +4,7 @@ use Rattle.cw_types.specs.declared.note.Note.{Note}
 use Rattle.cw_rules.specs.Accepted.{first_some}
 use Rattle.cw_rules.specs.Owed.{finalize_owed, named_proposals, notarize_owed}
 use Rattle.voter.specs.Owing as owing
-use Rattle.node.specs.Holding.{Holding, held_state, rules_of}
+use Rattle.node.specs.Holding.{Holding, own_state, rules_of}
 use Rattle.node.proofs.holding.Holding.owed_cut_vote.Goals as goal
 
 pub returns-in-Some-clause-value : goal.returns-in-Some-clause-value
@@ -13,15 +13,15 @@ returns-in-Some-clause-value g c =
     let hash = g.H.Hasher.digest_of in
     let r = rules_of hash g.A.Application.accepts h in
     let n =
-    sym (c.tally_stands.ensures.notarized hash h.tally r (held_state h) c.requires.cut
+    sym (c.tally_stands.ensures.notarized hash h.tally r (own_state h) c.requires.cut
     c.requires.stands.tally)
-    ∙ ap (λ (k : ℕ). first_some (notarize_owed r k (held_state h))
-    (named_proposals (held_state h)))
+    ∙ ap (λ (k : ℕ). first_some (notarize_owed r k (own_state h))
+    (named_proposals (own_state h)))
     c.requires.stands.id in
     let f =
-    sym (c.tally_stands.ensures.finalized hash h.tally r (held_state h) c.requires.stands.tally)
-    ∙ ap (λ (k : ℕ). first_some (finalize_owed r k (held_state h))
-    (named_proposals (held_state h)))
+    sym (c.tally_stands.ensures.finalized hash h.tally r (own_state h) c.requires.stands.tally)
+    ∙ ap (λ (k : ℕ). first_some (finalize_owed r k (own_state h))
+    (named_proposals (own_state h)))
     c.requires.stands.id in
     let same =
     ap (λ (k : Holding g.row.D.Denot g.row.A.Denot). owing.vote_owed hash k.tally)
@@ -35,15 +35,15 @@ returns-in-None-clause-value g c =
     let hash = g.H.Hasher.digest_of in
     let r = rules_of hash g.A.Application.accepts h in
     let n =
-    sym (c.tally_stands.ensures.notarized hash h.tally r (held_state h) c.requires.cut
+    sym (c.tally_stands.ensures.notarized hash h.tally r (own_state h) c.requires.cut
     c.requires.stands.tally)
-    ∙ ap (λ (k : ℕ). first_some (notarize_owed r k (held_state h))
-    (named_proposals (held_state h)))
+    ∙ ap (λ (k : ℕ). first_some (notarize_owed r k (own_state h))
+    (named_proposals (own_state h)))
     c.requires.stands.id in
     let f =
-    sym (c.tally_stands.ensures.finalized hash h.tally r (held_state h) c.requires.stands.tally)
-    ∙ ap (λ (k : ℕ). first_some (finalize_owed r k (held_state h))
-    (named_proposals (held_state h)))
+    sym (c.tally_stands.ensures.finalized hash h.tally r (own_state h) c.requires.stands.tally)
+    ∙ ap (λ (k : ℕ). first_some (finalize_owed r k (own_state h))
+    (named_proposals (own_state h)))
     c.requires.stands.id in
     let same =
     ap (λ (k : Holding g.row.D.Denot g.row.A.Denot). owing.vote_owed hash k.tally)

@@ -4,7 +4,7 @@ use Rattle.cw_types.specs.declared.vote.Vote.TheVariants.{Notarize}
 use Rattle.cw_types.specs.declared.vote.Proposal.{Proposal}
 use Rattle.cw_rules.specs.Accepted.{first_some}
 use Rattle.cw_rules.specs.Owed.{named_proposals, notarize_owed}
-use Rattle.node.specs.Holding.{held_state, rules_of}
+use Rattle.node.specs.Holding.{own_state, rules_of}
 use Rattle.node.proofs.holding.Holding.owed_notarize.Goals as goal
 
 pub returns-in-Some-clause-value : goal.returns-in-Some-clause-value
@@ -12,11 +12,11 @@ returns-in-Some-clause-value g c =
     let h = c.args.self.now in
     let hash = g.H.Hasher.digest_of in
     let r = rules_of hash g.A.Application.accepts h in
-    let law = c.tally_stands.ensures.votable hash h.tally r (held_state h)
+    let law = c.tally_stands.ensures.votable hash h.tally r (own_state h)
     c.requires.stands.tally in
     let by =
-    ap (λ (k : ℕ). first_some (notarize_owed r k (held_state h))
-    (named_proposals (held_state h)))
+    ap (λ (k : ℕ). first_some (notarize_owed r k (own_state h))
+    (named_proposals (own_state h)))
     c.requires.stands.id in
     ap (option_map (λ (p : Proposal). Note.Vote (Notarize p)))
     (sym c.in-Some.is ∙ c.in_ok-proposal.ensures.value)
@@ -27,11 +27,11 @@ returns-in-None-clause-value g c =
     let h = c.args.self.now in
     let hash = g.H.Hasher.digest_of in
     let r = rules_of hash g.A.Application.accepts h in
-    let law = c.tally_stands.ensures.votable hash h.tally r (held_state h)
+    let law = c.tally_stands.ensures.votable hash h.tally r (own_state h)
     c.requires.stands.tally in
     let by =
-    ap (λ (k : ℕ). first_some (notarize_owed r k (held_state h))
-    (named_proposals (held_state h)))
+    ap (λ (k : ℕ). first_some (notarize_owed r k (own_state h))
+    (named_proposals (own_state h)))
     c.requires.stands.id in
     ap (option_map (λ (p : Proposal). Note.Vote (Notarize p)))
     (sym c.in-None.is ∙ c.in_ok-proposal.ensures.value)

@@ -6,7 +6,7 @@ use Rattle.cw_types.specs.declared.message.Message.{Message}
 use Rattle.cw_rules.specs.Held.{next}
 use Rattle.cw_rules.specs.Rules.{genesis_commitment}
 use Rattle.cw_rules.specs.Sends as rule
-use Rattle.node.specs.Holding.{Holding, held_state, rules_of}
+use Rattle.node.specs.Holding.{Holding, own_state, rules_of}
 use Rattle.node.specs.Leading.{is_led, is_new, lead_at}
 use Rattle.node.specs.Store.{stored_notes}
 use Rattle.node.specs.declared.leads.Lead.{Lead}
@@ -30,13 +30,13 @@ returns-clause-asked g c = λ old on place from.
     c.in_ok-new.ensures
     ∙ ap
     (λ (l : List Lead). filter (is_new notes entries c.args.height)
-    (filter_map (lead_at (next (held_state h))) l))
+    (filter_map (lead_at (next (own_state h))) l))
     c.deref.ensures.value in
     let all =
     c.deref-3.ensures.value
     ∙ (c.in_ok-asked.ensures
     ∙ (ap (rule.once (genesis_commitment r ∷ [])) c.deref-2.ensures.value
-    ∙ asked_once r old (held_state h) entries on c.args.place c.in_ok-led.led.items place led
+    ∙ asked_once r old (own_state h) entries on c.args.place c.in_ok-led.led.items place led
     c.args.height c.in_ok-new.new.items from new)) in
     c.in_ok-put_asks.ensures
     ∙ ap
@@ -57,7 +57,7 @@ returns-clause-led g c = λ old on place.
     λ (k : ℕ). c.in_ok-led.ensures k
     ∙ ap (filter_map (rule.leads r notes k))
     (rest_is c.notes.result.now c.args.place ∙ ap (drop c.args.place) all_notes) in
-    led_since_all r old (held_state h) entries on c.args.place c.in_ok-led.led.items place led
+    led_since_all r old (own_state h) entries on c.args.place c.in_ok-led.led.items place led
     c.add_all.new.self.led.entries
     (λ x k. c.in_ok-add_all.ensures x k
     ∙ ap

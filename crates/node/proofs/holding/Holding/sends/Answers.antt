@@ -3,7 +3,7 @@ use Rattle.std.specs.List.{flat_map}
 use Rattle.cw_types.specs.declared.event.Out.{Out}
 use Rattle.cw_rules.specs.Sends.{answer, missing, note_sends, own_chunk}
 use Rattle.node.specs.Asking.{asks}
-use Rattle.node.specs.Holding.{Holding, held_state, rules_of}
+use Rattle.node.specs.Holding.{Holding, own_state, rules_of}
 use Rattle.node.specs.Store.{stored_notes}
 use Rattle.node.proofs.Leading.{rest_is}
 use Rattle.node.proofs.holding.Holding.sends.Goals as goal
@@ -16,7 +16,7 @@ returns-clause-out g c = λ old is on.
     let ev = c.args.event.now in
     let n = c.args.before.now.notes in
     let each = flat_map (note_sends r h.id all) in
-    let asked = asks h.id (missing r (held_state h)) (missing r old) in
+    let asked = asks h.id (missing r (own_state h)) (missing r old) in
     let last = answer r h.id all ev in
     let notes =
     c.notes.ensures.value

@@ -1,6 +1,6 @@
 use Rattle.std.proofs.Common.{sym, ◌∙◌}
 use Rattle.node.proofs.Settling.{settling_done, settling_falls, settling_more, settling_none, settling_owes, settling_rests}
-use Rattle.node.specs.Holding.{held_state, rules_of}
+use Rattle.node.specs.Holding.{own_state, rules_of}
 use Rattle.node.proofs.holding.Holding.settle.Goals as goal
 
 pub settling-init : goal.settling-init
@@ -13,7 +13,7 @@ settling-preserved g c =
     let r = rules_of g.H.Hasher.digest_of g.A.Application.accepts old in
     settling_more g.H.Hasher.digest_of g.A.Application.accepts old c.settling.self c.write.new.self
     c.settling.invariant c.in-Some.note
-    (c.bound_laws.ensures.settles r old.id (held_state old))
+    (c.bound_laws.ensures.settles r old.id (own_state old))
     (sym c.in_ok-note.ensures.value ∙ c.in-Some.is) c.in_ok-write.ensures.ok
 
 pub settling-smaller : goal.settling-smaller
@@ -22,7 +22,7 @@ settling-smaller g c =
     let r = rules_of g.H.Hasher.digest_of g.A.Application.accepts old in
     settling_falls g.H.Hasher.digest_of g.A.Application.accepts old c.settling.self c.write.new.self
     c.settling.invariant c.in-Some.note
-    (c.bound_laws.ensures.settles r old.id (held_state old))
+    (c.bound_laws.ensures.settles r old.id (own_state old))
     (sym c.in_ok-note.ensures.value ∙ c.in-Some.is) c.in_ok-write.ensures.ok
 
 pub returns-clause-ok : goal.returns-clause-ok

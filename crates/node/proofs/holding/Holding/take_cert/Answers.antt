@@ -2,7 +2,7 @@ use Rattle.std.proofs.Common.{◌∙◌, ap}
 use Rattle.cw_rules.specs.Accepted.{Many}
 use Rattle.voter.specs.Known.{with_ballot}
 use Rattle.node.proofs.Accepting.{came_ballot}
-use Rattle.node.specs.Holding.{Holding, held_state, rules_of}
+use Rattle.node.specs.Holding.{Holding, own_state, rules_of}
 use Rattle.node.proofs.holding.Holding.take_cert.Goals as goal
 
 pub returns-clause-ok : goal.returns-clause-ok
@@ -18,5 +18,5 @@ returns-clause-ok g c =
     e in
     came_ballot hash g.A.Application.accepts h _ (Many c.args.cert.now) c.requires.stands
     (c.standing_is_kept.ensures.ballot hash h.tally (rules_of hash g.A.Application.accepts h)
-    (held_state h) c.requires.stands.tally (Many c.args.cert.now))
+    (own_state h) c.requires.stands.tally (Many c.args.cert.now))
     (λ i. record (e i) { tally = t i })

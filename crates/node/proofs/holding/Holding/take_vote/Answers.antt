@@ -2,7 +2,7 @@ use Rattle.std.proofs.Common.{◌∙◌, ap}
 use Rattle.cw_rules.specs.Accepted.{Single}
 use Rattle.voter.specs.Known.{with_ballot}
 use Rattle.node.proofs.Accepting.{came_ballot}
-use Rattle.node.specs.Holding.{Holding, held_state, rules_of}
+use Rattle.node.specs.Holding.{Holding, own_state, rules_of}
 use Rattle.node.proofs.holding.Holding.take_vote.Goals as goal
 
 pub returns-clause-ok : goal.returns-clause-ok
@@ -19,5 +19,5 @@ returns-clause-ok g c =
     came_ballot hash g.A.Application.accepts h _ (Single c.args.signer c.args.vote.now)
     c.requires.stands
     (c.standing_is_kept.ensures.ballot hash h.tally (rules_of hash g.A.Application.accepts h)
-    (held_state h) c.requires.stands.tally (Single c.args.signer c.args.vote.now))
+    (own_state h) c.requires.stands.tally (Single c.args.signer c.args.vote.now))
     (λ i. record (e i) { tally = t i })

@@ -98,7 +98,7 @@ returns-clause-done c =
     let called : HasCalled (request_of c.args.action) old new =
     called_by (request_of c.args.action) m.calls.items c.add_call.new.calls.items call old new
     pushed refl known refl refl refl refl refl refl in
-    c.is_done.ensures
+    c.has_succeeded.ensures
     ∙ sym
     (outcome_was (request_of c.args.action) old new called o m.calls.items (has_succeeded o) known
     refl

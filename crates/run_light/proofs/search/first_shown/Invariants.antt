@@ -3,7 +3,7 @@ use Rattle.cw_types.specs.Block.{Block}
 use Rattle.cw_rules.specs.Accepted.{first_some}
 use Rattle.cw_rules_coded.specs.Coded.{coded}
 use Rattle.run_light.specs.Finding.{first_shown, shown_by_note}
-use Rattle.run_light.proofs.search.found_at.Given as goal
+use Rattle.run_light.proofs.search.first_shown.Given as goal
 
 -- the notes from here on decide
 abbrev pub invariant-loop-note : goal.invariant-loop-note

@@ -5,8 +5,8 @@ use Rattle.cw_coding.specs.Totals.{total_of}
 use Rattle.cw_archive.specs.Archived.{kept_chunk_at}
 use Rattle.cw_archive.proofs.IndexLemmas.{enough_answers, list_more}
 use Rattle.cw_archive.proofs.PutLemmas.{copied_none}
-use Rattle.cw_archive.proofs.showing.least_chunks.Goals as goal
-use Rattle.cw_archive.proofs.showing.least_chunks.Goals.{in-Some+in_ok-push, in_default}
+use Rattle.cw_archive.proofs.showing.chunks_of_least_index.Goals as goal
+use Rattle.cw_archive.proofs.showing.chunks_of_least_index.Goals.{in-Some+in_ok-push, in_default}
 
 pub returns-then-len-minimum : goal.returns-then-len-minimum
 returns-then-len-minimum c =

@@ -5,7 +5,7 @@ use Rattle.cw_rules.specs.Rules.{Rules}
 use Rattle.cw_rules_coded.specs.Coded.{coded}
 use Rattle.run_light.specs.Finding.{shown_by_note}
 use Rattle.run_light.proofs.Searching.{found_here, found_none, found_on}
-use Rattle.run_light.proofs.search.found_at.Goals as goal
+use Rattle.run_light.proofs.search.first_shown.Goals as goal
 
 pub returns-in-Some : goal.returns-in-Some
 returns-in-Some g c = λ backlog accepts.

@@ -1,7 +1,7 @@
 use Rattle.std.proofs.Common.{◌≡◌, ◌≤◌, length, map}
 use Rattle.cw_archive.specs.Archived.{kept_chunk_at}
 use Rattle.cw_archive.proofs.IndexLemmas.{answers}
-use Rattle.cw_archive.proofs.showing.least_chunks.Given as goal
+use Rattle.cw_archive.proofs.showing.chunks_of_least_index.Given as goal
 
 -- the chunks of the indices so far, no more than are asked for
 abbrev pub invariant-loop-index : goal.invariant-loop-index
