@@ -1,5 +1,5 @@
 -- Which blocks are shown, held and reached, and which heights are handed out.
-use Rattle.std.specs.Prelude.{ℕ, ◌&&◌, ◌+◌, ◌==◌, List, None, Option, Some, filter, filter_map, if◌then◌else◌, max, nat_le, nat_lt, option_and_then, suc, take, true, zero}
+use Rattle.std.specs.Prelude.{ℕ, ◌&&◌, ◌+◌, ◌==◌, Bool, List, None, Option, Some, filter, filter_map, if◌then◌else◌, max, nat_le, nat_lt, option_and_then, suc, take, true, zero}
 use Rattle.std.specs.List.{last_or}
 use Rattle.std.specs.Option.{option_map_or, option_or}
 use Rattle.cw_types.specs.Block.{Block}
