@@ -3,9 +3,9 @@
 use std::alloc::{AllocError, AllocFailed};
 use thiserror::Error;
 
-/// Memory is short.
+/// Memory ran out.
 #[derive(Clone, Copy, Debug, PartialEq, Eq, Error)]
-#[error("memory is short")]
+#[error("memory ran out")]
 pub struct NoMemory;
 
 impl From<AllocError> for NoMemory {

@@ -16,7 +16,9 @@ use std::marker::Model;
 /// What an account holds, which is above 0.
 #[derive(Clone, Copy, Debug, PartialEq, Eq)]
 pub struct Holding {
+    /// The number of the account.
     pub account: u32,
+    /// What it has, never 0.
     pub amount: u64,
 }
 

@@ -10,8 +10,11 @@ use std::alloc::Global;
 /// for `to`, 8 for `amount`, the high byte first.
 #[derive(Clone, Copy, Debug, PartialEq, Eq)]
 pub struct Transfer {
+    /// The account that pays.
     pub from: u32,
+    /// The account that is paid.
     pub to: u32,
+    /// How much.
     pub amount: u64,
 }
 

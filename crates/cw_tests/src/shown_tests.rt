@@ -21,7 +21,7 @@ const DISK: [(DiskError, &str); 2] = [
     (DiskError::Failed, "the disk failed"),
     (
         DiskError::NoMemory,
-        "memory was refused, and nothing was done to the disk",
+        "memory ran out, and nothing was done to the disk",
     ),
 ];
 
@@ -31,7 +31,7 @@ const STORE: [(StoreError, &str); 4] = [
         StoreError::Failed,
         "an earlier call failed: start again on the disk",
     ),
-    (StoreError::NoMemory, "memory was refused"),
+    (StoreError::NoMemory, "memory ran out"),
     (
         StoreError::Foreign(7),
         "not a file of this log: the frame at byte 7 is cut or no record",
@@ -53,7 +53,7 @@ fn errors_are_told_in_words(rt: HostRuntime) -> Result<(), Fail> {
     let shared = format!(in alloc; "{}, {}", NoMemory, Failed)?;
     assert_eq!(rt;
         shared.as_str(),
-        "memory is short, a source or a sink failed"
+        "memory ran out, a source or a sink failed"
     );
     Ok(())
 }

@@ -17,3 +17,4 @@ pub mod Committed
 pub mod Handoffs
 pub mod Ordered
 pub mod Parts
+mod Searched

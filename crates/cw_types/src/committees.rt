@@ -167,7 +167,7 @@ impl Committees {
     pub fn is_member(&self, epoch: u64, member: u16) -> bool
         ensures { result ≡ epochs.is_member self.now epoch member }
     {
-        self.members(epoch).iter().any(|other| *other == member)
+        self.members(epoch).binary_search(&member).is_ok()
     }
 
     /// The place of a member in the list of an epoch; none for one that isn't in it. Takes no
@@ -195,10 +195,12 @@ impl Committees {
     }
 }
 
+// Where a member stands among numbers that rise.
 fn place_in(members: &[u16], member: u16) -> Option<usize>
+    requires rising { IsTrue (epochs.rises_from 0 members.now) }
     ensures { result ≡ position (λ other. other == member) members.now }
 {
-    members.iter().position(|other| *other == member)
+    members.binary_search(&member).ok()
 }
 
 // The last height of an epoch of this many heights, where a block can be so high.

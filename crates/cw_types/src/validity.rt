@@ -15,11 +15,12 @@ use crate::vote::{Cert, Vote, well_formed};
 pub fn is_valid<V: Verifier>(committees: &Committees, verifier: &V, cert: &Cert) -> bool
     ensures { result ≡ valid.is_valid committees.now (V.signs verifier.now) cert.now }
 {
+    // The dearest test comes last.
     let signers = cert.signers.as_slice();
     well_formed(&cert.vote)
+        && committees.is_enough(cert.vote.epoch(), signers.len())
         && rises(0, signers)
         && all_signed(committees, verifier, &cert.vote, signers)
-        && committees.is_enough(cert.vote.epoch(), signers.len())
 }
 
 // Whether the numbers rise from `low` on.

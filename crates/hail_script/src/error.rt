@@ -29,7 +29,7 @@ pub enum RunError {
     #[error("two blocks have one digest")]
     HashClash(Items<u8>, Items<u8>),
     /// Memory is short.
-    #[error("memory is short")]
+    #[error("memory ran out")]
     NoMemory,
 }
 

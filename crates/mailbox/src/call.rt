@@ -6,7 +6,10 @@ use crate::turn::Turn;
 /// reply that its caller was given.
 #[derive(Drop)]
 pub struct Call<T: Turn> {
+    /// Its place in the history, from 0.
     pub place: u64,
+    /// What was asked.
     pub event: T::Event,
+    /// What was answered.
     pub reply: T::Reply,
 }

@@ -16,7 +16,7 @@ pub enum DiskError {
     #[error("the disk failed")]
     Failed,
     /// Memory was refused, and nothing was done to the disk.
-    #[error("memory was refused, and nothing was done to the disk")]
+    #[error("memory ran out, and nothing was done to the disk")]
     NoMemory,
 }
 

@@ -28,7 +28,7 @@ pub enum StoreError {
     #[error("an earlier call failed: start again on the disk")]
     Failed,
     /// Memory was refused.
-    #[error("memory was refused")]
+    #[error("memory ran out")]
     NoMemory,
     /// A start found an open gate byte at this place, in bytes from the start of the file, whose
     /// frame is cut or is no record, and only whole frames before it.

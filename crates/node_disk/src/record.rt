@@ -35,9 +35,13 @@ pub(crate) struct Call {
 /// takes or answers one.
 #[derive(Clone, Copy)]
 pub struct Stop {
+    /// How many device calls were made before it was armed.
     pub after: u64,
+    /// The device call at which it stops, counted from then; 0 stops at once.
     pub call: u64,
+    /// How many bytes of the range are as written.
     pub cut: u64,
+    /// The byte that the rest of the range is.
     pub fill: u8,
 }
 

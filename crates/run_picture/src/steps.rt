@@ -11,10 +11,15 @@ use std::marker::Model;
 /// heights that were handed out. Messages are numbered from 0 as they are sent.
 #[derive(Debug, Drop)]
 pub struct Step<'a> {
+    /// The number of the line in the script.
     pub number: u64,
+    /// The line.
     pub line: &'a EventLine,
+    /// How many notes a start found.
     pub found: Option<u64>,
+    /// What the line sent, in order.
     pub sent: Items<Said>,
+    /// The heights that it handed out, in order.
     pub handed: Items<u64>,
 }
 

@@ -30,7 +30,9 @@ pub enum Says {
 /// A message that was sent: whom it goes to, and what it says.
 #[derive(Clone, Copy, Debug, PartialEq, Eq)]
 pub struct Said {
+    /// Whom the message goes to.
     pub to: To,
+    /// What the picture says of it.
     pub says: Says,
 }
 

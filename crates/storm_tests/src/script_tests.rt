@@ -132,7 +132,7 @@ const TOLD: [(RunError, &str); 6] = [
         RunError::OversizeBlock(2),
         "line 2 has a payload of more than 1,048,576 bytes",
     ),
-    (RunError::NoMemory, "memory is short"),
+    (RunError::NoMemory, "memory ran out"),
 ];
 
 #[test]

@@ -6,6 +6,8 @@ use cw_types::Commitment;
 /// place.
 #[derive(Clone, Copy, Debug, PartialEq, Eq)]
 pub struct OwnChunk {
+    /// What names its block.
     pub commitment: Commitment,
+    /// Its place among the chunks of the block.
     pub index: u16,
 }
