@@ -21,6 +21,7 @@ use std::num::NonZeroU16;
 /// Bytes of a caller's.
 #[repr(C)]
 pub struct Span<'a> {
+    /// The bytes, lent for the call.
     pub bytes: &'a [u8],
 }
 

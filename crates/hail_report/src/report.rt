@@ -10,9 +10,13 @@ use std::marker::Model;
 /// A message that was sent. Messages are numbered from 0 as they are sent.
 #[derive(Debug, Drop, PartialEq, Eq)]
 pub struct Sent {
+    /// Its number, from 0, in the order of sending.
     pub number: u64,
+    /// The member that sent it.
     pub from: u16,
+    /// Whom it goes to.
     pub to: To,
+    /// What was sent.
     pub message: Message,
 }
 
@@ -54,12 +58,15 @@ impl Sent {
 /// 1.
 #[derive(Debug, Drop, PartialEq, Eq)]
 pub struct Entry {
+    /// The number of the line in the text; 0 in the opening.
     pub line: u64,
     /// The member that the opening or the line names; none for a faulty line.
     pub member: Option<u16>,
     /// How many notes a restart found.
     pub found: Option<u64>,
+    /// The messages that were sent, in order.
     pub sent: Items<Sent>,
+    /// The blocks that were handed out, in order.
     pub handed: Items<Handed>,
 }
 
@@ -88,7 +95,9 @@ impl Model for Entry {
 /// Where an honest member stands at the end of a run.
 #[derive(Clone, Copy, Debug, PartialEq, Eq)]
 pub struct Acked {
+    /// The number of the member.
     pub member: u16,
+    /// Whether it runs.
     pub live: bool,
     /// The last acknowledged height.
     pub height: Option<u64>,

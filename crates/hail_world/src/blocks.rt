@@ -22,6 +22,7 @@ use std::collections::BTreeMap;
 /// digest were met they stand for the notes of all members.
 #[derive(Drop)]
 pub struct KnownBlocks {
+    /// Each block, under its digest.
     pub by_digest: BTreeMap<Digest32, ChainBlock>,
 }
 

@@ -23,7 +23,9 @@ use std::thread::Threads;
 /// What a program makes of a run: what it hands back, and the text that it writes.
 #[derive(Drop)]
 pub struct Made<X> {
+    /// What is handed back.
     pub done: X,
+    /// What is written.
     pub text: Vec<u8>,
 }
 

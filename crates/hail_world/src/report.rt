@@ -16,18 +16,26 @@ use std::alloc::Global;
 /// of their disks, their nodes as the run left them, none for a stopped one, and the chain.
 #[derive(Drop)]
 pub struct Report<H: Hasher<Digest = Digest32>, W: Way> {
+    /// What the start of each honest member gave, by number.
     pub opening: Items<Entry>,
+    /// What each line gave, in order.
     pub steps: Items<Entry>,
+    /// Where each honest member stands, by number.
     pub acked: Items<Acked>,
+    /// The bytes of each honest member's disk, by number.
     pub disks: Items<Items<u8>>,
+    /// The node of each honest member, by number; none for one that is stopped.
     pub nodes: Items<Option<MemoryNode<H, W>>>,
+    /// The chain, from genesis up.
     pub chain: Items<ChainBlock>,
 }
 
 /// A script that was run, and the report of its run.
 #[derive(Drop)]
 pub struct Ran<H: Hasher<Digest = Digest32>, W: Way> {
+    /// The script.
     pub script: Script,
+    /// The report of its run.
     pub report: Report<H, W>,
 }
 
