@@ -1,8 +1,9 @@
 //! Logs over a disk in memory that stops, fails and is cut.
 
 use crate::tables::case_in;
-use node_disk::{Disk, DiskError, Log, MemoryDisk, StoreError, read_log};
+use node_disk::{Disk, DiskError, HostCall, HostDisk, Log, MemoryDisk, StoreError, read_log};
 use std::alloc::Global;
+use std::fmt::Write;
 use std::test::Fail;
 
 // The note of a Nullify vote of view 1.
@@ -283,5 +284,60 @@ fn a_failing_call_is_answered_and_remembered(rt: HostRuntime) -> Result<(), Fail
         let want = (Err(StoreError::Disk), Err(StoreError::Failed), frames);
         assert_eq!(rt; appended(rt.alloc(), number)?, want, "after {number}");
     }
+    Ok(())
+}
+
+// A device call as a line: whether it was done, and a write's place and bytes.
+fn put_call(text: &mut String, call: &HostCall) -> Result<(), Fail> {
+    match call {
+        HostCall::Write { place, bytes, done } => {
+            write!(text, "{done} {place} {:?}\n", bytes.as_slice())?;
+        }
+        HostCall::Sync { done } => write!(text, "{done} sync\n")?,
+    }
+    Ok(())
+}
+
+// What an append to a new log answers where the device call of that number fails, the calls that
+// its host is told, and how many it is told again.
+fn host_told(alloc: Global, number: u64) -> Result<String, Fail> {
+    let below = MemoryDisk::new(alloc, vec![in alloc; number]?);
+    let mut log = match Log::start(alloc, HostDisk::new(alloc, below)) {
+        Ok(log) => log,
+        Err((_, error)) => return Err(Fail::from(error)),
+    };
+    let answer = log.append(&[9]);
+    let mut text = format!(in alloc; "{answer:?}\n")?;
+    let mut disk = log.into_disk();
+    for call in disk.take_calls().as_slice() {
+        put_call(&mut text, call)?;
+    }
+    write!(text, "{}", disk.take_calls().len())?;
+    Ok(text)
+}
+
+const TOLD_TO_A_HOST: &str = "\
+Ok(())
+true sync
+true 0 [0]
+true sync
+true 1 [0, 0, 0, 0, 0, 0, 0, 1, 9, 0]
+true sync
+true 0 [1]
+true sync
+0";
+
+const TOLD_OF_A_FAULT: &str = "\
+Err(Disk)
+true sync
+true 0 [0]
+true sync
+false 1 [0, 0, 0, 0, 0, 0, 0, 1, 9, 0]
+0";
+
+#[test]
+fn a_host_is_told_each_device_call_once(rt: HostRuntime) -> Result<(), Fail> {
+    assert_eq!(rt; host_told(rt.alloc(), 20)?.as_str(), TOLD_TO_A_HOST);
+    assert_eq!(rt; host_told(rt.alloc(), 4)?.as_str(), TOLD_OF_A_FAULT);
     Ok(())
 }

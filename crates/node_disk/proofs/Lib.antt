@@ -16,3 +16,6 @@ pub mod Starting
 pub mod ReadBack
 pub mod Gone
 pub mod Appending
+pub mod Hosting
+pub mod Making
+pub mod Group

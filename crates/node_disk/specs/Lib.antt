@@ -11,3 +11,6 @@ pub mod RecordWords
 pub mod Records
 pub mod Bytes
 pub mod Errors
+pub mod Made
+pub mod Host
+pub mod HostLaws

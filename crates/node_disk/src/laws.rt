@@ -1,11 +1,14 @@
 //! What a stop leaves of an append over a disk in memory, what a read and crashes give of any disk,
 //! and what is known of a log at rest and of a disk that is calm.
 
-ghost use Rattle.std.specs.Prelude.{◌≡◌, ℕ, ◌<◌, ◌≤◌, ◌++◌, [], ◌∷◌, List, length, Bool, true};
+ghost use Rattle.std.specs.Prelude.{◌≡◌, ℕ, ◌<◌, ◌≤◌, ◌^◌, ◌++◌, [], ◌∷◌, List, length, Bool, true};
 ghost use Rattle.node_disk.specs.Images.{Moment, IsImage};
-ghost use Rattle.node_disk.specs.Disk.{DiskState, LeftSince, LeavesOnly};
-ghost use Rattle.node_disk.specs.Frames.{Finds, FindsWithOrWithout};
+ghost use Rattle.node_disk.specs.Disk.{DiskState, DeviceCall, Wrote, Synced, LeftSince, LeavesOnly};
+ghost use Rattle.node_disk.specs.Disk.{HasFailedToWrite, HasFailedToSync};
+ghost use Rattle.node_disk.specs.Frames.{Finds, FindsWithOrWithout, all_short, blocks};
 ghost use Rattle.node_disk.specs.Log.{HasSettled, LogState, HasAppended, WasCutShort};
+ghost use Rattle.node_disk.specs.Log.{calls_of_append, with_frame};
+ghost use Rattle.node_disk.specs.Made.{HasMade, FindsSome, calls_of_group};
 ghost use Rattle.node_disk.specs.Memory.{MemoryState, memory_state, is_calm, Continues};
 ghost use Rattle.node_disk.specs.Cut.{IsArmed, kept_frames};
 
@@ -65,4 +68,61 @@ pub fn law_of_calm<D: Disk>()
         → is_calm new ≡ true }
     ensures whole { (old new : LogState MemoryState) (frame : List ℕ)
         → is_calm old.disk ≡ true → WasCutShort memory_state Continues frame old new → ⊥ }
+{}
+
+/// A law, of a disk and of another one, as a file that a host keeps. Where both stood at the same
+/// moment, and the same device calls are made on both in the same order, they stand at the same
+/// moment again; and whenever the other one is stopped, or fails, each image that a crash may have
+/// left of it since is one that a crash may have left of the first.
+pub fn law_of_files()
+    ensures same { (calls : List DeviceCall) (old new file written : DiskState)
+        → HasMade calls old new → HasMade calls file written → file.now ≡ old.now
+        → written.now ≡ new.now }
+    ensures stopped { (did rest : List DeviceCall) (old new file stopped : DiskState)
+        → HasMade (did ++ rest) old new → HasMade did file stopped → file.now ≡ old.now
+        → (image : List ℕ) → LeftSince stopped (length file.past) image
+        → LeftSince new (length old.past) image }
+    ensures write_failed { (did rest : List DeviceCall) (place : ℕ) (bytes : List ℕ)
+        (old new file stopped broken : DiskState)
+        → HasMade (did ++ Wrote place bytes true ∷ rest) old new → HasMade did file stopped
+        → file.now ≡ old.now → place ≤ length stopped.now.seen
+        → HasFailedToWrite place bytes stopped broken
+        → (image : List ℕ) → LeftSince broken (length file.past) image
+        → LeftSince new (length old.past) image }
+    ensures sync_failed { (did rest : List DeviceCall) (old new file stopped broken : DiskState)
+        → HasMade (did ++ Synced true ∷ rest) old new → HasMade did file stopped
+        → file.now ≡ old.now → HasFailedToSync stopped broken
+        → (image : List ℕ) → LeftSince broken (length file.past) image
+        → LeftSince new (length old.past) image }
+{}
+
+/// A law, of a file at rest on which the device calls of an append are made: a crash at any moment
+/// of them leaves its frames, with the new one whole or without, and behind them it is at rest with
+/// the new one. So a host that makes these calls needs no disk of this crate.
+pub fn law_of_appends()
+    ensures any_moment { (frames : List (List ℕ)) (frame : List ℕ) (gate : ℕ)
+        (old new : DiskState)
+        → HasSettled frames gate old.now → length frame < 2 ^ 64
+        → HasMade (calls_of_append gate frame) old new
+        → LeavesOnly old new (FindsWithOrWithout frames frame) }
+    ensures settled { (frames : List (List ℕ)) (frame : List ℕ) (gate : ℕ) (old new : DiskState)
+        → HasSettled frames gate old.now → length frame < 2 ^ 64
+        → HasMade (calls_of_append gate frame) old new
+        → HasSettled (with_frame frames frame) (length (blocks (with_frame frames frame)))
+        new.now }
+{}
+
+/// A law, of a file at rest on which the device calls of several appends are made, all first writes
+/// before a sync and all second ones before another: a crash at any moment of them leaves its
+/// frames, and of the new ones some, from the first on; behind them it is at rest with all. A host
+/// that takes the calls of several answers together saves syncs so.
+pub fn law_of_groups()
+    ensures any_moment { (frames more : List (List ℕ)) (gate : ℕ) (old new : DiskState)
+        → HasSettled frames gate old.now → all_short more ≡ true
+        → HasMade (calls_of_group gate more) old new
+        → LeavesOnly old new (FindsSome frames more) }
+    ensures settled { (frames more : List (List ℕ)) (gate : ℕ) (old new : DiskState)
+        → HasSettled frames gate old.now → all_short more ≡ true
+        → HasMade (calls_of_group gate more) old new
+        → HasSettled (frames ++ more) (length (blocks (frames ++ more))) new.now }
 {}

@@ -7,6 +7,7 @@
 
 mod disk;
 mod effects;
+mod host;
 mod laws;
 mod log;
 mod memory;
@@ -16,7 +17,11 @@ mod record_log;
 mod records;
 
 pub use disk::{Disk, DiskError};
-pub use laws::{law_of_a_stop, law_of_calm, law_of_moments, law_of_reads, law_of_rest};
+pub use host::{HostCall, HostDisk};
+pub use laws::{
+    law_of_a_stop, law_of_appends, law_of_calm, law_of_files, law_of_groups, law_of_moments,
+    law_of_reads, law_of_rest,
+};
 pub use log::{Log, StoreError};
 pub use memory::MemoryDisk;
 pub use reading::{place_behind, read_log};

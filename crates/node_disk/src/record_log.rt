@@ -15,8 +15,8 @@ ghost use Rattle.node_disk.specs.Log.{WasCutShort};
 ghost use Rattle.node_disk.specs.Records.{refused_place};
 
 use crate::records::{Records, read_into};
-use crate::{Disk, DiskError, MemoryDisk, StoreError};
-use cw_base::{NoMemory, put_be64, put_bytes, put_u8};
+use crate::{Disk, DiskError, HostCall, HostDisk, MemoryDisk, StoreError};
+use cw_base::{Items, NoMemory, put_be64, put_bytes, put_u8};
 use std::alloc::Global;
 
 /// A log of records on a disk, each record the bytes of one frame. It holds no frame in memory: its
@@ -405,5 +405,23 @@ impl RecordLog<MemoryDisk> {
         ensures { result.now ≡ (memory_state (log_disk self.now)).now.seen }
     {
         self.disk.bytes()
+    }
+}
+
+/// What a log of records over a disk for a host shows of it.
+impl<D: Disk> RecordLog<HostDisk<D>> {
+    ghost use Rattle.std.specs.Prelude.{map};
+    ghost use Rattle.node_disk.specs.Host.{told_of};
+    ghost use Rattle.node_disk.specs.RecordWords.{log_frames, log_gate, log_disk, has_failed};
+
+    /// Takes the device calls that wait, as [`HostDisk::take_calls`] does.
+    pub fn take_calls(&mut self) -> Items<HostCall>
+        ensures taken { map told_of result ≡ (log_disk self.old).waiting }
+        ensures disk { log_disk self.new ≡ record (log_disk self.old) { waiting = [] } }
+        ensures frames { log_frames self.new ≡ log_frames self.old }
+        ensures gate { log_gate self.new ≡ log_gate self.old }
+        ensures failed { has_failed self.new ≡ has_failed self.old }
+    {
+        self.disk.take_calls()
     }
 }
