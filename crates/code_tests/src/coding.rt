@@ -195,3 +195,34 @@ fn an_input_of_many_bytes_is_recovered(rt: HostRuntime) -> Result<(), Fail> {
     assert!(rt; back.as_slice() == input.as_slice());
     Ok(())
 }
+
+// Originals, recoveries, bytes, and the first of the chunks that are given, as many as originals:
+// none of these is missing, one is, more are; in narrow rows and wide ones. From 512 originals on
+// they are rebuilt from the codeword of those that are given.
+const GIVEN: [(u16, u16, u16, u16); 8] = [
+    (3, 3, 1, 0),
+    (3, 3, 1, 1),
+    (3, 3, 60000, 0),
+    (3, 3, 60000, 1),
+    (3, 3, 60000, 3),
+    (512, 64, 1100, 0),
+    (512, 64, 1100, 1),
+    (512, 64, 1100, 64),
+];
+
+#[test]
+fn originals_are_copied_and_missing_ones_made(rt: HostRuntime) -> Result<(), Fail> {
+    for (k, m, count, first) in GIVEN {
+        let input = by_sevens(rt.alloc(), count)?;
+        let mut indices = Vec::new(rt.alloc());
+        for i in 0..k {
+            indices.push(first.wrapping_add(i))?;
+        }
+        let back = back_from(&rt, rt.alloc(), config(k, m), &input, &indices)?;
+        assert!(rt;
+            back.as_slice() == input.as_slice(),
+            "{k} and {m}, from {first}"
+        );
+    }
+    Ok(())
+}

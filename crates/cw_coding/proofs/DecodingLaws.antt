@@ -8,7 +8,6 @@ use Rattle.std.proofs.lemmas.List.Elements.{All-append}
 use Rattle.cw_base.specs.Bytes.{be32}
 use Rattle.rs_code.specs.Rows.{joined, code_row, row_through, AreRows, OriginalsComeFirst}
 use Rattle.cw_base.specs.Rows.{row_of}
-use Rattle.rs_code.specs.Plans.{Shape}
 use Rattle.rs_code.proofs.RowBytes.{joined_same, length-joined, length-symbol_bytes}
 use Rattle.rs_code.proofs.RowLaws.{joined_rows}
 use Rattle.cw_coding.specs.Checked.{Checked}
@@ -102,38 +101,19 @@ rebuilt_long k j n P ts rows out width even count o =
     ap length o ∙ length-joined n width _ (λ i l. length-row_through j P rows width (ts i) even)
     ∙ ap (λ (j : ℕ). j * width) count
 
--- what a plan rebuilds of rows of a codeword
-pub rebuilt_value : (shape : Shape) (k m : ℕ) (indices rows used : List ℕ) (width : ℕ) (ts : List ℕ)
-    (out originals : List ℕ)
-    →
-    shape ≡ record { k = k; m = m; points = take k indices } → k ≤ length indices
-    → length rows ≡ length indices * width →
-    used ≡ take (k * width) rows →
-    length ts ≡ k → ((s : ℕ) → s < k → get_or ts s 0 ≡ s) →
+-- the rows that are used, where those given are rows of a codeword
+pub rows_used : (k : ℕ) (indices rows used : List ℕ) (width : ℕ) (originals : List ℕ)
+    → k ≤ length indices → length rows ≡ length indices * width → used ≡ take (k * width) rows →
     ((s : ℕ) → s < k → row_of rows width s ≡ code_row k originals width (get_or indices s 0)) →
-    ((originals : List ℕ)
-    → used ≡ joined shape.k (λ s. code_row shape.k originals width (get_or shape.points s 0)) →
-    out ≡ joined (length ts) (λ i. code_row shape.k originals width (get_or ts i 0))) →
-    out ≡ joined k (λ i. code_row k originals width i)
-rebuilt_value shape k m indices rows used width ts out originals is enough long u count each agree
-    law =
+    used ≡ joined k (λ s. code_row k originals width (get_or (take k indices) s 0))
+rows_used k indices rows used width originals enough long u agree =
     let room : k * width ≤ length rows = rw long (mul-le-mul_right width enough) in
     let front : joined k (λ s. row_of (take (k * width) rows) width s) ≡ take (k * width) rows =
     joined_rows k width (take (k * width) rows) (length-take-le (k * width) rows room) in
-    let agrees : joined k (λ s. row_of (take (k * width) rows) width s)
-    ≡ joined k (λ s. code_row k originals width (get_or (take k indices) s 0)) =
-    joined_same k _ _
+    u ∙ sym front
+    ∙ joined_same k _ _
     (λ s l. row_of-take rows width k s l room ∙ agree s l
-    ∙ ap (code_row k originals width) (sym (get_or-take k indices s 0 l))) in
-    let given : used
-    ≡ joined shape.k (λ s. code_row shape.k originals width (get_or shape.points s 0)) =
-    u ∙ sym front ∙ agrees
-    ∙ ap (λ (p : Shape). joined p.k (λ s. code_row p.k originals width (get_or p.points s 0)))
-    (sym is) in
-    law originals given
-    ∙ ap (λ (p : Shape). joined (length ts) (λ i. code_row p.k originals width (get_or ts i 0))) is
-    ∙ ap (λ (n : ℕ). joined n (λ i. code_row k originals width (get_or ts i 0))) count
-    ∙ joined_same k _ _ (λ s l. ap (code_row k originals width) (each s l))
+    ∙ ap (code_row k originals width) (sym (get_or-take k indices s 0 l)))
 
 -- a layout read back is laid out again
 pub laid_again : (k : ℕ) (text os read : List ℕ) (count : ℕ) → layout k text ≡ os

@@ -5,7 +5,6 @@ pub mod DecodingLaws
 pub mod Heights
 pub mod CheckLaws
 pub mod AnyLaws
-pub mod PlanLaws
 pub mod CheckingLaws
 pub mod ClashLaws
 pub mod FindLaws

@@ -12,7 +12,10 @@ use thiserror::Error;
 pub enum RsError {
     /// Shards do not have so many bytes.
     #[error("invalid shard size: {shard_bytes}")]
-    InvalidShardSize { shard_bytes: usize },
+    InvalidShardSize {
+        /// How many bytes the shard has.
+        shard_bytes: usize,
+    },
 }
 
 /// Why a call of the coding scheme was refused.

@@ -20,7 +20,7 @@ use crate::layout::{Originals, codeword, codeword_here};
 use cw_base::{Config, Digest, Hasher, NoMemory, Strategy, bytes_fit};
 use cw_tree::canonical_shard_len;
 use rs_code::laws::prove_rows;
-use rs_code::{Plan, PlanError};
+use rs_code::{restore, restore_here};
 use std::alloc::Global;
 use std::thread::Threads;
 
@@ -120,7 +120,7 @@ fn is_row_width(width: usize) -> bool
     width != 0 && width % 2 == 0
 }
 
-// The originals, rebuilt from the first rows given.
+// The originals, of the first rows given.
 fn rebuilt<H: Hasher, R: Threads + Sync, S: Strategy>(
     rt: &R,
     alloc: Global,
@@ -140,15 +140,9 @@ fn rebuilt<H: Hasher, R: Threads + Sync, S: Strategy>(
         IfOk result (λ v. v.items ≡ joined config.now.minimum
         (λ i. code_row config.now.minimum originals given.now.width i)) }
 {
-    let by = plan_rebuilding(alloc, config, given)?;
     let used = used_rows(config, given);
-    match by
-        .plan
-        .rebuild(rt, alloc, used, given.width, &by.targets, strategy)
-    {
-        Ok(originals) => Ok(originals),
-        Err(_) => Err(NoMemory),
-    }
+    let (k, m) = (config.minimum(), config.extra());
+    restore(rt, alloc, k, m, &given.indices, used, given.width, strategy)
 }
 
 // The same on the caller's thread.
@@ -169,68 +163,9 @@ fn rebuilt_here<H: Hasher>(
         IfOk result (λ v. v.items ≡ joined config.now.minimum
         (λ i. code_row config.now.minimum originals given.now.width i)) }
 {
-    let by = plan_rebuilding(alloc, config, given)?;
     let used = used_rows(config, given);
-    match by.plan.rebuild_here(alloc, used, given.width, &by.targets) {
-        Ok(originals) => Ok(originals),
-        Err(_) => Err(NoMemory),
-    }
-}
-
-// What the originals are rebuilt by: a plan, and their indices.
-#[derive(Drop)]
-struct Rebuilding {
-    plan: Plan,
-    targets: Vec<u16>,
-}
-
-fn plan_rebuilding<H: Hasher>(
-    alloc: Global,
-    config: &Config,
-    given: &Given<H>,
-) -> Result<Rebuilding, NoMemory>
-    requires { AreRecoverable config.now given.now.width given.now.indices.items
-        given.now.rows.items given.now.compared }
-    ensures plan { IfOk result (λ by. by.plan ≡ record {
-      k = config.now.minimum;
-      m = config.now.extra;
-      points = take config.now.minimum given.now.indices.items;
-    }) }
-    ensures count { IfOk result (λ by. length by.targets.items ≡ config.now.minimum) }
-    ensures each { IfOk result
-        (λ by. (s : ℕ) → s < config.now.minimum → slice_index by.targets.items s ≡ s) }
-{
-    let k = config.minimum();
-    let plan = plan_of(alloc, k, config.extra(), &given.indices)?;
-    let targets = first_indices(alloc, k)?;
-    Ok(Rebuilding { plan, targets })
-}
-
-// The plan for codewords of which rows at these different indices are given.
-fn plan_of(alloc: Global, k: u16, m: u16, indices: &[u16]) -> Result<Plan, NoMemory>
-    requires enough { k ≤ length indices.now }
-    requires sound { AreSound (k + m) indices.now }
-    ensures { IfOk result (λ plan. plan ≡ record { k = k; m = m; points = take k indices.now }) }
-{
-    match Plan::new(alloc, k, m, indices) {
-        Ok(plan) => Ok(plan),
-        Err(PlanError::NoMemory) => Err(NoMemory),
-        Err(PlanError::TooFew) => unreachable!(),
-        Err(PlanError::OutOfRange(_)) => unreachable!(),
-        Err(PlanError::Duplicate(_)) => unreachable!(),
-    }
-}
-
-// The first numbers.
-fn first_indices(alloc: Global, count: u16) -> Result<Vec<u16>, NoMemory>
-    ensures count { IfOk result (λ v. length v.items ≡ count) }
-    ensures each { IfOk result (λ v. (s : ℕ) → s < count → slice_index v.items s ≡ s) }
-{
-    let mut values = Vec::new(alloc);
-    for s in 0..count {
-        values.push(s)?;
-    }
-    Ok(values)
+    let (k, m) = (config.minimum(), config.extra());
+    restore_here(alloc, k, m, &given.indices, used, given.width)
 }
 
 // The rows that are used: as many as there are originals.

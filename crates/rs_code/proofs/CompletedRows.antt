@@ -126,7 +126,7 @@ module _ (k m : ℕ) (points : List ℕ) (F : AreCompletable k m points) where
   -- ---- what the parts give
 
   module _ (w : ℕ) (rows places missing spots : List ℕ) (some : 0 < w) (R : AreRows k w rows)
-      (S : AreSources k points missing places) (T : AreSpots k points spots) where
+      (S : AreSources k (λ x. x) points missing places) (T : AreSpots k points spots) where
     row_within : (s : ℕ) → s < k → s * w + w ≤ length rows
     row_within s h =
         let whole : suc s * w ≤ k * w = mul-le-mul_right w h in omega (arith, whole, R.long)
@@ -160,7 +160,7 @@ module _ (k m : ℕ) (points : List ℕ) (F : AreCompletable k m points) where
       given_symbol s j h less l =
           original_symbol (P s) j less l
           ∙ ap (λ (p : ℕ). symbol (rows ++ more) w p j)
-          (S.given s (omega (arith, h, F.count)) less)
+          (S.given s (P s) (omega (arith, h, F.count)) less refl)
           ∙ symbol_before rows more w s j (row_within s h) l
 
     -- where an original stands: among the rows given, or behind them

@@ -13,7 +13,7 @@ use Rattle.rs_code.specs.Rows.{symbol, symbol_bytes, joined, row_through, code_r
 use Rattle.rs_code.specs.declared.completion.Parts.{Parts}
 use Rattle.rs_code.proofs.CompletedRows.{apart_nonzero, recovery_below, completed_row}
 use Rattle.rs_code.proofs.RowBytes.{length-symbol_bytes, length-joined, joined_same, symbol_bytes_same}
-use Rattle.rs_code.proofs.RowPicks.{row_fits, symbol_picked}
+use Rattle.rs_code.proofs.RowPicks.{row_before, row_fits, symbol_picked}
 
 -- ---- how many rows there are
 
@@ -246,16 +246,29 @@ rows_picked shape k m w points rows whole targets places out view same below mad
     ∙ ap (λ (v : Shape). row_through v.k (λ s. get_or v.points s 0) rows w (get_or targets i 0))
     view)
 
--- places of targets of a shape are among the rows of a whole codeword
-pub targets_within : (shape : Shape) (k m w : ℕ) (points whole targets places : List ℕ) →
-    record { k = k; m = m; points = points } ≡ shape → 0 < w → length whole ≡ (k + m) * w →
-    places ≡ targets → All (λ (target : ℕ). target < shape.k + shape.m) targets → (i : ℕ)
-    → i < length places → get_or places i 0 < length whole / w
-targets_within shape k m w points whole targets places view some long same below i h =
+-- ---- the rows of targets behind originals
+
+-- places of targets are among the first n rows
+pub targets_within : (n w : ℕ) (rows targets places : List ℕ) → 0 < w → length rows ≡ n * w
+    → places ≡ targets → All (λ (target : ℕ). target < n) targets → (i : ℕ) → i < length places
+    → get_or places i 0 < length rows / w
+targets_within n w rows targets places some long same below i h =
     omega (
       arith,
       ap (λ (ps : List ℕ). get_or ps i 0) same,
       below i 0 (omega (arith, h, ap length same)),
-      ap (λ (v : Shape). v.k + v.m) view,
-      rows_many whole (k + m) w some long,
+      rows_many rows n w some long,
     )
+
+-- of originals alone
+pub originals_picked : (k w : ℕ) (originals more targets places out : List ℕ)
+    → length originals ≡ k * w → places ≡ targets → All (λ (target : ℕ). target < k) targets
+    → out ≡ joined (length places) (λ i. row_of originals w (get_or places i 0))
+    → out ≡ joined (length targets) (λ i. row_of (originals ++ more) w (get_or targets i 0))
+originals_picked k w originals more targets places out long same below made =
+    made
+    ∙ ap (λ (ps : List ℕ). joined (length ps) (λ i. row_of originals w (get_or ps i 0))) same
+    ∙ joined_same (length targets) _ _
+    (λ i h.
+    (let whole : suc (get_or targets i 0) * w ≤ k * w = mul-le-mul_right w (below i 0 h) in
+    sym (row_before originals more w (get_or targets i 0) (omega (arith, whole, long)))))

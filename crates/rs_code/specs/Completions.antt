@@ -33,18 +33,19 @@ pub record AreSpots (k : ℕ) (points spots : List ℕ) : Type 0 where
   pub each : (j : ℕ) → j < length spots
       → slice_index points (slice_index spots j) ≡ slice_index (given_recoveries k points) j
 
--- where each original stands among the rows given and, behind them, the missing ones
-pub record AreSources (k : ℕ) (points missing places : List ℕ) : Type 0 where
-  pub few : length missing ≤ k
-  pub count : length places ≡ k
-  pub within : (x : ℕ) → x < k → slice_index places x < length points + length missing
-  pub each : (x : ℕ) → x < k → slice_index (points ++ missing) (slice_index places x) ≡ x
-  pub given : (s : ℕ) → s < length points → slice_index points s < k
-      → slice_index places (slice_index points s) ≡ s
+-- where n rows are taken from: the row at target i stands at place i among the rows given and,
+-- behind them, the missing ones, and among those given if it is one of them
+pub record AreSources (n : ℕ) (target : ℕ → ℕ) (points missing places : List ℕ) : Type 0 where
+  pub few : length missing ≤ n
+  pub count : length places ≡ n
+  pub within : (i : ℕ) → i < n → slice_index places i < length points + length missing
+  pub each : (i : ℕ) → i < n → slice_index (points ++ missing) (slice_index places i) ≡ target i
+  pub given : (s i : ℕ) → s < length points → i < n → slice_index points s ≡ target i
+      → slice_index places i ≡ s
 
 -- the parts of a completion by the rows at these points
 pub record ArePartsOf (k : ℕ) (points : List ℕ) (parts : Parts) : Type 0 where
-  pub sources : AreSources k points parts.missing.items parts.sources.items
+  pub sources : AreSources k (λ x. x) points parts.missing.items parts.sources.items
   pub spots : AreSpots k points parts.spots.items
   pub recoveries : parts.recoveries.items ≡ given_recoveries k points
   pub scale_count : length parts.scales.items ≡ length (given_recoveries k points)

@@ -53,11 +53,11 @@ impl Basis {
         })
     }
 
-    /// How many points there are.
-    pub fn count(&self) -> usize
-        ensures { result ≡ length self.now }
+    /// The points.
+    pub fn points(&self) -> &[u16]
+        ensures { result.now ≡ self.now }
     {
-        self.points.len()
+        &self.points
     }
 
     /// What the row at each point counts for in the rows at eight targets, one in a lane.

@@ -12,13 +12,13 @@ ghost use Rattle.std.specs.Prelude.{slice_index, bit_xor, replicate, All, IfOk, 
 ghost use Rattle.cw_base.specs.Rows.{row_of};
 ghost use Rattle.rs_code.specs.Completions.{AreCompletable};
 ghost use Rattle.rs_code.specs.Field.{times};
-ghost use Rattle.rs_code.specs.Rows.{joined, row_through, symbol, symbol_bytes};
+ghost use Rattle.rs_code.specs.Rows.{joined, row_through, code_row, symbol, symbol_bytes};
 
 use crate::basis::{Basis, distances_at, inverses_at};
 use crate::recipe::Recipe;
 use crate::recovery::{add_recoveries, add_recoveries_here};
-use crate::row_lists::{picked, scaled, summed};
-use crate::split::{Sources, Split, as_places, sources_of, split_of};
+use crate::row_lists::{picked, picked_of_two, scaled, summed};
+use crate::split::{Sources, Split, as_places, indices, sources_of, split_of};
 use crate::striped::{rows_at, whole_rows_at};
 use cw_base::{NoMemory, Strategy};
 use std::alloc::{AllocError, Global};
@@ -27,7 +27,7 @@ use std::thread::Threads;
 
 /// The rows at some indices, by which a codeword is found from that of the originals among them.
 #[derive(Drop)]
-pub struct Completion {
+pub(crate) struct Completion {
     k: u16,
     m: u16,
     points: Vec<u16>,
@@ -77,7 +77,9 @@ impl Completion {
             recoveries,
             spots,
         } = split_of(alloc, k, &points)?;
-        let Sources { places, missing } = sources_of(alloc, k, &points)?;
+        let all = indices(alloc, 0, k)?;
+        let total = u32::from(k) + u32::from(m);
+        let Sources { places, missing } = sources_of(alloc, total, &points, &all)?;
         let parts = Parts {
             scales: inverses_at(alloc, &originals, &recoveries)?,
             distances: distances_at(alloc, &originals, &missing)?,
@@ -86,7 +88,7 @@ impl Completion {
             missing,
             spots,
         };
-        let basis = Basis::new(alloc, recoveries, u32::from(k) + u32::from(m))?;
+        let basis = Basis::new(alloc, recoveries, total)?;
         Ok(Completion {
             k,
             m,
@@ -94,6 +96,13 @@ impl Completion {
             basis,
             parts,
         })
+    }
+
+    /// The indices of the rows that are used.
+    pub fn points(&self) -> &[u16]
+        ensures { result.now ≡ self.now.points }
+    {
+        &self.points
     }
 
     /// The rows of the targets, in their order and end to end.
@@ -117,16 +126,15 @@ impl Completion {
         if !has_room(self.k, self.m, width) {
             return Err(NoMemory);
         }
-        let places = as_places(alloc, targets)?;
         let mut near = self.parts.near_originals(alloc, rows, width)?;
         add_recoveries(rt, alloc, self.k, self.m, &mut near, width, strategy)?;
         let quotients = self.parts.quotients(alloc, rows, &near, width)?;
         let recipe = Recipe::ByWeights(&self.basis, &self.parts.missing);
         let factors = rows_at(rt, alloc, &recipe, &quotients, width, strategy)?;
-        let mut whole = self.parts.originals(alloc, rows, &factors, width)?;
-        add_recoveries(rt, alloc, self.k, self.m, &mut whole, width, strategy)?;
-        let rebuilt = picked(alloc, &whole, width, &places)?;
-        Ok(rebuilt)
+        let originals = self.parts.originals(alloc, rows, &factors, width)?;
+        rows_behind(
+            rt, alloc, self.k, self.m, originals, width, targets, strategy,
+        )
     }
 
     /// What [`Completion::rebuild`] gives, on the caller's thread: it takes no runtime.
@@ -148,16 +156,13 @@ impl Completion {
         if !has_room(self.k, self.m, width) {
             return Err(NoMemory);
         }
-        let places = as_places(alloc, targets)?;
         let mut near = self.parts.near_originals(alloc, rows, width)?;
         add_recoveries_here(alloc, self.k, self.m, &mut near, width)?;
         let quotients = self.parts.quotients(alloc, rows, &near, width)?;
         let recipe = Recipe::ByWeights(&self.basis, &self.parts.missing);
         let factors = whole_rows_at(alloc, &recipe, &quotients, width)?;
-        let mut whole = self.parts.originals(alloc, rows, &factors, width)?;
-        add_recoveries_here(alloc, self.k, self.m, &mut whole, width)?;
-        let rebuilt = picked(alloc, &whole, width, &places)?;
-        Ok(rebuilt)
+        let originals = self.parts.originals(alloc, rows, &factors, width)?;
+        rows_behind_here(alloc, self.k, self.m, originals, width, targets)
     }
 }
 
@@ -181,7 +186,7 @@ impl Parts {
             (slice_index self.now.sources.items i))) }
     {
         let zeros = vec![in alloc; 0u8; self.missing.len() * width]?;
-        all_originals(alloc, rows, &zeros, width, &self.sources)
+        picked_of_two(alloc, rows, &zeros, width, &self.sources)
     }
 
     // What the recoveries that are given differ by from those of a codeword, over their distances.
@@ -236,28 +241,87 @@ impl Parts {
             (slice_index self.now.sources.items i))) }
     {
         let missing = scaled(alloc, factors, width, &self.distances)?;
-        all_originals(alloc, rows, &missing, width, &self.sources)
+        picked_of_two(alloc, rows, &missing, width, &self.sources)
     }
 }
 
-// The originals, of the rows that are given and the missing ones.
-fn all_originals(
+// The rows of the targets, of the codeword that begins with these originals. Its recoveries are made
+// only where one of them is a target.
+fn rows_behind<R: Threads + Sync, S: Strategy>(
+    rt: &R,
     alloc: Global,
-    rows: &[u8],
-    missing: &[u8],
+    k: u16,
+    m: u16,
+    originals: Vec<u8>,
     width: usize,
-    places: &[usize],
-) -> Result<Vec<u8>, AllocError>
+    targets: &[u16],
+    strategy: &S,
+) -> Result<Vec<u8>, NoMemory>
+    requires some_originals { 1 ≤ k }
+    requires some_recoveries { 1 ≤ m }
+    requires total { k + m ≤ 65535 }
     requires some_width { 0 < width }
-    requires within { (i : ℕ) → i < length places.now
-        → slice_index places.now i < (length rows.now + length missing.now) / width }
-    ensures long { IfOk result (λ v. length v.items ≡ length places.now * width) }
-    ensures rows { IfOk result (λ v. v.items ≡ joined (length places.now)
-        (λ i. row_of (rows.now ++ missing.now) width (slice_index places.now i))) }
+    requires even { width % 2 ≡ 0 }
+    requires rows { length originals.items ≡ k * width }
+    requires room { (k + m) * width < 2 ^ 63 }
+    requires targets { All (λ target. target < k + m) targets.now }
+    ensures { IfOk result (λ v. v.items ≡ joined (length targets.now)
+        (λ i. row_of (originals.items ++ joined m (λ r. code_row k originals.items width (k + r)))
+        width (slice_index targets.now i))) }
 {
-    let mut all = Vec::from_slice(alloc, rows)?;
-    all.extend_from_slice(missing)?;
-    picked(alloc, &all, width, places)
+    let places = as_places(alloc, targets)?;
+    if are_originals(k, targets) {
+        let rows = picked(alloc, &originals, width, &places)?;
+        return Ok(rows);
+    }
+    let mut whole = originals;
+    add_recoveries(rt, alloc, k, m, &mut whole, width, strategy)?;
+    let rows = picked(alloc, &whole, width, &places)?;
+    Ok(rows)
+}
+
+// The same on the caller's thread.
+fn rows_behind_here(
+    alloc: Global,
+    k: u16,
+    m: u16,
+    originals: Vec<u8>,
+    width: usize,
+    targets: &[u16],
+) -> Result<Vec<u8>, NoMemory>
+    requires some_originals { 1 ≤ k }
+    requires some_recoveries { 1 ≤ m }
+    requires total { k + m ≤ 65535 }
+    requires some_width { 0 < width }
+    requires even { width % 2 ≡ 0 }
+    requires rows { length originals.items ≡ k * width }
+    requires room { (k + m) * width < 2 ^ 63 }
+    requires targets { All (λ target. target < k + m) targets.now }
+    ensures { IfOk result (λ v. v.items ≡ joined (length targets.now)
+        (λ i. row_of (originals.items ++ joined m (λ r. code_row k originals.items width (k + r)))
+        width (slice_index targets.now i))) }
+{
+    let places = as_places(alloc, targets)?;
+    if are_originals(k, targets) {
+        let rows = picked(alloc, &originals, width, &places)?;
+        return Ok(rows);
+    }
+    let mut whole = originals;
+    add_recoveries_here(alloc, k, m, &mut whole, width)?;
+    let rows = picked(alloc, &whole, width, &places)?;
+    Ok(rows)
+}
+
+// That all targets are originals.
+fn are_originals(k: u16, targets: &[u16]) -> bool
+    ensures { IsTrue result → All (λ target. target < k) targets.now }
+{
+    for i in 0..targets.len() {
+        if targets[i] >= k {
+            return false;
+        }
+    }
+    true
 }
 
 // That a codeword fits into memory.

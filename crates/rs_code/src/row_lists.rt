@@ -10,7 +10,7 @@ use crate::gf16;
 use std::alloc::{AllocError, Global};
 
 /// The rows at these places, in this order.
-pub fn picked(
+pub(crate) fn picked(
     alloc: Global,
     rows: &[u8],
     width: usize,
@@ -30,6 +30,43 @@ pub fn picked(
     Ok(picked)
 }
 
+/// The rows at these places among the rows of two lists, the second behind the first, in this order.
+pub(crate) fn picked_of_two(
+    alloc: Global,
+    first: &[u8],
+    second: &[u8],
+    width: usize,
+    places: &[usize],
+) -> Result<Vec<u8>, AllocError>
+    requires some_width { 0 < width }
+    requires whole { length first.now % width ≡ 0 }
+    requires within { (i : ℕ) → i < length places.now
+        → slice_index places.now i < (length first.now + length second.now) / width }
+    ensures long { IfOk result (λ v. length v.items ≡ length places.now * width) }
+    ensures rows { IfOk result (λ v. v.items ≡ joined (length places.now)
+        (λ i. row_of (first.now ++ second.now) width (slice_index places.now i))) }
+{
+    let mut picked = Vec::new(alloc);
+    for i in 0..places.len() {
+        picked.extend_from_slice(row_of_two(first, second, width, places[i]))?;
+    }
+    Ok(picked)
+}
+
+// Row i of two lists, the second behind the first.
+fn row_of_two<'a>(first: &'a [u8], second: &'a [u8], width: usize, i: usize) -> &'a [u8]
+    requires some_width { 0 < width }
+    requires whole { length first.now % width ≡ 0 }
+    requires within { i < (length first.now + length second.now) / width }
+    ensures { result.now ≡ row_of (first.now ++ second.now) width i }
+{
+    let count = first.len() / width;
+    if i < count {
+        return row(first, width, i);
+    }
+    row(second, width, i - count)
+}
+
 // Row i.
 #[tactic(auto, unfolding(cw_base::specs::Rows::row_of))]
 fn row(rows: &[u8], width: usize, i: usize) -> &[u8]
@@ -42,7 +79,7 @@ fn row(rows: &[u8], width: usize, i: usize) -> &[u8]
 }
 
 /// The sums of two lists of rows.
-pub fn summed(alloc: Global, first: &[u8], second: &[u8]) -> Result<Vec<u8>, AllocError>
+pub(crate) fn summed(alloc: Global, first: &[u8], second: &[u8]) -> Result<Vec<u8>, AllocError>
     requires { length first.now ≡ length second.now }
     ensures count { IfOk result (λ v. length v.items ≡ length first.now) }
     ensures symbols { IfOk result (λ v. (width i j : ℕ) → i * width + width ≤ length first.now
@@ -57,7 +94,7 @@ pub fn summed(alloc: Global, first: &[u8], second: &[u8]) -> Result<Vec<u8>, All
 }
 
 /// Each row times a factor of its own.
-pub fn scaled(
+pub(crate) fn scaled(
     alloc: Global,
     rows: &[u8],
     width: usize,

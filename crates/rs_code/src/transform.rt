@@ -1,5 +1,15 @@
-//! The transform between coefficients and values, for all columns of rows at once. It goes by
-//! halves: after one step each half of the rows is a block of its own.
+//! The transform between coefficients and values, for all columns of rows at once: the additive FFT,
+//! in the basis of Lin, Chung and Han.
+//!
+//! The polynomial s_t vanishes at the elements below 2^t and is 1 at 2^t. Let p = a + s_t * b, where
+//! a and b are below degree 2^t. As s_t is additive, it is constant on each half of a block of
+//! 2^(t + 1) elements: s_t(c) on the first, where c is the block's first element, and s_t(c) + 1 on
+//! the second. There p is a + s_t(c) * b, and the same + b: so each half is a block of its own, of
+//! half as many coefficients. `low_half` and `high_half` in proofs/TransformLaws.antt prove it.
+//!
+//! A block of four, of the coefficients d0 to d3, at the elements 0 to 3: s_1(0) is 0, so the first
+//! half's are d0 and d1, and the second's e0 = d0 + d2 and e1 = d1 + d3. And s_0(x) is x, so the
+//! values are d0 and d0 + d1, then e0 + 2 * e1 and e0 + 2 * e1 + e1.
 
 ghost use Rattle.std.specs.Prelude.{◌≡◌, ℕ, ◌<◌, ◌≤◌, ◌+◌, ◌-◌, ◌*◌, ◌^◌, length, slice_index};
 ghost use Rattle.rs_code.specs.Columns.{entry, AreScales};
@@ -12,8 +22,11 @@ use crate::subspaces::{STEPS, vanishing_at};
 /// those of the rows from `first` on that are before `last`.
 #[derive(Clone, Copy)]
 pub struct Part {
+    /// How many of the first rows hold coefficients that may be other than zero.
     pub given: usize,
+    /// The first row that is asked for.
     pub first: usize,
+    /// The row behind the last that is asked for.
     pub last: usize,
 }
 
@@ -115,11 +128,15 @@ pub fn inverse(
     let factor = factor_at(scales, t, block);
     let (low, high) = rows.split_at_mut(half * n);
     if known <= half {
+        // No value of the second half is known, but its coefficients are: what they count for in
+        // the first half is taken away while that is worked out.
         add_products(low, factor, high, known * n);
         inverse(low, n, scales, t - 1, 2 * block, known);
         add_products(low, factor, high, 0);
         return;
     }
+    // All values of the first half are known. So are, from `more` on, the coefficients of p in the
+    // second: with those of the first half they give that block's own.
     let more = known - half;
     inverse(low, n, scales, t - 1, 2 * block, half);
     add(high, low, more * n);

@@ -1,27 +1,29 @@
-use Rattle.std.proofs.Common.{◌≡◌, ℕ, ◌<◌, get_or, length, ◌∙◌, ap, arith}
-use Rattle.cw_coding.proofs.DecodingLaws.{rebuilt_long, rebuilt_value}
-use Rattle.cw_coding.proofs.PlanLaws.{first_targets}
+use Rattle.std.proofs.Common.{ℕ, List, take, get_or, sym, ap, ◌∙◌, arith}
+use Rattle.std.proofs.lemmas.Result.{IfOk-weaker}
+use Rattle.rs_code.specs.Rows.{code_row, joined}
+use Rattle.cw_coding.proofs.DecodingLaws.{rebuilt_long, rows_used}
 use Rattle.cw_coding.proofs.recovering.rebuilt.Goals as goal
 
-pub rebuild-requires-clause-targets : goal.rebuild-requires-clause-targets
-rebuild-requires-clause-targets g c κs within i d below =
-    first_targets c.in_ok-by.by.plan c.deref.result.now c.in_ok-by.by.targets.items _
-    c.args.config.now.minimum c.args.config.now.extra c.in_ok-by.ensures.plan
-    c.deref.ensures.value c.in_ok-by.ensures.count c.in_ok-by.ensures.each i d below
+pub returns-clause-long : goal.returns-clause-long
+returns-clause-long g c =
+    IfOk-weaker c.restore.result _ _
+    (λ v e. rebuilt_long c.args.config.now.minimum _ _ _ _ _ v.items c.args.given.now.width
+    c.requires.even c.minimum-k.ensures.value e)
+    c.restore.ensures.rows
 
-pub returns-in-Ok-clause-long : goal.returns-in-Ok-clause-long
-returns-in-Ok-clause-long g c =
-    rebuilt_long c.args.config.now.minimum _ _ _ _ _ _ c.args.given.now.width c.requires.even
-    (ap length c.deref.ensures.value ∙ c.in_ok-by.ensures.count) c.in-Ok.ensures.rows
-
-pub returns-in-Ok-clause-value : goal.returns-in-Ok-clause-value
-returns-in-Ok-clause-value g c originals agree =
-    let each : (s : ℕ) → s < c.args.config.now.minimum → get_or c.deref.result.now s 0 ≡ s =
-    rw c.deref.ensures.value c.in_ok-by.ensures.each in
-    rebuilt_value _ c.args.config.now.minimum c.args.config.now.extra
-    c.args.given.now.indices.items c.args.given.now.rows.items _ c.args.given.now.width
-    c.deref.result.now _ originals c.in_ok-by.ensures.plan
+pub returns-clause-value : goal.returns-clause-value
+returns-clause-value g c originals agree =
+    let w : ℕ = c.args.given.now.width in
+    let k : ℕ = c.minimum-k.result in
+    let indices : List ℕ = c.args.given.now.indices.items in
+    IfOk-weaker c.restore.result _ _
+    (λ v e. e
+    ∙ ap (λ (n : ℕ). joined n (λ i. code_row n originals w i)) c.minimum-k.ensures.value)
+    (c.restore.ensures.codeword originals
+    (rows_used c.args.config.now.minimum indices c.args.given.now.rows.items _ w originals
     (omega (arith, c.requires.given.used, c.requires.given.within)) c.requires.given.long
-    c.used_rows-used.ensures.value
-    (ap length c.deref.ensures.value ∙ c.in_ok-by.ensures.count) each agree
-    (λ o h. c.in-Ok.ensures.codeword o h)
+    c.used_rows-used.ensures.value agree
+    ∙ ap (λ (n : ℕ). joined n (λ s. code_row n originals w (get_or (take n indices) s 0)))
+    (sym c.minimum-k.ensures.value)
+    ∙ ap (λ (is : List ℕ). joined k (λ s. code_row k originals w (get_or (take k is) s 0)))
+    (sym c.deref.ensures.value)))

@@ -3,6 +3,7 @@ use Rattle.rs_code.specs.Codeword.{ArePoints}
 use Rattle.rs_code.specs.Completions.{given_originals, given_recoveries, apart, AreSources, AreSpots}
 use Rattle.rs_code.proofs.CompletedRows.{recovery_points}
 use Rattle.rs_code.proofs.CompletionSteps.{scales_made, distances_made}
+use Rattle.rs_code.proofs.Restored.{all_sources}
 use Rattle.rs_code.proofs.IndexLaws.{sound_points}
 use Rattle.rs_code.proofs.completion.Completion.new.Goals as goal
 
@@ -35,23 +36,28 @@ invariant_of-result c =
       c.in_ok-basis.ensures ∙ others,
       record {
         sources =
-            subst (λ (ps : List ℕ). AreSources k ps missing c.in_ok-places.field-0.places.items)
-            c.deref-2.ensures.value c.in_ok-places.ensures;
+            all_sources k c.deref-3.result.now points missing c.in_ok-places.field-0.places.items
+            (ap length c.deref-3.ensures.value ∙ c.in_ok-all.ensures.count)
+            (λ s h. ap (λ (xs : List ℕ). get_or xs s 0) c.deref-3.ensures.value
+            ∙ c.in_ok-all.ensures.each s h ∙ (let own : 0 + s ≡ s = omega arith in own))
+            (subst (λ (ps : List ℕ). AreSources (length c.deref-3.result.now)
+            (λ i. get_or c.deref-3.result.now i 0) ps missing c.in_ok-places.field-0.places.items)
+            c.deref-2.ensures.value c.in_ok-places.ensures.sources);
         spots =
             subst (λ (ps : List ℕ). AreSpots k ps c.in_ok-originals.field-0.spots.items)
             c.deref.ensures.value c.in_ok-originals.ensures.spots;
-        recoveries = c.in_ok-as_places.ensures ∙ c.deref-7.ensures.value ∙ others;
+        recoveries = c.in_ok-as_places.ensures ∙ c.deref-8.ensures.value ∙ others;
         scale_count =
-            c.in_ok-inverses_at.ensures.count ∙ ap length (c.deref-4.ensures.value ∙ others);
+            c.in_ok-inverses_at.ensures.count ∙ ap length (c.deref-5.ensures.value ∙ others);
         scales =
-            scales_made k c.args.m points c.deref-3.result.now c.deref-4.result.now _ c.requires
-            (c.deref-3.ensures.value ∙ own) (c.deref-4.ensures.value ∙ others)
+            scales_made k c.args.m points c.deref-4.result.now c.deref-5.result.now _ c.requires
+            (c.deref-4.ensures.value ∙ own) (c.deref-5.ensures.value ∙ others)
             c.in_ok-inverses_at.ensures.each;
-        distance_count = c.in_ok-distances_at.ensures.count ∙ ap length c.deref-6.ensures.value;
+        distance_count = c.in_ok-distances_at.ensures.count ∙ ap length c.deref-7.ensures.value;
         distances =
-            λ j h. distances_made k points c.deref-5.result.now c.deref-6.result.now _
-            (c.deref-5.ensures.value ∙ own) c.in_ok-distances_at.ensures.each j
-            (omega (arith, h, ap length c.deref-6.ensures.value))
-            ∙ ap (λ (ms : List ℕ). apart k points (get_or ms j 0)) c.deref-6.ensures.value;
+            λ j h. distances_made k points c.deref-6.result.now c.deref-7.result.now _
+            (c.deref-6.ensures.value ∙ own) c.in_ok-distances_at.ensures.each j
+            (omega (arith, h, ap length c.deref-7.ensures.value))
+            ∙ ap (λ (ms : List ℕ). apart k points (get_or ms j 0)) c.deref-7.ensures.value;
       },
     )

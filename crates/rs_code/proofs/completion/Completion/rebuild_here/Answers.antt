@@ -1,10 +1,12 @@
-use Rattle.std.proofs.Common.{ℕ, ◌*◌, ◌/◌, ◌++◌, bit_xor, List, length, get_or, ap, ap₂, sym, ◌∙◌, arith}
+use Rattle.std.proofs.Common.{ℕ, ◌+◌, ◌*◌, ◌/◌, ◌<◌, ◌++◌, bit_xor, List, length, get_or, refl, ap, ap₂, sym, ◌∙◌, subst, arith}
+use Rattle.std.proofs.lemmas.Result.{IfOk-weaker}
+use Rattle.rs_code.specs.Plans.{Shape}
 use Rattle.cw_base.specs.Rows.{row_of}
 use Rattle.rs_code.specs.Coefficients.{symbol_through}
 use Rattle.rs_code.specs.Field.{times}
-use Rattle.rs_code.specs.Rows.{symbol, symbol_bytes, joined, AreRows}
+use Rattle.rs_code.specs.Rows.{code_row, symbol, symbol_bytes, joined, AreRows}
 use Rattle.rs_code.specs.declared.completion.Parts.{Parts}
-use Rattle.rs_code.proofs.CompletionSteps.{codeword_long, recoveries_within, rows_given, rows_picked, rows_whole, rebuilt_row, sources_within, targets_within}
+use Rattle.rs_code.proofs.CompletionSteps.{codeword_long, recoveries_within, rows_given, rows_picked, rows_whole, rebuilt_row, sources_within}
 use Rattle.rs_code.proofs.RowBytes.{length-joined, length-symbol_bytes}
 use Rattle.rs_code.proofs.completion.Completion.rebuild_here.Goals as goal
 
@@ -59,18 +61,15 @@ originals-requires-clause-within c = λ i h.
       c.self.invariant.2.distance_count,
     )
 
-pub picked-requires-clause-within : goal.picked-requires-clause-within
-picked-requires-clause-within c =
-    let w : ℕ = c.args.width in
-    let k : ℕ = c.self.inside.k in
-    let m : ℕ = c.self.inside.m in
-    targets_within c.args.self.now k m w c.self.inside.points.items c.deref-5.result.now
-    c.args.targets.now c.deref-6.result.now c.self.view_is c.requires.some_width
-    (ap length c.deref-5.ensures.value
-    ∙ codeword_long k m w c.in_ok-whole.whole.items c.add_recoveries_here-2.new.rows.items c.requires.even
-    (c.in_ok-whole.ensures.long ∙ ap (λ (n : ℕ). n * w) c.self.invariant.2.sources.count)
-    c.in_ok-add_recoveries_here-2.ensures.ok)
-    (c.deref-6.ensures.value ∙ c.in_ok-places.ensures) c.requires.targets
+pub rows_behind_here-requires-clause-rows : goal.rows_behind_here-requires-clause-rows
+rows_behind_here-requires-clause-rows c =
+    c.in_ok-originals.ensures.long
+    ∙ ap (λ (n : ℕ). n * c.args.width) c.self.invariant.2.sources.count
+
+pub rows_behind_here-requires-clause-targets : goal.rows_behind_here-requires-clause-targets
+rows_behind_here-requires-clause-targets c =
+    λ i d h. subst (λ (v : Shape). get_or c.args.targets.now i d < v.k + v.m) (sym c.self.view_is)
+    (c.requires.targets i d h)
 
 pub returns : goal.returns
 returns c =
@@ -81,17 +80,21 @@ returns c =
     let rows : List ℕ = c.args.rows.now in
     let basis : List ℕ = c.self.inside.basis in
     let parts : Parts = c.self.inside.parts in
+    let whole : List ℕ = c.in_ok-originals.originals.items in
     let R : AreRows k w rows =
     rows_given c.args.self.now k m w points rows c.self.view_is c.requires.even c.requires.rows
     (λ i. omega (arith, c.type_inv.rows i)) in
-    rows_picked c.args.self.now k m w points rows c.deref-5.result.now c.args.targets.now
-    c.deref-6.result.now _ c.self.view_is (c.deref-6.ensures.value ∙ c.in_ok-places.ensures)
-    c.requires.targets c.in_ok-rebuilt.ensures.rows
-    (λ x h. ap (λ (xs : List ℕ). row_of xs w x) c.deref-5.ensures.value
-    ∙ rebuilt_row k m w points rows basis parts c.self.invariant.0 c.self.invariant.1
+    IfOk-weaker c.rows_behind_here.result _ _
+    (λ v e.
+    rows_picked c.args.self.now k m w points rows
+    (whole ++ joined m (λ r. code_row k whole w (k + r))) c.args.targets.now c.args.targets.now
+    v.items c.self.view_is refl c.requires.targets e
+    (λ x h.
+    rebuilt_row k m w points rows basis parts c.self.invariant.0 c.self.invariant.1
     c.self.invariant.2 c.requires.some_width R c.in_ok-near.near.items c.add_recoveries_here.new.rows.items
-    c.in_ok-quotients.quotients.items c.in_ok-factors.factors.items c.in_ok-whole.whole.items
-    c.add_recoveries_here-2.new.rows.items c.in_ok-near.ensures.rows c.in_ok-add_recoveries_here.ensures.ok
+    c.in_ok-quotients.quotients.items c.in_ok-factors.factors.items whole
+    (whole ++ joined m (λ r. code_row k whole w (k + r))) c.in_ok-near.ensures.rows
+    c.in_ok-add_recoveries_here.ensures.ok
     (c.in_ok-quotients.ensures.rows
     ∙ ap
     (λ (ns : List ℕ). joined (length parts.scales.items) (λ j. symbol_bytes (w / 2) (λ t.
@@ -103,11 +106,12 @@ returns c =
     (λ (ms qs : List ℕ). joined (length ms)
     (λ i. symbol_bytes (w / 2) (λ t. symbol_through basis qs w (get_or ms i 0) t)))
     c.deref-2.ensures.value c.deref-3.ensures.value)
-    (c.in_ok-whole.ensures.rows
+    (c.in_ok-originals.ensures.rows
     ∙ ap
     (λ (fs : List ℕ). joined (length parts.sources.items)
     (λ i. row_of (rows ++ joined (length parts.distances.items) (λ j. symbol_bytes (w / 2)
     (λ t. times (symbol fs w j t) (get_or parts.distances.items j 0)))) w
     (get_or parts.sources.items i 0)))
     c.deref-4.ensures.value)
-    c.in_ok-add_recoveries_here-2.ensures.ok x h)
+    refl x h))
+    c.rows_behind_here.ensures

@@ -2,8 +2,8 @@ use Rattle.std.proofs.Common.{◌≡◌, ℕ, ◌*◌, List, length, get_or, ap,
 use Rattle.rs_code.proofs.CompletionSteps.{rows_added}
 use Rattle.rs_code.proofs.completion.Parts.near_originals.Goals as goal
 
-pub all_originals-requires-clause-within : goal.all_originals-requires-clause-within
-all_originals-requires-clause-within c = λ i h.
+pub picked_of_two-requires-clause-within : goal.picked_of_two-requires-clause-within
+picked_of_two-requires-clause-within c = λ i h.
     let w : ℕ = c.args.width in
     let n : ℕ = length c.args.self.now.missing.items in
     let zeros : List ℕ = c.deref.result.now in

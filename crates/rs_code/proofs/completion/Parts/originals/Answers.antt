@@ -6,8 +6,8 @@ use Rattle.rs_code.specs.Rows.{symbol, symbol_bytes, joined}
 use Rattle.rs_code.proofs.CompletionSteps.{rows_added}
 use Rattle.rs_code.proofs.completion.Parts.originals.Goals as goal
 
-pub all_originals-requires-clause-within : goal.all_originals-requires-clause-within
-all_originals-requires-clause-within c = λ i h.
+pub picked_of_two-requires-clause-within : goal.picked_of_two-requires-clause-within
+picked_of_two-requires-clause-within c = λ i h.
     let w : ℕ = c.args.width in
     let n : ℕ = length c.args.self.now.distances.items in
     let long : length c.deref-2.result.now ≡ n * w =
@@ -26,7 +26,7 @@ returns-clause-rows c =
     let w : ℕ = c.args.width in
     let rows : List ℕ = c.args.rows.now in
     let factors : List ℕ = c.args.factors.now in
-    IfOk-weaker c.all_originals.result _ _
+    IfOk-weaker c.picked_of_two.result _ _
     (λ v e. e
     ∙ ap₂ (λ (ps ms : List ℕ). joined (length ps) (λ i. row_of (rows ++ ms) w (get_or ps i 0)))
     c.deref-3.ensures.value
@@ -35,4 +35,4 @@ returns-clause-rows c =
     (λ (ds : List ℕ). joined (length ds)
     (λ j. symbol_bytes (w / 2) (λ t. times (symbol factors w j t) (get_or ds j 0))))
     c.deref.ensures.value))
-    c.all_originals.ensures.rows
+    c.picked_of_two.ensures.rows

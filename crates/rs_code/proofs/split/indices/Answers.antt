@@ -1,6 +1,6 @@
 use Rattle.std.proofs.Common.{◌+◌, refl}
 use Rattle.rs_code.proofs.RowFronts.{number_pushed, one_longer}
-use Rattle.rs_code.proofs.recovery.indices.Goals as goal
+use Rattle.rs_code.proofs.split.indices.Goals as goal
 
 pub loop-s-preserved : goal.loop-s-preserved
 loop-s-preserved c = record {
