@@ -15,11 +15,13 @@ static size_t sizes[N];
 static buz_bytes chunks[N];
 
 // ends the program where an answer isn't the one that is wanted
-static void want(uint32_t status, uint32_t wanted, const char *call)
+static void want(buz_status status, buz_status wanted, const char *call)
 {
   if (status == wanted) return;
-  printf("%s answered \"%s\", and not \"%s\"\n", call, buz_status_text(status),
-         buz_status_text(wanted));
+  char got[BUZ_STATUS_TEXT_LEN], meant[BUZ_STATUS_TEXT_LEN];
+  buz_status_text(status, got, sizeof got);
+  buz_status_text(wanted, meant, sizeof meant);
+  printf("%s answered \"%s\", and not \"%s\"\n", call, got, meant);
   exit(1);
 }
 
@@ -46,24 +48,24 @@ static void tell(const char *call, double *times)
 // encodes, and finds the chunks in what was written
 static void encode(uint8_t *bytes, size_t room)
 {
-  want(buz_encode(K, M, text, LENGTH, bytes, room, sizes, N, root), BUZ_OK, "buz_encode");
-  size_t at = 0;
+  size_t at = 0, used = 0;
+  want(buz_encode(K, M, text, LENGTH, bytes, room, &used, sizes, N, root), BUZ_OK, "buz_encode");
   for (int i = 0; i < N; i++) {
     chunks[i] = (buz_bytes){ bytes + at, sizes[i] };
     at += sizes[i];
   }
 }
 
-static uint32_t check(int index)
+static buz_status check(int index)
 {
   return buz_check(K, M, root, (uint16_t)index, chunks[index].bytes, chunks[index].length);
 }
 
 // loses all chunks before `first` and behind the K that follow, and decodes these
-static uint32_t decode(int first)
+static buz_status decode(int first)
 {
   size_t length = 0;
-  uint32_t status = buz_decode(K, M, root, chunks + first, K, back, LENGTH, &length);
+  buz_status status = buz_decode(K, M, root, chunks + first, K, back, LENGTH, &length);
   if (status == BUZ_OK && (length != LENGTH || memcmp(text, back, LENGTH) != 0)) {
     printf("buz_decode gave another text\n");
     exit(1);
@@ -81,7 +83,9 @@ static void lose_and_forge(void)
   *forged ^= 1;
   want(check(40), BUZ_BAD_PROOF, "buz_check of a forged chunk");
   want(decode(20), BUZ_BAD_PROOF, "buz_decode with a forged chunk");
-  printf("forged one bit of chunk 40: %s\n", buz_status_text(check(40)));
+  char why[BUZ_STATUS_TEXT_LEN];
+  buz_status_text(check(40), why, sizeof why);
+  printf("forged one bit of chunk 40: %s\n", why);
   want(decode(41), BUZ_OK, "buz_decode without it");
   *forged ^= 1;
 }

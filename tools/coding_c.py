@@ -1,4 +1,5 @@
-"""The coding calls from Python by ctypes, over a shared library made of libcoding_c.a."""
+"""The coding calls from Python by ctypes, over the shared library that tools/coding_c installs.
+usage: coding_c.py FILE"""
 import ctypes as c
 import os
 import sys
@@ -13,7 +14,7 @@ class Bytes(c.Structure):
 lib.buz_chunk_len.argtypes = [c.c_uint16, c.c_uint16, c.c_size_t]
 lib.buz_chunk_len.restype = c.c_size_t
 lib.buz_encode.argtypes = [c.c_uint16, c.c_uint16, c.c_char_p, c.c_size_t, c.c_char_p, c.c_size_t,
-                           c.POINTER(c.c_size_t), c.c_size_t, c.c_char_p]
+                           c.POINTER(c.c_size_t), c.POINTER(c.c_size_t), c.c_size_t, c.c_char_p]
 lib.buz_encode.restype = c.c_uint32
 lib.buz_check.argtypes = [c.c_uint16, c.c_uint16, c.c_char_p, c.c_uint16, c.c_char_p, c.c_size_t]
 lib.buz_check.restype = c.c_uint32
@@ -22,14 +23,30 @@ lib.buz_decode.argtypes = [c.c_uint16, c.c_uint16, c.c_char_p, c.POINTER(Bytes),
 lib.buz_decode.restype = c.c_uint32
 
 
+lib.buz_chunk_index.argtypes = [c.c_char_p, c.c_size_t, c.POINTER(c.c_uint16)]
+lib.buz_status_text.argtypes = [c.c_uint32, c.c_char_p, c.c_size_t]
+lib.buz_status_text.restype = c.c_size_t
+
+
+class Refused(Exception):
+    """A status that isn't 0, with its words."""
+
+
+def refuse(status):
+    if status:
+        words = c.create_string_buffer(lib.buz_status_text(status, None, 0))
+        lib.buz_status_text(status, words, len(words))
+        raise Refused(status, words.value.decode())
+
+
 def encode(k, m, text):
     n = k + m
     room = n * lib.buz_chunk_len(k, m, len(text))
     chunks, sizes = c.create_string_buffer(room), (c.c_size_t * n)()
     root = c.create_string_buffer(32)
-    status = lib.buz_encode(k, m, text, len(text), chunks, room, sizes, n, root)
-    if status:
-        raise ValueError(status)
+    used = c.c_size_t()
+    refuse(lib.buz_encode(k, m, text, len(text), chunks, room, c.byref(used), sizes, n, root))
+    assert used.value == sum(sizes)
     out, at = [], 0
     for size in sizes:
         out.append(chunks.raw[at:at + size])
@@ -42,9 +59,7 @@ def decode(k, m, root, chunks):
     spans = (Bytes * len(kept))(*[Bytes(c.cast(b, c.POINTER(c.c_uint8)), len(b)) for b in kept])
     room = sum(map(len, chunks)) + 1
     text, size = c.create_string_buffer(room), c.c_size_t()
-    status = lib.buz_decode(k, m, root, spans, len(kept), text, room, c.byref(size))
-    if status:
-        raise ValueError(status)
+    refuse(lib.buz_decode(k, m, root, spans, len(kept), text, room, c.byref(size)))
     return text.raw[:size.value]
 
 
@@ -57,6 +72,10 @@ assert lib.buz_check(10, 20, root, 3, forged, len(forged)) == 9
 try:
     decode(10, 20, root, chunks[:9])
     raise SystemExit("too few were decoded")
-except ValueError as error:
-    assert error.args == (10,)
+except Refused as error:
+    assert error.args == (10, "not enough chunks")
+index = c.c_uint16()
+assert lib.buz_chunk_index(chunks[29], len(chunks[29]), c.byref(index)) == 0 and index.value == 29
+root = c.create_string_buffer(32)  # of no text, which may be a null pointer
+assert lib.buz_root(2, 3, None, c.c_size_t(0), root) == 0 and root.raw == encode(2, 3, b"")[0]
 print("python: ok")

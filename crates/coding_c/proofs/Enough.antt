@@ -1,10 +1,14 @@
 -- Enough chunks of an encoding are decoded to its text.
-use Rattle.std.proofs.Common.{◌≡◌, ℕ, zero, suc, ◌+◌, ◌-◌, ◌^◌, List, [], ◌∷◌, ◌++◌, map, drop, get_or, slice_get, length, All, Some, Ok, Err, Result, refl, sym, ap, subst, ◌∙◌, arith, ⊎_elim}
+use Rattle.std.proofs.Common.{◌≡◌, ℕ, zero, suc, ◌+◌, ◌-◌, ◌*◌, ◌/◌, ◌%◌, ◌^◌, ◌≤◌, List, [], ◌∷◌, ◌++◌, map, drop, get_or, slice_get, length, All, Some, Ok, Err, Result, refl, sym, ap, subst, ◌∙◌, arith, ⊎_elim}
+use Rattle.std.proofs.Math.Nat.{mul-le-mul_left}
 use Rattle.std.proofs.lemmas.List.{append-nil, length-map}
+use Rattle.std.proofs.lemmas.Option.{get_or_from_slice_get}
 use Rattle.cw_base.specs.Counts.{Counts}
 use Rattle.cw_base.specs.declared.hash.Digest32.{Digest32}
 use Rattle.cw_tree.specs.Chunks.{Piece}
 use Rattle.cw_tree.specs.Formats.{chunk_bytes, chunk_at, widest, piece_of_bytes}
+use Rattle.cw_tree.specs.Widths.{shard_len}
+use Rattle.cw_tree.proofs.WidthLaws.{shard_len-covers}
 use Rattle.cw_coding.specs.Checked.{Checked}
 use Rattle.cw_coding.specs.Checking.{IsUnder, IsCheckRefusal}
 use Rattle.cw_coding.specs.Decoding.{indices_of}
@@ -15,7 +19,8 @@ use Rattle.cw_coding.specs.declared.error.RsError.TheVariants.{InvalidShardSize}
 use Rattle.cw_coding.specs.declared.error.ReedSolomonError.{ReedSolomonError}
 use Rattle.cw_coding.specs.declared.error.ReedSolomonError.TheVariants.{ReedSolomon, Inconsistent, InvalidProof, NotEnoughChunks, DuplicateIndex, InvalidDataLength, InvalidIndex, TooManyTotalShards, CommitmentMismatch, NoMemory}
 use Rattle.cw_coding.proofs.CheckingLaws.{listed_get}
-use Rattle.coding_c.specs.Calls.{hash, content, config_of_numbers, digest_of_bytes, status, IsChunk, IsNotTaken, IsCheckStatus, AreTaken, IsFirstNotTaken, AreChunksOfText}
+use Rattle.cw_coding.proofs.LayoutLaws.{length-row_at}
+use Rattle.coding_c.specs.Calls.{hash, content, config_of_numbers, digest_of_bytes, status, IsChunk, IsNotTaken, IsCheckStatus, IsTaken, AreTaken, IsFirstNotTaken, AreChunksOfText, fewest_bytes, most_bytes}
 
 -- ---- bytes are one chunk at the most
 
@@ -77,6 +82,26 @@ stands_taken c root p u NotEnoughChunks h = absurd h
 stands_taken c root p u (DuplicateIndex i) h = absurd h
 stands_taken c root p u (InvalidDataLength n) h = absurd h
 stands_taken c root p u CommitmentMismatch h = absurd h
+
+-- ---- how long a text is, by the width of its shards
+
+pub fewest_is : (n k : ℕ) → 1 ≤ k → fewest_bytes k (shard_len n k) ≤ n
+unfolding shard_len
+fewest_is n k h =
+    let x : ℕ = n + 4 + (k - 1) in
+    let lower : k * (x / k) ≤ x = omega arith in
+    go k (x / k) h lower
+  where
+    go : (k q : ℕ) → 1 ≤ k → k * q ≤ n + 4 + (k - 1) → k * (q + q % 2 - 2) - 3 ≤ n
+    go k zero h l = let none : k * 0 ≡ 0 = omega arith in omega (arith, none)
+    go k (suc r) h l =
+        let below : suc r + suc r % 2 - 2 ≤ r = omega arith in
+        let less : k * (suc r + suc r % 2 - 2) ≤ k * r = mul-le-mul_left k below in
+        let step : k * suc r ≡ k * r + k = omega arith in
+        omega (arith, l, less, step, h)
+
+pub most_is : (n k : ℕ) → 1 ≤ k → n ≤ most_bytes k (shard_len n k)
+most_is n k h = let covers = shard_len-covers n k h in omega (arith, covers)
 
 -- ---- chunks of one encoding
 
@@ -188,6 +213,29 @@ module _ (checks : EncodingsCheck hash content) (back : EncodingsReadBack hash c
             → All (IsChunkOf (config_of_numbers k m) text (digest_of_bytes root)) (y ∷ ys)
         first y ys h hs zero d l = h
         first y ys h hs (suc i) d l = hs i d (omega arith)
+
+    -- how wide the shard is of the chunk that the first bytes are
+    pub first_shard : (bytes : List ℕ) (x : Checked Digest32) → slice_get all 0 ≡ Some bytes
+        → IsTaken (config_of_numbers k m) root bytes x
+        → length x.shard ≡ shard_len (length text) k
+    first_shard bytes x at is =
+        let one = found [] (drop 1 all) bytes e.chosen e.among (sym (first_of all bytes at) ∙ e.are)
+        in
+        let are =
+        taken_of (bytes ∷ []) (x ∷ []) (one.0 ∷ []) (alone one.0 one.1)
+        (ap (λ (b : List ℕ). b ∷ []) one.2) (is, tt) in
+        let row = (are.0 0 x (omega arith)).row in
+        ap length row ∙ length-row_at k text x.index
+      where
+        first_of : (bs : List (List ℕ)) (b : List ℕ) → slice_get bs 0 ≡ Some b → bs ≡ b ∷ drop 1 bs
+        first_of [] b is =
+            let e = get_or_from_slice_get [] 0 b (0 ∷ b) is in absurd (omega (arith, ap length e))
+        first_of (c ∷ bs) b is =
+            ap (λ (y : List ℕ). y ∷ bs) (get_or_from_slice_get (c ∷ bs) 0 b [] is)
+
+        alone : (p : Piece Digest32) → Among p → All Among (p ∷ [])
+        alone p a zero d l = a
+        alone p a (suc i) d l = absurd (omega (arith, l))
 
     -- what they are decoded to
     pub enough_decode : AnyEnoughDecode hash content → (xs : List (Checked Digest32))

@@ -1,3 +1,4 @@
 mod Written
 mod Taken
 mod Enough
+mod Buffers

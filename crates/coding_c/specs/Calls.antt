@@ -1,5 +1,5 @@
 -- What a caller in C is answered. A slice is the bytes at a pointer, a digest its 32 bytes.
-use Rattle.std.specs.Prelude.{◌≡◌, ℕ, ◌+◌, ◌-◌, ◌^◌, ◌≤◌, ◌<◌, ◌⊎◌, List, [], ◌∷◌, ◌++◌, length, map, drop, All, Some, Ok, slice_get, slice_index}
+use Rattle.std.specs.Prelude.{◌≡◌, ℕ, ◌+◌, ◌-◌, ◌*◌, ◌^◌, ◌≤◌, ◌<◌, ◌⊎◌, List, [], ◌∷◌, ◌++◌, length, map, drop, All, Some, Ok, slice_get, slice_index}
 use Rattle.std.specs.List.{flat_map}
 use Rattle.sha2.specs.Sha256.{sha256}
 use Rattle.cw_base.specs.Counts.{Counts}
@@ -7,10 +7,13 @@ use Rattle.rs_code.specs.Indices.{AreSound}
 use Rattle.cw_base.specs.declared.hash.Digest32.{Digest32}
 use Rattle.cw_tree.specs.Chunks.{Piece}
 use Rattle.cw_tree.specs.Formats.{chunk_bytes, chunk_at, widest, piece_of_bytes}
+use Rattle.cw_tree.specs.Sizes.{IsHeight}
+use Rattle.cw_tree.specs.Widths.{shard_len}
 use Rattle.cw_coding.specs.Checked.{Checked}
 use Rattle.cw_coding.specs.Checking.{IsUnder, IsCheckRefusal}
 use Rattle.cw_coding.specs.Decoding.{IsDecoding, IsDecodeRefusal}
-use Rattle.cw_coding.specs.Encoding.{IsEncoding, IsEncodeRefusal, root_of_text}
+use Rattle.cw_coding.specs.Encoding.{IsEncoding, IsEncodable, IsEncodeRefusal, IsEncodingRoot, root_of_text}
+use Rattle.cw_coding.specs.Totals.{total_of}
 use Rattle.cw_coding.specs.declared.error.ReedSolomonError.{ReedSolomonError}
 use Rattle.cw_coding.specs.declared.error.ReedSolomonError.TheVariants.{ReedSolomon, Inconsistent, InvalidProof, NotEnoughChunks, DuplicateIndex, InvalidDataLength, InvalidIndex, TooManyTotalShards, CommitmentMismatch, NoMemory}
 
@@ -66,17 +69,44 @@ pub record IsEncoded (k m : ℕ) (text root bytes sizes : List ℕ) : Type 0 whe
   pub chunks : bytes ≡ flat_map (chunk_bytes content) pieces
   pub each : sizes ≡ map size_of pieces
 
--- an encoding that has no room in so many bytes, or its sizes none in so many places
-abbrev pub HasNoRoom : (k m : ℕ) (text : List ℕ) (room places : ℕ) → Type 0
-HasNoRoom k m text room places =
-    (root bytes sizes : List ℕ) × IsEncoded k m text root bytes sizes
-    × ((room < length bytes) ⊎ (places < length sizes))
+-- the room of a chunk of a text of n bytes: 12 bytes, its shard, and 32 for each level of the tree
+abbrev pub IsChunkRoom : (c : Counts) (n size : ℕ) → Type 0
+IsChunkRoom c n size =
+    (levels : ℕ) × IsHeight (total_of c) levels
+    × (size ≡ 12 + shard_len n c.minimum + 32 * levels)
+
+-- the room of all chunks of a text of n bytes
+abbrev pub IsRoom : (c : Counts) (n room : ℕ) → Type 0
+IsRoom c n room = (size : ℕ) × IsChunkRoom c n size × (room ≡ total_of c * size)
+
+-- a text of n bytes whose chunks have room, and places for their sizes
+abbrev pub HasChunkRoom : (c : Counts) (n room places : ℕ) → Type 0
+HasChunkRoom c n room places =
+    (needed : ℕ) × IsRoom c n needed × (needed ≤ room) × (total_of c ≤ places)
+
+-- a text of n bytes that is encoded, but whose chunks need so much room, or so many places for
+-- their sizes, that there is less
+pub record HasNoRoom (c : Counts) (n room places needed : ℕ) : Type 0 where
+  pub encodable : IsEncodable c n
+  pub needs : IsRoom c n needed
+  pub less : (room < needed) ⊎ (places < total_of c)
 
 -- as many bytes as each chunk of a text of at most so many bytes has, or more
 abbrev pub HoldsChunks : (k m most size : ℕ) → Type 0
 HoldsChunks k m most size =
     (text root bytes sizes : List ℕ) → IsEncoded k m text root bytes sizes → length text ≤ most
     → All (λ n. n ≤ size) sizes
+
+-- as many bytes as all chunks of a text of at most so many bytes have together, or more
+abbrev pub HoldsEncodings : (k m most room : ℕ) → Type 0
+HoldsEncodings k m most room =
+    (text root bytes sizes : List ℕ) → IsEncoded k m text root bytes sizes → length text ≤ most
+    → length bytes ≤ room
+
+-- the root of a text
+abbrev pub IsRootOf : (k m : ℕ) (text root : List ℕ) → Type 0
+IsRootOf k m text root =
+    IsEncodingRoot hash content (config_of_numbers k m) text (digest_of_bytes root)
 
 -- bytes that are read as this chunk, to their end, and bytes that are no chunk
 abbrev pub IsChunk : (k : ℕ) (bytes : List ℕ) (p : Piece Digest32) → Type 0
@@ -170,3 +200,21 @@ pub record AreChunksOfText (k m : ℕ) (root text : List ℕ) (all : List (List 
   pub different : AreSound (k + m) (map (λ p. p.index) chosen)
   pub enough : k ≤ length chosen
   pub are : all ≡ map (chunk_bytes content) chosen
+
+-- the fewest bytes, and the most, that a text has whose k shards have so many bytes each
+abbrev pub fewest_bytes : (k width : ℕ) → ℕ
+fewest_bytes k width = k * (width - 2) - 3
+
+abbrev pub most_bytes : (k width : ℕ) → ℕ
+most_bytes k width = k * width - 4
+
+-- room for fewer bytes than any text has whose shards are as wide as that of the first of these
+-- chunks, which stands under the root
+pub record HasNoTextRoom (c : Counts) (root : List ℕ) (all : List (List ℕ)) (room needed : ℕ)
+    : Type 0 where
+  pub bytes : List ℕ
+  pub first : slice_get all 0 ≡ Some bytes
+  pub chunk : Checked Digest32
+  pub taken : IsTaken c root bytes chunk
+  pub less : room < fewest_bytes c.minimum (length chunk.shard)
+  pub needs : needed ≡ most_bytes c.minimum (length chunk.shard)

@@ -1,29 +1,24 @@
 //! The scheme's answers, before they are put in a caller's buffers.
 
-ghost use Rattle.std.specs.Prelude.{◌≡◌, ℕ, ◌+◌, ◌-◌, ◌^◌, ◌≤◌, ◌<◌, ◌⊎◌, List, [], ◌++◌, length};
-ghost use Rattle.std.specs.Prelude.{map, drop, IfOk, IfErr, MatchOption, MatchResult};
+ghost use Rattle.std.specs.Prelude.{◌≡◌, ℕ, ◌+◌, ◌-◌, ◌*◌, ◌^◌, ◌≤◌, ◌<◌, ◌⊎◌, List, [], ◌++◌, length};
+ghost use Rattle.std.specs.Prelude.{map, drop, IfOk, IfErr, IfSome, MatchOption, MatchResult};
 ghost use Rattle.std.specs.List.{flat_map};
 ghost use Rattle.cw_tree.specs.Formats.{chunk_bytes};
 ghost use Rattle.cw_coding.specs.Checking.{IsUnder};
+ghost use Rattle.cw_coding.specs.Encoding.{IsEncodable};
 ghost use Rattle.coding_c.specs.Calls.{content, config_of_numbers, digest_of_bytes, hash, size_of};
-ghost use Rattle.coding_c.specs.Calls.{AreNoConfig, IsEncodeStatus, IsPut, IsEncoded, IsChunk};
-ghost use Rattle.coding_c.specs.Calls.{IsNoChunk};
+ghost use Rattle.coding_c.specs.Calls.{AreNoConfig, IsEncodeStatus, IsEncoded, IsRootOf, IsChunk};
+ghost use Rattle.coding_c.specs.Calls.{IsNoChunk, HasChunkRoom, HasNoRoom};
 ghost use Rattle.coding_c.specs.Calls.{IsNotTaken, IsCheckStatus, IsTaken, AreTaken};
-ghost use Rattle.coding_c.specs.Calls.{IsFirstNotTaken};
+ghost use Rattle.coding_c.specs.Calls.{IsFirstNotTaken, HasNoTextRoom};
 ghost use Rattle.coding_c.specs.Calls.{AreChunksOfText, IsDecodeStatus, IsDecoded};
 
-use crate::status::{NO_CHUNK, NO_CONFIG, NO_MEMORY, status_of};
+use crate::shards::Span;
+use crate::status::{NO_CHUNK, NO_MEMORY, status_of};
 use cw_base::{CodecError, Config, Digest32, NoMemory, Reader, Sequential, Sha256};
-use cw_coding::{CheckedChunk, Chunk, ReedSolomon, Scheme, encodings_decode};
+use cw_coding::{CheckedChunk, Chunk, ReedSolomon, Scheme, encodings_decode, max_shard_size_fits};
 use std::alloc::Global;
 use std::num::NonZeroU16;
-
-/// Bytes of a caller's.
-#[repr(C)]
-pub struct Span<'a> {
-    /// The bytes, lent for the call.
-    pub bytes: &'a [u8],
-}
 
 // The config of two numbers.
 pub(crate) fn config_of(k: u16, m: u16) -> Option<Config>
@@ -42,15 +37,6 @@ pub(crate) fn config_of(k: u16, m: u16) -> Option<Config>
     }
 }
 
-// Puts values at the front of a buffer.
-pub(crate) fn put_front<T: Copy>(out: &mut [T], values: &[T])
-    requires room { length values.now ≤ length out.old }
-    ensures { IsPut values.now out.old out.new }
-{
-    let (front, _) = out.split_at_mut(values.len());
-    front.copy_from_slice(values);
-}
-
 // An encoding as a caller gets it.
 #[derive(Drop)]
 pub(crate) struct Encoded {
@@ -59,16 +45,14 @@ pub(crate) struct Encoded {
     pub(crate) sizes: Vec<usize>,
 }
 
-pub(crate) fn encode(alloc: Global, k: u16, m: u16, text: &[u8]) -> Result<Encoded, u32>
-    ensures done { IfOk result
-        (λ e. IsEncoded k m text.now e.root.0 e.bytes.items e.sizes.items) }
-    ensures refused { IfErr result (λ code. IsEncodeStatus k m (length text.now) code) }
+pub(crate) fn encode(alloc: Global, config: &Config, text: &[u8]) -> Result<Encoded, u32>
+    ensures done { IfOk result (λ e. IsEncoded config.now.minimum config.now.extra text.now
+        e.root.0 e.bytes.items e.sizes.items) }
+    ensures refused { IfErr result (λ code.
+        IsEncodeStatus config.now.minimum config.now.extra (length text.now) code) }
     ensures some { IfErr result (λ code. 1 ≤ code) }
 {
-    let Some(config) = config_of(k, m) else {
-        return Err(NO_CONFIG);
-    };
-    let (root, chunks) = match ReedSolomon::<Sha256>::encode_here(alloc, &config, text) {
+    let (root, chunks) = match ReedSolomon::<Sha256>::encode_here(alloc, config, text) {
         Ok(encoded) => encoded,
         Err(error) => return Err(status_of(error)),
     };
@@ -76,6 +60,43 @@ pub(crate) fn encode(alloc: Global, k: u16, m: u16, text: &[u8]) -> Result<Encod
         Ok((bytes, sizes)) => Ok(Encoded { root, bytes, sizes }),
         Err(NoMemory) => Err(NO_MEMORY),
     }
+}
+
+// The root of a text.
+pub(crate) fn root_of(alloc: Global, config: &Config, text: &[u8]) -> Result<Digest32, u32>
+    ensures done { IfOk result
+        (λ root. IsRootOf config.now.minimum config.now.extra text.now root.0) }
+    ensures refused { IfErr result (λ code.
+        IsEncodeStatus config.now.minimum config.now.extra (length text.now) code) }
+    ensures some { IfErr result (λ code. 1 ≤ code) }
+{
+    match ReedSolomon::<Sha256>::encode_here(alloc, config, text) {
+        Ok((root, _)) => Ok(root),
+        Err(error) => Err(status_of(error)),
+    }
+}
+
+// What room the chunks of a text of `length` bytes need, where there is less, or there are too few
+// places for their sizes.
+pub(crate) fn lacking_room(
+    config: &Config,
+    length: usize,
+    room: usize,
+    places: usize,
+) -> Option<usize>
+    ensures { MatchOption result
+        (IsEncodable config.now length → HasChunkRoom config.now length room places)
+        (λ needed. HasNoRoom config.now length room places needed) }
+{
+    if !max_shard_size_fits(config, length) {
+        return None;
+    }
+    let count = config.total_shards() as usize;
+    let needed = count * ReedSolomon::<Sha256>::max_shard_size(config, length);
+    if room < needed || places < count {
+        return Some(needed);
+    }
+    None
 }
 
 // The bytes of chunks, end to end, and how many each has.
@@ -187,6 +208,32 @@ fn all_taken(
         };
     }
     Ok(all)
+}
+
+// What room the text of chunks needs, where there is less than the shortest text has whose shards
+// are as wide as the first chunk's.
+pub(crate) fn lacking_text(
+    alloc: Global,
+    config: &Config,
+    root: &[u8; 32],
+    chunks: &[Span],
+    room: usize,
+) -> Option<usize>
+    ensures { IfSome result (λ needed. HasNoTextRoom config.now root.now
+        (map (λ s. s.bytes.now) chunks.now) room needed) }
+{
+    let Some(first) = chunks.first() else {
+        return None;
+    };
+    let Ok(chunk) = taken(alloc, config, root, first.bytes) else {
+        return None;
+    };
+    let width = chunk.shard().len();
+    let k = usize::from(config.minimum());
+    if width > 0xffff_ffff || room >= (k * width.saturating_sub(2)).saturating_sub(3) {
+        return None;
+    }
+    Some((k * width).saturating_sub(4))
 }
 
 // The text that chunks come of, each of which is checked.
