@@ -325,6 +325,96 @@ fn notarized_proposals_are_given_once(rt: HostRuntime) -> Result<(), Fail> {
     Ok(())
 }
 
+// the view of the certificate that is owed, 0 where none is
+fn owed_view(alloc: Global, tally: &Tally<SumHasher>) -> Result<u64, Fail> {
+    match tally.owed_cert(alloc)? {
+        Some(cert) => Ok(cert.vote.view()),
+        None => Ok(0),
+    }
+}
+
+// the views whose nullification member 0 owes while votes of these members come, a digit each, for
+// view 5 or behind a bar for view 6, and once more after the first is noted
+fn owed_views(alloc: Global, votes: &str) -> Result<[u64; 3], Fail> {
+    let mut tally = tally(alloc, 0)?;
+    let mut view = 5;
+    let mut before = 0;
+    for letter in votes.bytes() {
+        if letter == b'|' {
+            view = if view == 5 { 6 } else { 5 };
+        } else {
+            before = owed_view(alloc, &tally)?;
+            let signer = (letter % 4) as u16;
+            take_vote(&mut tally, signer, &Vote::Nullify { epoch: 0, view })?;
+        }
+    }
+    let first = owed_view(alloc, &tally)?;
+    let tally = with_cert(alloc, tally, Vote::Nullify { epoch: 0, view: first.max(1) })?;
+    Ok([before, first, owed_view(alloc, &tally)?])
+}
+
+#[test]
+fn of_two_owed_certificates_that_of_the_vote_named_first_goes_first(
+    rt: HostRuntime,
+) -> Result<(), Fail> {
+    let cases = [
+        ("1|123|23", [6, 5, 6]),
+        ("123|123", [5, 5, 6]),
+        ("|1|123|23", [5, 6, 5]),
+        ("12|123|", [0, 6, 0]),
+        ("12|12", [0, 0, 0]),
+    ];
+    for (votes, want) in cases {
+        assert_eq!(rt; owed_views(rt.alloc(), votes)?, want);
+    }
+    Ok(())
+}
+
+// two proposals of view 2, which another member names in this order, and the leader in the other;
+// what can be voted for in view 2, and what in view 3
+fn votable(alloc: Global) -> Result<[Option<Proposal>; 4], Fail> {
+    let other = proposal(2, genesis_commitment::<SumHasher>());
+    let tally = with_cert(alloc, tally(alloc, 0)?, NULLIFY)?;
+    let tally = with_vote(tally, 3, Vote::Notarize(second()))?;
+    let tally = with_vote(tally, 2, Vote::Notarize(other))?;
+    let alone = tally.votable(0);
+    let tally = with_vote(tally, 2, Vote::Notarize(second()))?;
+    let (begin, next) = (tally.votable(0), tally.votable(1));
+    let tally = with_cert(alloc, tally, Vote::Nullify { epoch: 0, view: 2 })?;
+    Ok([alone, begin, next, tally.votable(0)])
+}
+
+#[test]
+fn the_proposals_of_a_view_stand_in_the_order_in_which_they_are_named(
+    rt: HostRuntime,
+) -> Result<(), Fail> {
+    let other = proposal(2, genesis_commitment::<SumHasher>());
+    let want = [Some(other), Some(second()), Some(other), None];
+    assert!(rt; votable(rt.alloc())? == want);
+    Ok(())
+}
+
+// the votes to finalize that are owed while two proposals are certified, and while the member
+// closes first one view and then the other
+fn finalizing(alloc: Global) -> Result<[Option<Vote>; 4], Fail> {
+    let tally = with_note(tally(alloc, 0)?, Note::Certified(second()))?;
+    let tally = with_vote(tally, 3, Vote::Notarize(first()))?;
+    let alone = tally.owed_finalize();
+    let tally = with_note(tally, Note::Certified(first()))?;
+    let both = tally.owed_finalize();
+    let tally = with_note(tally, Note::Vote(NULLIFY))?;
+    let left = tally.owed_finalize();
+    let tally = with_note(tally, Note::Vote(Vote::Finalize(second())))?;
+    Ok([alone, both, left, tally.owed_finalize()])
+}
+
+#[test]
+fn a_vote_to_finalize_is_owed_until_its_view_is_closed(rt: HostRuntime) -> Result<(), Fail> {
+    let (one, two) = (Some(Vote::Finalize(first())), Some(Vote::Finalize(second())));
+    assert!(rt; finalizing(rt.alloc())? == [two, one, two, None]);
+    Ok(())
+}
+
 // where view 1 is finalized and view 2 is nullified: what is settled, and what is nullified in
 // both; the view, and whether the payload of view 1 is the parent in view 3 and none is in view 1
 fn third_view(alloc: Global) -> Result<([bool; 2], [bool; 2], u64, [bool; 2]), Fail> {

@@ -3,6 +3,7 @@ pub mod BestParent
 pub mod BlockHeights
 pub mod Candidates
 pub mod Certified
+pub mod Certifying
 pub mod FirstCerts
 pub mod Formed
 pub mod HeldHeights
@@ -11,6 +12,7 @@ pub mod Joining
 pub mod Kept
 pub mod KnownSigners
 pub mod LastSettled
+pub mod Lineups
 pub mod Listed
 pub mod Lists
 pub mod Once
@@ -24,4 +26,6 @@ pub mod Signers
 pub mod Signing
 pub mod Taking
 pub mod Undone
+pub mod Viewing
 pub mod Voted
+pub mod Waits

@@ -1,12 +1,13 @@
 -- Lists of which each element is kept once, and those that are done are left out.
-use Rattle.std.proofs.Common.{◌≡◌, ◌&&◌, ◌+◌, ◌||◌, ℕ, Bool, true, false, cond, not, List, [], ◌∷◌, ◌++◌, length, map, take, filter, Option, Some, None, refl, sym, ◌∙◌, ap, arith, append_assoc, if◌then◌else◌}
-use Rattle.std.specs.List.{cons_option, enumerate_from, find, list_any}
+use Rattle.std.proofs.Common.{◌≡◌, ◌&&◌, ◌+◌, ◌||◌, ℕ, Bool, true, false, cond, not, List, [], ◌∷◌, ◌++◌, length, map, take, filter, Option, Some, None, refl, sym, ◌∙◌, ap, arith, append_assoc}
+use Rattle.std.specs.List.{enumerate_from, find, list_any}
 use Rattle.std.specs.Option.{option_or}
 use Rattle.std.proofs.lemmas.List.{length-append}
 use Rattle.std.proofs.lemmas.List.Elements.{filter-append}
 use Rattle.std.proofs.lemmas.List.Folds.{find-append, list_any-append}
 use Rattle.std.proofs.Math.Seq.{take-append_seam}
-use Rattle.voter.specs.Waiting.{undone, with_named, with_new, without_repeats}
+use Rattle.voter.specs.Lineup.{without_repeats}
+use Rattle.voter.specs.Waiting.{undone}
 
 pub append_nil : {X : Type 0} (ys : List X) → ys ++ [] ≡ ys
 append_nil [] = refl
@@ -59,8 +60,35 @@ module _ {X : Type 0} where
       go false false e f k more = rw (e, f) more
       go false true e f k more = let t : false ≡ true = sym e ∙ k f in cc
 
+  -- of what is let through nothing passes
+  nothing_through : (p q : X → Bool) → ((x : X) → p x ≡ true → q x ≡ false) → (xs : List X)
+      → filter p (filter q xs) ≡ []
+  nothing_through p q h [] = refl
+  nothing_through p q h (x ∷ xs) = go (q x) (p x) refl refl (nothing_through p q h xs)
+    where
+      go : (a b : Bool) → q x ≡ a → p x ≡ b → filter p (filter q xs) ≡ []
+          → filter p (cond a (x ∷ filter q xs) (filter q xs)) ≡ []
+      go false b e f more = more
+      go true false e f more = rw f more
+      go true true e f more = let t : true ≡ false = sym e ∙ h x f in cc
+
+  none_through : (p q : X → Bool) → ((x : X) → p x ≡ true → q x ≡ false) → (xs : List X)
+      → find p (filter q xs) ≡ None
+  none_through p q h [] = refl
+  none_through p q h (x ∷ xs) = go (q x) (p x) refl refl (none_through p q h xs)
+    where
+      go : (a b : Bool) → q x ≡ a → p x ≡ b → find p (filter q xs) ≡ None
+          → find p (cond a (x ∷ filter q xs) (filter q xs)) ≡ None
+      go false b e f more = more
+      go true false e f more = rw f more
+      go true true e f more = let t : true ≡ false = sym e ∙ h x f in cc
+
+  or_none : (o : Option X) → option_or o None ≡ o
+  or_none None = refl
+  or_none (Some x) = refl
+
   -- whether there is one, by the first
-  any_found : (p : X → Bool) (xs ys : List X) → find p xs ≡ find p ys
+  pub any_found : (p : X → Bool) (xs ys : List X) → find p xs ≡ find p ys
       → list_any p xs ≡ list_any p ys
   any_found p xs ys e = is xs ∙ (ap there e ∙ sym (is ys))
     where
@@ -225,135 +253,6 @@ module _ {X : Type 0} (same : X → X → Bool) (is : (a b : X) → same a b ≡
       any_found (same x) (undone same done xs) xs
       (find_undone (same x) done (λ y k. ap done (sym (is x y k)) ∙ h) xs)
 
-  -- one more
-  pub undone_more : (done : X → Bool) (xs : List X) (x : X)
-      → undone same done (xs ++ x ∷ [])
-      ≡ undone same done xs ++ filter (λ y. not (list_any (same y) xs) && not (done y)) (x ∷ [])
-  undone_more done xs x =
-      ap (filter (λ y. not (done y))) (once_append xs (x ∷ []))
-      ∙ (filter-append (λ y. not (done y)) (without_repeats same xs)
-      (filter (λ y. not (list_any (same y) xs)) (x ∷ []))
-      ∙ ap (λ ys. undone same done xs ++ ys)
-      (filter_twice (λ y. not (done y)) (λ y. not (list_any (same y) xs)) (x ∷ [])))
-
-  -- one that is done or there already
-  pub undone_same : (done : X → Bool) (xs : List X) (x : X)
-      → (done x || list_any (same x) (undone same done xs)) ≡ true
-      → undone same done (xs ++ x ∷ []) ≡ undone same done xs
-  undone_same done xs x h =
-      undone_more done xs x
-      ∙ (ap (λ b. undone same done xs ++ cond b (x ∷ []) [])
-      (go (done x) (list_any (same x) (undone same done xs)) refl refl h)
-      ∙ append_nil (undone same done xs))
-    where
-      none : (b : Bool) → (b && not true) ≡ false
-      none true = refl
-      none false = refl
-
-      go : (a b : Bool) → done x ≡ a → list_any (same x) (undone same done xs) ≡ b
-          → (a || b) ≡ true → (not (list_any (same x) xs) && not (done x)) ≡ false
-      go true b e f k =
-          ap (λ d. not (list_any (same x) xs) && not d) e ∙ none (not (list_any (same x) xs))
-      go false true e f k =
-          ap (λ a. not a && not (done x)) (sym (any_undone done x e xs) ∙ f)
-      go false false e f k = cc
-
-  -- one that is neither
-  pub undone_new : (done : X → Bool) (xs : List X) (x : X)
-      → (done x || list_any (same x) (undone same done xs)) ≡ false
-      → undone same done (xs ++ x ∷ []) ≡ undone same done xs ++ x ∷ []
-  undone_new done xs x h =
-      undone_more done xs x
-      ∙ ap (λ b. undone same done xs ++ cond b (x ∷ []) [])
-      (go (done x) (list_any (same x) (undone same done xs)) refl refl h)
-    where
-      go : (a b : Bool) → done x ≡ a → list_any (same x) (undone same done xs) ≡ b
-          → (a || b) ≡ false → (not (list_any (same x) xs) && not (done x)) ≡ true
-      go false false e f k =
-          ap (λ a. not a && not (done x)) (sym (any_undone done x e xs) ∙ f) ∙ ap not e
-      go false true e f k = cc
-      go true b e f k = cc
-
-  -- where more is done
-  pub undone_less : (done now : X → Bool) → ((x : X) → done x ≡ true → now x ≡ true)
-      → (xs : List X)
-      → filter (λ x. not (now x)) (undone same done xs) ≡ undone same now xs
-  undone_less done now h xs =
-      filter_through (λ x. not (now x)) (λ x. not (done x))
-      (λ x k. by (done x) (now x) (h x) k) (without_repeats same xs)
-    where
-      by : (a b : Bool) → (a ≡ true → b ≡ true) → not b ≡ true → not a ≡ true
-      by false b k n = refl
-      by true true k n = n
-      by true false k n = let t : false ≡ true = k refl in cc
-
-  -- one more, and then more is done
-  pub taken : (done now : X → Bool) → ((x : X) → done x ≡ true → now x ≡ true)
-      → (old xs : List X) (x : X) → old ≡ undone same done xs
-      → filter (λ y. not (now y)) (with_new same old x) ≡ undone same now (xs ++ x ∷ [])
-  taken done now h old xs x e =
-      ap (λ l. filter (λ y. not (now y)) (with_new same l x)) e
-      ∙ go (list_any (same x) (undone same done xs)) (now x) refl refl
-    where
-      was : List X
-      was = undone same done xs
-
-      less : filter (λ y. not (now y)) was ≡ undone same now xs
-      less = undone_less done now h xs
-
-      not_before : now x ≡ false → done x ≡ false
-      not_before k = by (done x) refl
-        where
-          by : (b : Bool) → done x ≡ b → b ≡ false
-          by false d = refl
-          by true d = let t : true ≡ false = sym (h x d) ∙ k in cc
-
-      there : now x ≡ false → list_any (same x) (undone same now xs) ≡ list_any (same x) was
-      there k = any_undone now x k xs ∙ sym (any_undone done x (not_before k) xs)
-
-      longer : filter (λ y. not (now y)) (was ++ x ∷ [])
-          ≡ undone same now xs ++ cond (not (now x)) (x ∷ []) []
-      longer =
-          filter-append (λ y. not (now y)) was (x ∷ [])
-          ∙ ap (λ l. l ++ cond (not (now x)) (x ∷ []) []) less
-
-      or_true : (b : Bool) → (b || true) ≡ true
-      or_true true = refl
-      or_true false = refl
-
-      go : (b n : Bool) → list_any (same x) was ≡ b → now x ≡ n
-          → filter (λ y. not (now y)) (if b then was else was ++ x ∷ [])
-          ≡ undone same now (xs ++ x ∷ [])
-      go true true f k =
-          less
-          ∙ sym (undone_same now xs x (ap (λ b. b || list_any (same x) (undone same now xs)) k))
-      go true false f k =
-          less
-          ∙ sym
-          (undone_same now xs x (ap (λ b. now x || b) (there k ∙ f) ∙ or_true (now x)))
-      go false true f k =
-          longer
-          ∙ (ap (λ b. undone same now xs ++ cond (not b) (x ∷ []) []) k
-          ∙ (append_nil (undone same now xs)
-          ∙ sym
-          (undone_same now xs x (ap (λ b. b || list_any (same x) (undone same now xs)) k))))
-      go false false f k =
-          longer
-          ∙ (ap (λ b. undone same now xs ++ cond (not b) (x ∷ []) []) k
-          ∙ sym
-          (undone_new now xs x
-          (ap (λ b. b || list_any (same x) (undone same now xs)) k ∙ (there k ∙ f))))
-
-  -- if there is one more
-  pub taken_named : (done now : X → Bool) → ((x : X) → done x ≡ true → now x ≡ true)
-      → (old xs : List X) (o : Option X) → old ≡ undone same done xs
-      → filter (λ y. not (now y)) (with_named same old o)
-      ≡ undone same now (xs ++ cons_option o [])
-  taken_named done now h old xs None e =
-      ap (filter (λ y. not (now y))) e
-      ∙ (undone_less done now h xs ∙ ap (undone same now) (sym (append_nil xs)))
-  taken_named done now h old xs (Some x) e = taken done now h old xs x e
-
   -- ---- two lists behind one another
 
   module _ (done : X → Bool) (ws us xs ys : List X) (e : ws ≡ undone same done xs)
@@ -425,3 +324,38 @@ module _ {X : Type 0} (same : X → X → Bool) (is : (a b : X) → same a b ≡
             ∙ (filter_through (λ y. not (list_any (same y) xs) && u y) (λ y. not (done y)) also
             (without_repeats same ys)
             ∙ sym (filter_twice u (λ y. not (list_any (same y) xs)) (without_repeats same ys)))))
+
+  -- ---- where all that pass are named in the first list
+
+  module _ (p : X → Bool) (xs ys : List X)
+      (there : (y : X) → p y ≡ true → list_any (same y) xs ≡ true) where
+    abbrev later : List X
+    later = filter (λ y. not (list_any (same y) xs)) (without_repeats same ys)
+
+    apart : (y : X) → p y ≡ true → not (list_any (same y) xs) ≡ false
+    apart y h = ap not (there y h)
+
+    -- what is found
+    pub find_named : find p (without_repeats same xs) ≡ find p (xs ++ ys)
+    find_named =
+        sym
+        (sym (find_once p (xs ++ ys))
+        ∙ (ap (find p) (once_append xs ys)
+        ∙ (find-append p (without_repeats same xs) later
+        ∙ (ap (option_or (find p (without_repeats same xs)))
+        (none_through p (λ y. not (list_any (same y) xs)) apart (without_repeats same ys))
+        ∙ or_none (find p (without_repeats same xs))))))
+
+    -- those that pass
+    pub pick_named : filter p (without_repeats same xs)
+        ≡ map (λ (at : ℕ × X). at.1)
+        (filter (λ at. p at.1 && not (list_any (same at.1) (take at.0 (xs ++ ys))))
+        (enumerate_from 0 (xs ++ ys)))
+    pick_named =
+        sym
+        (candidates_once p (xs ++ ys)
+        ∙ (ap (filter p) (once_append xs ys)
+        ∙ (filter-append p (without_repeats same xs) later
+        ∙ (ap (λ l. filter p (without_repeats same xs) ++ l)
+        (nothing_through p (λ y. not (list_any (same y) xs)) apart (without_repeats same ys))
+        ∙ append_nil (filter p (without_repeats same xs))))))

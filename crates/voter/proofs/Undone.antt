@@ -1,9 +1,9 @@
--- What is done, of which nothing is owed any more, and the lists of what isn't.
-use Rattle.std.proofs.Common.{◌≡◌, ◌&&◌, ◌==◌, ◌≤◌, ◌||◌, ℕ, Bool, true, false, not, List, [], ◌∷◌, ◌++◌, map, filter, Option, Some, None, refl, sym, subst, ◌∙◌, ap, arith, eqb-true, if◌then◌else◌}
-use Rattle.std.specs.List.{cons_option, filter_map, list_any}
-use Rattle.std.specs.Option.{is_some, option_map_or}
-use Rattle.std.proofs.lemmas.Bool.{and_parts}
-use Rattle.std.proofs.lemmas.List.Elements.{filter_map-append}
+-- What waits: of what something can be owed.
+use Rattle.std.proofs.Common.{◌≡◌, ◌&&◌, ◌==◌, ◌||◌, ℕ, Bool, true, false, not, List, [], ◌∷◌, ◌++◌, map, filter, Option, Some, None, refl, sym, subst, ◌∙◌, ap, eqb-true, if◌then◌else◌}
+use Rattle.std.specs.Prelude.{Vec}
+use Rattle.std.specs.declared.alloc.Global.{Global}
+use Rattle.std.specs.List.{cons_option, filter_map, find, list_any}
+use Rattle.std.proofs.lemmas.Bool.{and_parts, false≢true}
 use Rattle.std.proofs.lemmas.List.Folds.{list_any-append}
 use Rattle.cw_base.specs.declared.hash.Digest32.{Digest32}
 use Rattle.cw_types.specs.Epochs.{Epochs, is_member, leader}
@@ -13,186 +13,77 @@ use Rattle.cw_types.specs.declared.note.Note.{Note}
 use Rattle.cw_types.specs.declared.vote.Proposal.{Proposal}
 use Rattle.cw_types.specs.declared.vote.Vote.{Vote}
 use Rattle.cw_types.specs.declared.vote.Vote.TheVariants.{Notarize}
-use Rattle.cw_types.proofs.Same.{same_proposal-true, same_vote-true}
-use Rattle.cw_rules.specs.Accepted.{Ballot, State}
-use Rattle.cw_rules.specs.Notes.{ended, epoch_of, greatest, has_cert, has_certified, is_cert, is_certified, settled, view_of}
-use Rattle.cw_rules.specs.Owed.{all_nullified, ballot_vote, cert_owed, closes, finalize_owed, has_closed, has_voted, is_ready, is_single, note_proposal, note_vote, notarize_owed}
-use Rattle.cw_rules.specs.Rules.{Rules, genesis_commitment}
+use Rattle.cw_types.proofs.Same.{same_proposal-true, same_proposal_self, same_vote-true}
+use Rattle.cw_rules.specs.Accepted.{Ballot, Many, Single}
+use Rattle.cw_rules.specs.Notes.{epoch_of, has_cert, has_certified, is_cert, is_certified, view_of}
+use Rattle.cw_rules.specs.Owed.{all_nullified, ballot_vote, closes, has_closed, has_voted, is_single, named_proposals, note_proposal}
 use Rattle.voter.specs.Facts.{HasSaid, said_at}
 use Rattle.note_scans.specs.Keys.{in_view, key_of, keyed}
-use Rattle.voter.specs.Known.{Known, known_state, vote_rules}
-use Rattle.voter.specs.Owing.{is_turn, is_uncertified, is_votable, owes_finalize, owes_notarize}
-use Rattle.voter.specs.Waiting.{AreWaiting, is_done_by, is_uncertified_by, owes_nothing, undone, with_named}
 use Rattle.note_scans.specs.declared.key.VoteKey.{VoteKey}
+use Rattle.voter.specs.Known.{Known, known_state, vote_rules}
+use Rattle.voter.specs.Lineup.{IsLineup, without_repeats}
+use Rattle.voter.specs.Owing.{can_vote_for, is_candidate, is_turn, is_uncertified, is_votable, owes_cert, owes_finalize, owes_notarize, votable}
+use Rattle.voter.specs.Views.{HasViews, is_in, listed_at}
+use Rattle.voter.specs.Waiting.{came_proposals, can_certify, is_open, is_open_by, is_uncertified_by, undone, was_but}
 use Rattle.voter.proofs.Certified.{cert_where}
-use Rattle.voter.proofs.Once.{append_nil, filter_same_test, taken_named}
+use Rattle.voter.proofs.Certifying.{none_more}
+use Rattle.voter.proofs.Lineups.{passing_values}
+use Rattle.voter.proofs.Once.{filter_same_test, filter_through, find_named, find_through, pick_named}
 use Rattle.voter.proofs.Saying.{said_cert, said_certified, said_closed}
-use Rattle.voter.proofs.Voted.{finalize_where, notarize_where}
+use Rattle.voter.proofs.Voted.{finalize_where, notarize_where, payload_last}
 
-or_false : (b : Bool) → (b || false) ≡ b
-or_false true = refl
-or_false false = refl
+-- ---- what waits in a lineup
 
--- ---- nothing is owed of what is done
+not_not : (b : Bool) → b ≡ not (not b)
+not_not true = refl
+not_not false = refl
 
-not_false : (b : Bool) → not b ≡ true → b ≡ false
-not_false false h = refl
-not_false true h = cc
+pub waiting_undone : {K X : Type 0} (eq : K → K → Bool) (key : X → K) (same : X → X → Bool)
+    (passes : X → Bool) (named : List X) (places : List (K × ℕ)) (count : ℕ)
+    (waiting : List (ℕ × X)) → IsLineup eq key same passes named places count waiting
+    → map (λ (at : ℕ × X). at.1) waiting ≡ undone same (λ x. not (passes x)) named
+waiting_undone {X = X} eq key same passes named places count waiting is =
+    ap (map (λ (at : ℕ × X). at.1)) is.waits
+    ∙ (passing_values passes 0 (without_repeats same named)
+    ∙ filter_same_test passes (λ x. not (not (passes x))) (λ x. not_not (passes x))
+    (without_repeats same named))
 
-pub vote_left : (r : Rules) (id : ℕ) (s : State) (v : Vote)
-    → is_some (cert_owed r id s v) ≡ true → has_cert s.notes v ≡ false
-vote_left r id s v h =
-    not_false (has_cert s.notes v)
-    (and_parts (not (has_cert s.notes v)) _ (sym (cert_where r id s v) ∙ h)).0
+-- ---- when something is owed, it can be owed
 
--- a certified proposal's view is over
-certified_over : (notes : List Note) (p : Proposal) → has_certified notes p ≡ true
-    → p.view ≤ greatest (filter_map (ended p.epoch) notes)
-certified_over [] p h = cc
-certified_over (note ∷ notes) p h =
-    go (is_certified p note) refl h (certified_over notes p)
-  where
-    same : (n : ℕ) → (n == n) ≡ true
-    same n = grind arith
+pub owes_certify : (hash : List ℕ → Digest32) (t : Known) (v : Vote)
+    → owes_cert hash t v ≡ can_certify t v
+unfolding owes_cert
+owes_certify hash t v = cert_where (vote_rules hash t.epochs) t.id (known_state t) v
 
-    more : greatest (filter_map (ended p.epoch) notes)
-        ≤ greatest (filter_map (ended p.epoch) (note ∷ notes))
-    more = by (ended p.epoch note)
-      where
-        by : (o : Option ℕ)
-            → greatest (filter_map (ended p.epoch) notes)
-            ≤ greatest (cons_option o (filter_map (ended p.epoch) notes))
-        by None = omega arith
-        by (Some n) = omega arith
+pub certify_left : (hash : List ℕ → Digest32) (t : Known) (v : Vote)
+    → owes_cert hash t v ≡ true → not (can_certify t v) ≡ false
+certify_left hash t v h = ap not (sym (owes_certify hash t v) ∙ h)
 
-    here : (n : Note) → is_certified p n ≡ true
-        → p.view ≤ greatest (cons_option (ended p.epoch n) (filter_map (ended p.epoch) notes))
-    here (Note.Block c b) e = cc
-    here (Note.Verified e w c) f = cc
-    here (Note.Certified q) e =
-        subst
-        (λ (x : Proposal). p.view
-        ≤ greatest
-        (cons_option (if x.epoch == p.epoch then Some x.view else None)
-        (filter_map (ended p.epoch) notes)))
-        (same_proposal-true p q e)
-        (rw (same p.epoch) (omega arith))
-    here (Note.Vote w) e = cc
-    here (Note.Cert s) e = cc
-    here (Note.Ack n) e = cc
-    here (Note.Floor n) e = cc
-    here (Note.Prune n) e = cc
-    here (Note.Epoch e c) f = cc
-
-    go : (b : Bool) → is_certified p note ≡ b → (b || has_certified notes p) ≡ true
-        → (has_certified notes p ≡ true → p.view ≤ greatest (filter_map (ended p.epoch) notes))
-        → p.view ≤ greatest (filter_map (ended p.epoch) (note ∷ notes))
-    go true e k rest = here note e
-    go false e k rest = let a = rest k in let b = more in omega (arith, a, b)
-
--- what is certified is of no view that the member is in
-viewed_left : (x : Epochs) (id : ℕ) (notes : List Note) (p : Proposal)
-    → (p.view == view_of notes p.epoch) ≡ true → owes_nothing x id notes p ≡ false
-viewed_left x id notes p h =
-    go (eqb-true p.view (view_of notes p.epoch) h) (has_certified notes p) refl
-  where
-    go : p.view ≡ view_of notes p.epoch → (b : Bool) → has_certified notes p ≡ b
-        → owes_nothing x id notes p ≡ false
-    go view true e = let over = certified_over notes p e in absurd (omega (arith, over, view))
-    go view false e =
-        ap (λ b. b && not (is_member x p.epoch id && not (has_closed notes p.epoch p.view))) e
-
-pub notarize_left : (r : Rules) (id : ℕ) (s : State) (p : Proposal)
-    → is_some (notarize_owed r id s p) ≡ true → owes_nothing r.epochs id s.notes p ≡ false
-notarize_left r id s p h =
-    viewed_left r.epochs id s.notes p
-    (second (p.epoch == epoch_of s.notes) (p.view == view_of s.notes p.epoch)
-    (is_member r.epochs p.epoch id)
-    (list_any (is_single (leader r.epochs p.epoch p.view) (Notarize p)) s.came.ballots)
-    (not (has_voted s.notes p.epoch p.view))
-    (option_map_or (is_ready r id s p) (settled (genesis_commitment r) s.notes p.epoch p.parent)
-    false)
-    (all_nullified s.notes p.epoch p.parent p.view) (sym (notarize_where r id s p) ∙ h))
-  where
-    second : (a b c d e f g : Bool) → (a && b && c && d && e && f && g) ≡ true → b ≡ true
-    second true true c d e f g k = refl
-    second true false c d e f g k = cc
-    second false b c d e f g k = cc
-
-pub votable_left : (t : Known) (p : Proposal) → is_votable t p ≡ true
-    → owes_nothing t.epochs t.id t.notes p ≡ false
-unfolding is_votable is_turn
-votable_left t p h =
-    viewed_left t.epochs t.id t.notes p
-    (second (p.epoch == epoch_of t.notes) (p.view == view_of t.notes p.epoch)
-    (is_member t.epochs p.epoch t.id)
-    (list_any (is_single (leader t.epochs p.epoch p.view) (Notarize p)) t.ballots)
-    (not (has_voted t.notes p.epoch p.view))
-    (all_nullified t.notes p.epoch p.parent p.view) h)
-  where
-    second : (a b c d e f : Bool) → ((a && b && c && d && e) && f) ≡ true → b ≡ true
-    second true true c d e f k = refl
-    second true false c d e f k = cc
-    second false b c d e f k = cc
-
-pub finalize_left : (r : Rules) (id : ℕ) (s : State) (p : Proposal)
-    → is_some (finalize_owed r id s p) ≡ true → owes_nothing r.epochs id s.notes p ≡ false
-finalize_left r id s p h =
-    by (has_certified s.notes p) (is_member r.epochs p.epoch id)
-    (not (has_closed s.notes p.epoch p.view)) (sym (finalize_where r id s p) ∙ h)
-  where
-    by : (a b c : Bool) → (a && b && c) ≡ true → (a && not (b && c)) ≡ false
-    by true true true k = refl
-    by true true false k = cc
-    by true false c k = cc
-    by false b c k = refl
-
-pub owes_notarize_left : (hash : List ℕ → Digest32) (t : Known) (p : Proposal)
-    → owes_notarize hash t p ≡ true → owes_nothing t.epochs t.id t.notes p ≡ false
-unfolding owes_notarize
-owes_notarize_left hash t p h = notarize_left (vote_rules hash t.epochs) t.id (known_state t) p h
-
-pub owes_finalize_left : (hash : List ℕ → Digest32) (t : Known) (p : Proposal)
-    → owes_finalize hash t p ≡ true → owes_nothing t.epochs t.id t.notes p ≡ false
+pub finalize_left : (hash : List ℕ → Digest32) (t : Known) (p : Proposal)
+    → owes_finalize hash t p ≡ true → not (is_open t.epochs t.id t.notes p) ≡ false
 unfolding owes_finalize
-owes_finalize_left hash t p h = finalize_left (vote_rules hash t.epochs) t.id (known_state t) p h
+finalize_left hash t p h =
+    by (has_certified t.notes p) (is_member t.epochs p.epoch t.id)
+    (not (has_closed t.notes p.epoch p.view)) (has_cert t.notes (Notarize p))
+    (sym (finalize_where (vote_rules hash t.epochs) t.id (known_state t) p) ∙ h)
+  where
+    by : (a b c d : Bool) → (a && b && c) ≡ true → not (if a then b && c else d) ≡ false
+    by true true true d k = refl
+    by true true false d k = cc
+    by true false c d k = cc
+    by false b c d k = cc
 
 pub uncertified_left : (x : Epochs) (id : ℕ) (notes : List Note) (p : Proposal)
-    → is_uncertified notes p ≡ true → owes_nothing x id notes p ≡ false
+    → is_uncertified notes p ≡ true → not (is_open x id notes p) ≡ false
 uncertified_left x id notes p h =
-    ap (λ b. b && not (is_member x p.epoch id && not (has_closed notes p.epoch p.view)))
-    (not_false (has_certified notes p)
-    (and_parts (has_cert notes (Notarize p)) (not (has_certified notes p)) h).1)
-
--- ---- what is done stays done
-
-cert_more : (notes : List Note) (note : Note) (v : Vote) → has_cert notes v ≡ true
-    → has_cert (notes ++ note ∷ []) v ≡ true
-cert_more notes note v h =
-    list_any-append (is_cert v) notes (note ∷ [])
-    ∙ ap (λ b. b || list_any (is_cert v) (note ∷ [])) h
-
-done_more : (x : Epochs) (id : ℕ) (notes : List Note) (note : Note) (p : Proposal)
-    → owes_nothing x id notes p ≡ true → owes_nothing x id (notes ++ note ∷ []) p ≡ true
-done_more x id notes note p h =
-    ap
-    (λ b. b
-    && not (is_member x p.epoch id && not (has_closed (notes ++ note ∷ []) p.epoch p.view)))
-    (list_any-append (is_certified p) notes (note ∷ []))
-    ∙ (ap
-    (λ b. (has_certified notes p || list_any (is_certified p) (note ∷ []))
-    && not (is_member x p.epoch id && not b))
-    (list_any-append (closes p.epoch p.view) notes (note ∷ []))
-    ∙ by (has_certified notes p) (list_any (is_certified p) (note ∷ []))
-    (is_member x p.epoch id) (has_closed notes p.epoch p.view)
-    (list_any (closes p.epoch p.view) (note ∷ [])) h)
+    by (has_certified notes p) (has_cert notes (Notarize p))
+    (is_member x p.epoch id && not (has_closed notes p.epoch p.view)) h
   where
-    by : (a e m c f : Bool) → (a && not (m && not c)) ≡ true
-        → ((a || e) && not (m && not (c || f))) ≡ true
-    by true e true true f k = refl
-    by true e true false f k = cc
-    by true e false c f k = refl
-    by false e m c f k = cc
+    by : (a c m : Bool) → (c && not a) ≡ true → not (if a then m else c) ≡ false
+    by true true m k = cc
+    by true false m k = cc
+    by false true m k = refl
+    by false false m k = cc
 
 -- ---- by what a map says
 
@@ -204,112 +95,250 @@ module _ (x : Epochs) (id : ℕ) (notes : List Note) (said : List (VoteKey × Bo
   certified_by : (p : Proposal) → said_at (keyed 3 p) said ≡ has_certified notes p
   certified_by p = has (keyed 3 p) ∙ said_certified p notes
 
-  done_by : (p : Proposal) → is_done_by x id said p ≡ owes_nothing x id notes p
-  done_by p =
+  pub open_by : (p : Proposal) → is_open_by x id said p ≡ is_open x id notes p
+  open_by p =
       ap
-      (λ b. b
-      && not (is_member x p.epoch id && not (said_at (in_view 5 p.epoch p.view) said)))
+      (λ b. if b then is_member x p.epoch id && not (said_at (in_view 5 p.epoch p.view) said)
+      else said_at (keyed 0 p) said)
       (certified_by p)
-      ∙ ap (λ b. has_certified notes p && not (is_member x p.epoch id && not b))
+      ∙ (ap
+      (λ b. if has_certified notes p then is_member x p.epoch id && not b
+      else said_at (keyed 0 p) said)
       (has (in_view 5 p.epoch p.view) ∙ said_closed p.epoch p.view notes)
+      ∙ ap
+      (λ b. if has_certified notes p
+      then is_member x p.epoch id && not (has_closed notes p.epoch p.view) else b)
+      (cert_by (Notarize p)))
 
   pub uncertified_by : (p : Proposal) → is_uncertified_by said p ≡ is_uncertified notes p
   uncertified_by p =
       ap (λ b. b && not (said_at (keyed 3 p) said)) (cert_by (Notarize p))
       ∙ ap (λ b. has_cert notes (Notarize p) && not b) (certified_by p)
 
-  -- ---- the lists, with one more
+-- ---- with one note more
 
-  votes_left : (old xs new : List Vote) (was : List Note) (o : Option Vote)
-      → ((v : Vote) → has_cert was v ≡ true → has_cert notes v ≡ true)
-      → old ≡ undone same_vote (has_cert was) xs
-      → new ≡ filter (λ v. not (said_at (key_of v) said)) (with_named same_vote old o)
-      → new ≡ undone same_vote (has_cert notes) (xs ++ cons_option o [])
-  votes_left old xs new was o h e f =
-      f
-      ∙ (filter_same_test (λ v. not (said_at (key_of v) said)) (λ v. not (has_cert notes v))
-      (λ v. ap not (cert_by v)) (with_named same_vote old o)
-      ∙ taken_named same_vote same_vote-true (has_cert was) (has_cert notes) h old xs o e)
+module _ (x : Epochs) (id : ℕ) (notes : List Note) (note : Note) where
+  abbrev more : List Note
+  more = notes ++ note ∷ []
 
-  proposals_left : (old xs new : List Proposal) (was : List Note) (o : Option Proposal)
-      → ((p : Proposal) → owes_nothing x id was p ≡ true → owes_nothing x id notes p ≡ true)
-      → old ≡ undone same_proposal (owes_nothing x id was) xs
-      → new ≡ filter (λ p. not (is_done_by x id said p)) (with_named same_proposal old o)
-      → new ≡ undone same_proposal (owes_nothing x id notes) (xs ++ cons_option o [])
-  proposals_left old xs new was o h e f =
-      f
-      ∙ (filter_same_test (λ p. not (is_done_by x id said p)) (λ p. not (owes_nothing x id notes p))
-      (λ p. ap not (done_by p)) (with_named same_proposal old o)
-      ∙ taken_named same_proposal same_proposal-true (owes_nothing x id was)
-      (owes_nothing x id notes) h old
-      xs o e)
+  -- of a proposal that the note doesn't name no more is owed
+  open_less : (q : Proposal)
+      → ((p : Proposal) → note_proposal note ≡ Some p → same_proposal p q ≡ false)
+      → (is_open x id notes q && is_open x id more q) ≡ is_open x id more q
+  open_less q e =
+      rw (
+        none_more (is_certified q) notes note (not_certified note e),
+        none_more (is_cert (Notarize q)) notes note (not_cert note e),
+        list_any-append (closes q.epoch q.view) notes (note ∷ []),
+      )
+      (by (has_certified notes q) (has_cert notes (Notarize q)) (is_member x q.epoch id)
+      (has_closed notes q.epoch q.view) (list_any (closes q.epoch q.view) (note ∷ [])))
+    where
+      not_certified : (n : Note)
+          → ((p : Proposal) → note_proposal n ≡ Some p → same_proposal p q ≡ false)
+          → is_certified q n ≡ false
+      not_certified (Note.Certified p) k = go (same_proposal q p) refl
+        where
+          go : (b : Bool) → same_proposal q p ≡ b → b ≡ false
+          go false l = refl
+          go true l =
+              absurd
+              (false≢true
+              (sym (k p refl)
+              ∙ (ap (λ y. same_proposal p y) (same_proposal-true q p l) ∙ same_proposal_self p)))
+      not_certified _ k = refl
 
-map_more : {X Y : Type 0} (f : X → Y) (xs : List X) (x : X)
-    → map f (xs ++ x ∷ []) ≡ map f xs ++ f x ∷ []
-map_more f [] x = refl
-map_more f (y ∷ ys) x = ap (λ zs. f y ∷ zs) (map_more f ys x)
+      not_cert : (n : Note)
+          → ((p : Proposal) → note_proposal n ≡ Some p → same_proposal p q ≡ false)
+          → is_cert (Notarize q) n ≡ false
+      not_cert (Note.Cert s) k = go (same_vote (Notarize q) s.vote) refl
+        where
+          go : (b : Bool) → same_vote (Notarize q) s.vote ≡ b → b ≡ false
+          go false l = refl
+          go true l =
+              absurd
+              (false≢true
+              (sym (k q (ap proposal_of (sym (same_vote-true (Notarize q) s.vote l))))
+              ∙ same_proposal_self q))
+      not_cert _ k = refl
 
--- something came that names a vote
-pub came_waiting : (x : Epochs) (id : ℕ) (notes : List Note) (ballots : List Ballot) (b : Ballot)
-    (v : Vote) (said : List (VoteKey × Bool)) (vc vn vc' : List Vote) (pc pn pc' : List Proposal)
-    → HasSaid notes said → AreWaiting x id notes ballots vc vn pc pn → ballot_vote b ≡ v
-    → vc' ≡ filter (λ v. not (said_at (key_of v) said)) (with_named same_vote vc (Some v))
-    → pc'
-    ≡ filter (λ p. not (is_done_by x id said p)) (with_named same_proposal pc (proposal_of v))
-    → AreWaiting x id notes (ballots ++ b ∷ []) vc' vn pc' pn
-came_waiting x id notes ballots b v said vc vn vc' pc pn pc' has are is e f = record {
-  votes_of_came =
-      votes_left x id notes said has vc (map ballot_vote ballots) vc' notes (Some v) (λ w h. h)
-      are.votes_of_came e
-      ∙ ap (undone same_vote (has_cert notes))
-      (ap (λ w. map ballot_vote ballots ++ w ∷ []) (sym is)
-      ∙ sym (map_more ballot_vote ballots b));
-  votes_of_notes = are.votes_of_notes;
-  of_came =
-      proposals_left x id notes said has pc (filter_map (λ a. proposal_of (ballot_vote a)) ballots)
-      pc' notes (proposal_of v) (λ w h. h) are.of_came f
-      ∙ ap (undone same_proposal (owes_nothing x id notes))
-      (ap
-      (λ w. filter_map (λ a. proposal_of (ballot_vote a)) ballots
-      ++ cons_option (proposal_of w) [])
-      (sym is)
-      ∙ sym (filter_map-append (λ a. proposal_of (ballot_vote a)) ballots (b ∷ [])));
-  of_notes = are.of_notes;
-}
+      by : (a c m k f : Bool)
+          → ((if a then m && not k else c) && (if a then m && not (k || f) else c))
+          ≡ (if a then m && not (k || f) else c)
+      by true c true true f = refl
+      by true c true false f = refl
+      by true c false k f = refl
+      by false true m k f = refl
+      by false false m k f = refl
 
--- a note came
-pub note_waiting : (x : Epochs) (id : ℕ) (notes : List Note) (ballots : List Ballot) (note : Note)
-    (said : List (VoteKey × Bool)) (vc vn vc' vn' : List Vote) (pc pn pc' pn' : List Proposal)
-    → HasSaid (notes ++ note ∷ []) said → AreWaiting x id notes ballots vc vn pc pn
-    → vc' ≡ filter (λ v. not (said_at (key_of v) said)) vc
-    → vn'
-    ≡ filter (λ v. not (said_at (key_of v) said)) (with_named same_vote vn (note_vote note))
-    → pc' ≡ filter (λ p. not (is_done_by x id said p)) pc
-    → pn'
-    ≡ filter (λ p. not (is_done_by x id said p))
-    (with_named same_proposal pn (note_proposal note))
-    → AreWaiting x id (notes ++ note ∷ []) ballots vc' vn' pc' pn'
-note_waiting x id notes ballots note said vc vn vc' vn' pc pn pc' pn' has are e f g h = record {
-  votes_of_came =
-      votes_left x id now said has vc (map ballot_vote ballots) vc' notes None
-      (cert_more notes note) are.votes_of_came e
-      ∙ ap (undone same_vote (has_cert now)) (append_nil (map ballot_vote ballots));
-  votes_of_notes =
-      votes_left x id now said has vn (filter_map note_vote notes) vn' notes (note_vote note)
-      (cert_more notes note) are.votes_of_notes f
-      ∙ ap (undone same_vote (has_cert now))
-      (sym (filter_map-append note_vote notes (note ∷ [])));
-  of_came =
-      proposals_left x id now said has pc (filter_map (λ a. proposal_of (ballot_vote a)) ballots)
-      pc' notes None (done_more x id notes note) are.of_came g
-      ∙ ap (undone same_proposal (owes_nothing x id now))
-      (append_nil (filter_map (λ a. proposal_of (ballot_vote a)) ballots));
-  of_notes =
-      proposals_left x id now said has pn (filter_map note_proposal notes) pn' notes
-      (note_proposal note) (done_more x id notes note) are.of_notes h
-      ∙ ap (undone same_proposal (owes_nothing x id now))
-      (sym (filter_map-append note_proposal notes (note ∷ [])));
-}
+  -- what is open of the proposal that it names, or was and is of another
+  pub open_more : (said : List (VoteKey × Bool)) → HasSaid more said → (q : Proposal)
+      → (was_but (is_open x id notes) (is_open x id more) (note_proposal note) q
+      && is_open_by x id said q)
+      ≡ is_open x id more q
+  open_more said has q =
+      ap (λ b. was_but (is_open x id notes) (is_open x id more) (note_proposal note) q && b)
+      (open_by x id more said has q)
+      ∙ go (note_proposal note) refl
+    where
+      twice : (b : Bool) → (b && b) ≡ b
+      twice true = refl
+      twice false = refl
+
+      go : (o : Option Proposal) → note_proposal note ≡ o
+          → (was_but (is_open x id notes) (is_open x id more) o q && is_open x id more q)
+          ≡ is_open x id more q
+      go None e =
+          open_less q
+          (λ p k. let f : ◌≡◌ {A = Option Proposal} None (Some p) = sym e ∙ k in cc)
+      go (Some p) e = by (same_proposal p q) refl
+        where
+          by : (b : Bool) → same_proposal p q ≡ b
+              → ((if b then is_open x id more q else is_open x id notes q) && is_open x id more q)
+              ≡ is_open x id more q
+          by true l = twice (is_open x id more q)
+          by false l =
+              open_less q
+              (λ r k.
+              let f : ◌≡◌ {A = Option Proposal} (Some p) (Some r) = sym e ∙ k in
+              let g : p ≡ r = cc in
+              subst (λ y. same_proposal y q ≡ false) g l)
+
+-- ---- a view's proposals
+
+-- a votable proposal is of the member's view
+votable_in : (t : Known) (p : Proposal) → is_votable t p ≡ true
+    → is_in (epoch_of t.notes) (view_of t.notes (epoch_of t.notes)) p ≡ true
+unfolding is_votable is_turn
+votable_in t p h =
+    go
+    (parts (p.epoch == epoch_of t.notes) (p.view == view_of t.notes p.epoch)
+    (is_member t.epochs p.epoch t.id)
+    (list_any (is_single (leader t.epochs p.epoch p.view) (Notarize p)) t.ballots)
+    (not (has_voted t.notes p.epoch p.view))
+    (all_nullified t.notes p.epoch p.parent p.view) h)
   where
-    now : List Note
-    now = notes ++ note ∷ []
+    parts : (a b c d e f : Bool) → ((a && b && c && d && e) && f) ≡ true
+        → (a ≡ true) × (b ≡ true)
+    parts true true c d e f k = (refl, refl)
+    parts true false c d e f k = cc
+    parts false b c d e f k = cc
+
+    go : ((p.epoch == epoch_of t.notes) ≡ true) × ((p.view == view_of t.notes p.epoch) ≡ true)
+        → is_in (epoch_of t.notes) (view_of t.notes (epoch_of t.notes)) p ≡ true
+    go (a, b) =
+        ap (λ c. c && (p.view == view_of t.notes (epoch_of t.notes))) a
+        ∙ subst (λ e. (p.view == view_of t.notes e) ≡ true)
+        (eqb-true p.epoch (epoch_of t.notes) a) b
+
+-- and what came names it
+single_named : (i : ℕ) (p : Proposal) (ballots : List Ballot)
+    → list_any (is_single i (Notarize p)) ballots ≡ true
+    → list_any (same_proposal p) (came_proposals ballots) ≡ true
+single_named i p [] h = cc
+single_named i p (b ∷ ballots) h =
+    go b (is_single i (Notarize p) b) refl h (single_named i p ballots)
+  where
+    rest : (o : Option Proposal)
+        → list_any (same_proposal p) (came_proposals ballots) ≡ true
+        → list_any (same_proposal p) (cons_option o (came_proposals ballots)) ≡ true
+    rest None k = k
+    rest (Some q) k = by (same_proposal p q)
+      where
+        by : (c : Bool) → (c || list_any (same_proposal p) (came_proposals ballots)) ≡ true
+        by true = refl
+        by false = k
+
+    here : (b : Ballot) → is_single i (Notarize p) b ≡ true
+        → list_any (same_proposal p)
+        (cons_option (proposal_of (ballot_vote b)) (came_proposals ballots))
+        ≡ true
+    here (Many s) k = cc
+    here (Single j v) k =
+        let same = and_parts (i == j) (same_vote (Notarize p) v) k in
+        subst
+        (λ w. list_any (same_proposal p) (cons_option (proposal_of w) (came_proposals ballots))
+        ≡ true)
+        (same_vote-true (Notarize p) v same.1)
+        (ap (λ c. c || list_any (same_proposal p) (came_proposals ballots)) (same_proposal_self p))
+
+    go : (b : Ballot) (c : Bool) → is_single i (Notarize p) b ≡ c
+        → (c || list_any (is_single i (Notarize p)) ballots) ≡ true
+        → (list_any (is_single i (Notarize p)) ballots ≡ true
+        → list_any (same_proposal p) (came_proposals ballots) ≡ true)
+        → list_any (same_proposal p) (came_proposals (b ∷ ballots)) ≡ true
+    go b true e k next = here b e
+    go b false e k next = rest (proposal_of (ballot_vote b)) (next k)
+
+votable_named : (t : Known) (p : Proposal) → is_votable t p ≡ true
+    → list_any (same_proposal p) (came_proposals t.ballots) ≡ true
+unfolding is_votable is_turn
+votable_named t p h =
+    single_named (leader t.epochs p.epoch p.view) p t.ballots
+    (fourth (p.epoch == epoch_of t.notes) (p.view == view_of t.notes p.epoch)
+    (is_member t.epochs p.epoch t.id)
+    (list_any (is_single (leader t.epochs p.epoch p.view) (Notarize p)) t.ballots)
+    (not (has_voted t.notes p.epoch p.view))
+    (all_nullified t.notes p.epoch p.parent p.view) h)
+  where
+    fourth : (a b c d e f : Bool) → ((a && b && c && d && e) && f) ≡ true → d ≡ true
+    fourth true true true true e f k = refl
+    fourth true true true false e f k = cc
+    fourth true true false d e f k = cc
+    fourth true false c d e f k = cc
+    fourth false b c d e f k = cc
+
+-- a vote to notarize is owed of a votable one
+pub notarize_votable : (hash : List ℕ → Digest32) (t : Known) (p : Proposal)
+    → owes_notarize hash t p ≡ (is_votable t p && can_vote_for hash t p)
+unfolding can_vote_for is_turn is_votable owes_notarize
+notarize_votable hash t p =
+    notarize_where (vote_rules hash t.epochs) t.id (known_state t) p
+    ∙ payload_last (is_turn t p) (can_vote_for hash t p)
+    (all_nullified t.notes p.epoch p.parent p.view)
+
+-- what is listed of the member's view
+pub listed_here : (t : Known) (entries : List (VoteKey × Vec Proposal Global)) (epoch view : ℕ)
+    → epoch ≡ epoch_of t.notes → view ≡ view_of t.notes epoch
+    → listed_at (in_view 9 epoch view) entries
+    ≡ listed_at (in_view 9 (epoch_of t.notes) (view_of t.notes (epoch_of t.notes))) entries
+listed_here t entries epoch view e f =
+    ap (λ v. listed_at (in_view 9 epoch v) entries) f
+    ∙ ap (λ n. listed_at (in_view 9 n (view_of t.notes n)) entries) e
+
+module _ (t : Known) (entries : List (VoteKey × Vec Proposal Global))
+    (has : HasViews (came_proposals t.ballots) entries) where
+  abbrev here : List Proposal
+  here =
+      listed_at (in_view 9 (epoch_of t.notes) (view_of t.notes (epoch_of t.notes))) entries
+
+  -- the votable ones
+  pub votable_here : filter (is_votable t) here ≡ votable t
+  unfolding is_candidate
+  votable_here =
+      ap (filter (is_votable t)) (has (epoch_of t.notes) (view_of t.notes (epoch_of t.notes)))
+      ∙ (filter_through (is_votable t)
+      (is_in (epoch_of t.notes) (view_of t.notes (epoch_of t.notes))) (votable_in t)
+      (without_repeats same_proposal (came_proposals t.ballots))
+      ∙ pick_named same_proposal same_proposal-true (is_votable t) (came_proposals t.ballots)
+      (filter_map note_proposal t.notes) (votable_named t))
+
+  -- the first that a vote to notarize is owed of
+  pub notarize_here : (hash : List ℕ → Digest32)
+      → find (owes_notarize hash t) here
+      ≡ find (owes_notarize hash t) (named_proposals (known_state t))
+  notarize_here hash =
+      ap (find (owes_notarize hash t))
+      (has (epoch_of t.notes) (view_of t.notes (epoch_of t.notes)))
+      ∙ (find_through (owes_notarize hash t)
+      (is_in (epoch_of t.notes) (view_of t.notes (epoch_of t.notes)))
+      (λ p h. votable_in t p (turn p h))
+      (without_repeats same_proposal (came_proposals t.ballots))
+      ∙ find_named same_proposal same_proposal-true (owes_notarize hash t)
+      (came_proposals t.ballots) (filter_map note_proposal t.notes)
+      (λ p h. votable_named t p (turn p h)))
+    where
+      turn : (p : Proposal) → owes_notarize hash t p ≡ true → is_votable t p ≡ true
+      turn p h =
+          (and_parts (is_votable t p) (can_vote_for hash t p)
+          (sym (notarize_votable hash t p) ∙ h)).0

@@ -1,5 +1,5 @@
 -- The heights of noted blocks, by commitment, in place of a search.
-use Rattle.std.specs.Prelude.{ℕ, ◌&&◌, ◌+◌, ◌≡◌, List, None, Option, Some, if◌then◌else◌, max, option_map, true, unwrap_or}
+use Rattle.std.specs.Prelude.{ℕ, ◌+◌, ◌≡◌, List, None, Option, Some, max, option_map, true, unwrap_or}
 use Rattle.std.specs.Map.{lookup}
 use Rattle.std.specs.Option.{is_some, option_map_or}
 use Rattle.cw_types.specs.Same.{same_commitment}

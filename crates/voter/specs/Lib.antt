@@ -3,6 +3,8 @@ pub mod Facts
 pub mod Heights
 pub mod Kinds
 pub mod Known
+pub mod Lineup
+pub mod Lines
 pub mod Lists
 pub mod Owing
 pub mod Own
@@ -11,4 +13,5 @@ pub mod Sets
 pub mod Settled
 pub mod Signing
 pub mod Standing
+pub mod Views
 pub mod Waiting

@@ -10,7 +10,6 @@ use Rattle.cw_types.specs.Epochs.{Epochs, is_member, place, rises_from}
 use Rattle.cw_types.specs.Votes.{vote_epoch, well_formed}
 use Rattle.cw_types.specs.declared.commitment.Commitment.{Commitment}
 use Rattle.cw_types.specs.declared.note.Note.{Note}
-use Rattle.cw_types.specs.declared.vote.Proposal.{Proposal}
 use Rattle.cw_types.specs.declared.vote.Vote.{Vote}
 use Rattle.cw_rules.specs.Accepted.{Ballot, Came, Many, Single, State}
 use Rattle.cw_rules.specs.Direct.{best_parent}
@@ -26,6 +25,7 @@ use Rattle.voter.specs.Own.{HasOwn}
 use Rattle.voter.specs.Signing.{HaveSigners}
 use Rattle.voter.specs.Waiting.{AreWaiting}
 use Rattle.voter.specs.declared.facts.Facts.{Facts}
+use Rattle.voter.specs.declared.waiting.Waiting.{Waiting}
 use Rattle.note_scans.specs.declared.key.VoteKey.{VoteKey}
 use Rattle.voter.specs.declared.own.OwnChunk.{OwnChunk}
 
@@ -55,13 +55,11 @@ is_signed x (Single i v) = true
 is_signed x (Many s) = are_signers x s.vote s.signers
 
 -- what a tally holds may be counted, its sets are those of the signers, its maps say what the notes
--- say, and its lists have what isn't done
+-- say, and its lists have what waits
 pub record IsTally (epochs : Epochs) (id : ℕ) (notes : List Note) (ballots : List Ballot)
     (came known : List (VoteKey × BTreeSet ℕ)) (said : Facts) (first : List (VoteKey × ℕ))
     (lists : List (VoteKey × BTreeSet (Vec ℕ Global)))
-    (own : List OwnChunk) (own_keys : List (VoteKey × Bool))
-    (votes_came votes_noted : List Vote) (proposals_came proposals_noted : List Proposal)
-    : Type 0 where
+    (own : List OwnChunk) (own_keys : List (VoteKey × Bool)) (lines : Waiting) : Type 0 where
   pub countable : IsTrue (list_all is_countable notes)
   pub formed : IsTrue (list_all is_formed ballots)
   pub signed : IsTrue (list_all (is_signed epochs) ballots)
@@ -70,8 +68,8 @@ pub record IsTally (epochs : Epochs) (id : ℕ) (notes : List Note) (ballots : L
   pub places : HasFirst ballots first
   pub listed : HasLists ballots lists
   pub owned : HasOwn own own_keys
-  pub waiting : AreWaiting epochs id notes ballots votes_came votes_noted proposals_came
-      proposals_noted
+  pub waiting : AreWaiting
+      (record { epochs = epochs; id = id; notes = notes; ballots = ballots; own = own }) lines
 
 -- the member once that came
 abbrev pub with_came : State → Came → State

@@ -31,15 +31,7 @@ impl<H> Tally<H> {
         ensures { option_map (λ signers. signers.now.keys) result
             ≡ known_signers self.now vote.now }
     {
-        // A committee rises, and so does a set, which is asked for its order by its length.
-        let _members = self.committees.members(vote.epoch());
-        match self.index.known.get(vote) {
-            Some(signers) => {
-                let _count = signers.len();
-                Some(signers)
-            }
-            None => None,
-        }
+        self.index.signers(&self.committees, vote)
     }
 
     // Whether this vote of that member came.
@@ -48,18 +40,6 @@ impl<H> Tally<H> {
         ensures same { result ≡ list_any (same_ballot (Single member vote.now)) self.now.ballots }
     {
         self.index.came.has(vote, member)
-    }
-
-    // How many members are known to have signed the vote.
-    fn count_known(&self, vote: &Vote) -> usize
-        ensures { result ≡ length
-            (filter (rule.knows self.now.id (known_state self.now) vote.now)
-            (members_in self.now.epochs (vote_epoch vote.now))) }
-    {
-        match self.signers(vote) {
-            Some(signers) => signers.len(),
-            None => 0,
-        }
     }
 
     // The members that are known to have signed the vote, rising.
@@ -77,31 +57,6 @@ impl<H> Tally<H> {
         }
     }
 
-    // Whether a certificate of the vote is noted.
-    pub(crate) fn has_cert(&self, vote: &Vote) -> bool
-        ensures { result ≡ has_cert self.now.notes vote.now }
-    {
-        self.index.facts.said.has_cert(vote)
-    }
-
-    // Whether no certificate of the vote is noted, and one came or a quorum is known.
-    fn is_certifiable(&self, vote: &Vote) -> bool
-        ensures { result ≡ (not (has_cert self.now.notes vote.now)
-            && (is_some (find (is_cert_for vote.now) self.now.ballots)
-            || is_enough self.now.epochs (vote_epoch vote.now)
-            (length (filter (rule.knows self.now.id (known_state self.now) vote.now)
-            (members_in self.now.epochs (vote_epoch vote.now)))))) }
-    {
-        !self.has_cert(vote) && (self.has_arrived(vote) || self.is_signed(vote))
-    }
-
-    // Whether a certificate of the vote came.
-    fn has_arrived(&self, vote: &Vote) -> bool
-        ensures { result ≡ is_some (find (is_cert_for vote.now) self.now.ballots) }
-    {
-        self.index.certs.place(vote).is_some()
-    }
-
     // The first certificate of the vote that came.
     fn first_cert(&self, vote: &Vote) -> Option<&Ballot>
         ensures { option_map (λ ballot. ballot.now) result
@@ -112,16 +67,6 @@ impl<H> Tally<H> {
             None => None,
         }
     }
-
-    // Whether enough members of its epoch are known to have signed the vote.
-    fn is_signed(&self, vote: &Vote) -> bool
-        ensures { result ≡ is_enough self.now.epochs (vote_epoch vote.now)
-            (length (filter (rule.knows self.now.id (known_state self.now) vote.now)
-            (members_in self.now.epochs (vote_epoch vote.now)))) }
-    {
-        self.committees
-            .is_enough(vote.epoch(), self.count_known(vote))
-    }
 }
 
 impl<H: Hasher<Digest = Digest32>> Tally<H> {
@@ -129,7 +74,7 @@ impl<H: Hasher<Digest = Digest32>> Tally<H> {
     fn owes_cert(&self, vote: &Vote) -> bool
         ensures { result ≡ owing.owes_cert H.digest_of self.now vote.now }
     {
-        self.is_certifiable(vote)
+        self.index.can_certify(&self.committees, vote)
     }
 
     // The first vote of which a certificate is owed.
@@ -137,11 +82,13 @@ impl<H: Hasher<Digest = Digest32>> Tally<H> {
         ensures { result ≡ find (owing.owes_cert H.digest_of self.now)
             (rule.named_votes (known_state self.now)) }
     {
-        self.waiting
-            .votes_came
+        let votes = &self.waiting.votes;
+        votes
+            .came
+            .waiting
             .iter()
-            .copied()
-            .chain(self.waiting.votes_noted.iter().copied())
+            .map(|at| at.1)
+            .chain(votes.noted.waiting.iter().map(|at| at.1))
             .find(|vote| self.owes_cert(vote))
     }
 

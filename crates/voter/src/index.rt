@@ -1,27 +1,33 @@
 //! What a tally looks up in place of searches: who signed what, and what notes say.
 
 ghost use Rattle.std.specs.Prelude.{◌≡◌, ◌++◌, ◌∷◌, [], ℕ, IsTrue, List, OnErr, OnOk, false};
-ghost use Rattle.std.specs.Prelude.{option_map};
+ghost use Rattle.std.specs.Prelude.{Some, filter, length, option_map};
 ghost use Rattle.std.specs.List.{list_any};
 ghost use Rattle.cw_rules.specs.Accepted.{Ballot as BallotValue, Single};
+ghost use Rattle.cw_rules.specs.Owed as rule;
 ghost use Rattle.cw_rules.specs.Owed.{is_single};
-ghost use Rattle.cw_types.specs.Epochs.{Epochs, is_member};
+ghost use Rattle.cw_types.specs.Epochs.{Epochs, is_member, members_in};
 ghost use Rattle.cw_types.specs.Votes.{vote_epoch};
 ghost use Rattle.cw_types.specs.declared.note.Note.{Note as NoteValue};
+ghost use Rattle.cw_types.specs.declared.vote.Vote.{Vote as VoteValue};
 ghost use Rattle.note_scans.specs.Countable.{is_countable};
 ghost use Rattle.voter.specs.Certs.{HasFirst};
-ghost use Rattle.voter.specs.Facts.{HaveFacts};
+ghost use Rattle.voter.specs.Facts.{HasSaid, HaveFacts};
+ghost use Rattle.voter.specs.Known.{Known, known_signers, known_state};
 ghost use Rattle.voter.specs.Lists.{HasLists};
 ghost use Rattle.voter.specs.Own.{HasOwn};
 ghost use Rattle.voter.specs.Signing.{HaveSigners, counted_vote};
+ghost use Rattle.voter.specs.Waiting.{can_certify};
 
 use crate::cert_places::Certs;
 use crate::facts::Facts;
 use crate::own_keys::OwnKeys;
 use crate::signer_sets::SignerSets;
 use cw_base::NoMemory;
-use cw_types::{Note, Vote};
+use cw_types::{Committees, Note, Vote};
+use note_scans::vote_of;
 use std::alloc::Global;
+use std::collections::BTreeSet;
 
 /// Who signed each vote that came, and the members that are known to have signed each vote. The two
 /// differ by the votes that the member noted, and by those of strangers. And what the notes say.
@@ -124,6 +130,67 @@ impl Index {
                 Ok(())
             }
             None => self.facts.take(note),
+        }
+    }
+
+    /// The members of its epoch that are known to have signed a vote, rising, if there are some.
+    pub(crate) fn signers(&self, committees: &Committees, vote: &Vote) -> Option<&BTreeSet<u16>>
+        ensures { (t : Known) → t.epochs ≡ committees.now
+            → HaveSigners t.epochs t.id t.notes t.ballots self.now.came.by_vote.entries
+            self.now.known.by_vote.entries
+            → option_map (λ signers. signers.now.keys) result ≡ known_signers t vote.now }
+    {
+        // A committee rises, and so does a set, which is asked for its order by its length.
+        let _members = committees.members(vote.epoch());
+        match self.known.get(vote) {
+            Some(signers) => {
+                let _count = signers.len();
+                Some(signers)
+            }
+            None => None,
+        }
+    }
+
+    // How many members are known to have signed the vote.
+    fn count_known(&self, committees: &Committees, vote: &Vote) -> usize
+        ensures { (t : Known) → t.epochs ≡ committees.now
+            → HaveSigners t.epochs t.id t.notes t.ballots self.now.came.by_vote.entries
+            self.now.known.by_vote.entries
+            → result ≡ length (filter (rule.knows t.id (known_state t) vote.now)
+            (members_in t.epochs (vote_epoch vote.now))) }
+    {
+        match self.signers(committees, vote) {
+            Some(signers) => signers.len(),
+            None => 0,
+        }
+    }
+
+    /// Whether no certificate of the vote is noted, and one came or a quorum is known.
+    pub(crate) fn can_certify(&self, committees: &Committees, vote: &Vote) -> bool
+        ensures { (t : Known) → t.epochs ≡ committees.now
+            → HaveSigners t.epochs t.id t.notes t.ballots self.now.came.by_vote.entries
+            self.now.known.by_vote.entries
+            → HasSaid t.notes self.now.facts.said.by_key.entries
+            → HasFirst t.ballots self.now.certs.first.entries
+            → result ≡ can_certify t vote.now }
+    {
+        !self.facts.said.has_cert(vote)
+            && (self.certs.place(vote).is_some()
+                || committees.is_enough(vote.epoch(), self.count_known(committees, vote)))
+    }
+
+    /// The same of the vote that a note names, if it names one.
+    pub(crate) fn certifies(&self, committees: &Committees, note: &Note) -> bool
+        ensures { (t : Known) → t.epochs ≡ committees.now
+            → HaveSigners t.epochs t.id t.notes t.ballots self.now.came.by_vote.entries
+            self.now.known.by_vote.entries
+            → HasSaid t.notes self.now.facts.said.by_key.entries
+            → HasFirst t.ballots self.now.certs.first.entries
+            → (v : VoteValue) → rule.note_vote note.now ≡ Some v → result ≡ can_certify t v }
+    {
+        match vote_of(note) {
+            Some(vote) => self.can_certify(committees, &vote),
+            None => false,
         }
     }
 }

@@ -1,8 +1,7 @@
 //! What a tally tells of the rules.
 
-ghost use Rattle.std.specs.Prelude.{[], IsTrue, List, None, Some, find, option_map, true, ◌<◌, ◌≡◌};
+ghost use Rattle.std.specs.Prelude.{[], List, None, Some, find, option_map, true, ◌<◌, ◌≡◌};
 ghost use Rattle.std.specs.Prelude.{◌∷◌, ℕ};
-ghost use Rattle.std.specs.List.{list_all};
 ghost use Rattle.cw_base.specs.declared.hash.Digest32.{Digest32};
 ghost use Rattle.cw_types.specs.Block.{Block};
 ghost use Rattle.cw_types.specs.Commit.{genesis_commitment};
@@ -11,7 +10,6 @@ ghost use Rattle.cw_types.specs.Epochs.{place};
 ghost use Rattle.cw_types.specs.declared.commitment.Commitment.{Commitment};
 ghost use Rattle.cw_types.specs.declared.event.Handed.{Handed};
 ghost use Rattle.cw_types.specs.declared.note.Note.{Note};
-ghost use Rattle.cw_types.specs.declared.vote.Proposal.{Proposal};
 ghost use Rattle.cw_types.specs.declared.vote.Vote.{Vote as VoteValue};
 ghost use Rattle.cw_rules.specs.Accepted.{Ballot, Row, State, Whole, add_wish, first_some};
 ghost use Rattle.cw_rules.specs.Accepted.{take_ballot, take_part};
@@ -23,13 +21,9 @@ ghost use Rattle.cw_rules.specs.Owed as rule;
 ghost use Rattle.cw_rules.specs.Rules.{Chunk, Rules};
 ghost use Rattle.cw_rules.specs.declared.travel.Travel.TheVariants.{Chunked};
 ghost use Rattle.cw_rules.specs.Step.{nothing_came, with_handed, with_notes};
-ghost use Rattle.note_scans.specs.Countable.{is_countable};
 ghost use Rattle.voter.specs.Known.{Known, with_note, unknowing, with_ballot, with_own};
 ghost use Rattle.voter.specs.Owing as owing;
-ghost use Rattle.voter.specs.Standing.{IsTallyOf, best_from, is_formed, is_signed, with_came};
-
-use crate::tally::Tally;
-use cw_types::{Note, Proposal, Vote};
+ghost use Rattle.voter.specs.Standing.{IsTallyOf, best_from, with_came};
 
 /// What a tally owes is what the rules say that each member owes that it stands for, whatever the
 /// rules stand on and whatever else the member knows. Whether a block fits is the member's to say.
@@ -126,29 +120,4 @@ pub fn standing_is_kept()
     ensures handed { (hash : List ℕ → Digest32) (t : Known) (r : Rules) (s : State)
         → IsTallyOf hash t r s
         → (out : List Handed) → IsTallyOf hash t r (with_handed s out) }
-{}
-
-/// What a tally holds may be counted.
-pub fn tally_is_countable<H>(tally: &Tally<H>)
-    ensures notes { IsTrue (list_all is_countable tally.now.notes) }
-    ensures ballots { IsTrue (list_all is_formed tally.now.ballots) }
-    // the signers of each certificate are members of its epoch, and rise
-    ensures signers { IsTrue (list_all (is_signed tally.now.epochs) tally.now.ballots) }
-{
-    let _ = &tally.notes;
-}
-
-/// What is owed by notes and ballots that may be counted may be counted.
-pub fn owed_is_countable()
-    ensures certificates { (hash : List ℕ → Digest32) (t : Known) (owed : Note)
-        → IsTrue (list_all is_countable t.notes) → IsTrue (list_all is_formed t.ballots)
-        → owing.first_cert_owed hash t ≡ Some owed → IsTrue (is_countable owed) }
-    ensures votes { (hash : List ℕ → Digest32) (t : Known) (owed : Note)
-        → IsTrue (list_all is_countable t.notes) → IsTrue (list_all is_formed t.ballots)
-        → owing.vote_owed hash t ≡ Some owed → IsTrue (is_countable owed) }
-    // the note that the first proposal is certified whose block fits
-    ensures certified { (hash : List ℕ → Digest32) (t : Known) (r : Rules) (p : Proposal)
-        → IsTrue (list_all is_countable t.notes) → IsTrue (list_all is_formed t.ballots)
-        → find (block_fits r t.notes) (owing.uncertified t) ≡ Some p
-        → IsTrue (is_countable (Note.Certified p)) }
 {}

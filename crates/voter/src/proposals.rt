@@ -12,7 +12,6 @@ ghost use Rattle.note_scans.specs.Countable.{is_countable};
 ghost use Rattle.voter.specs.Owing as owing;
 
 use crate::tally::Tally;
-use crate::waiting::has_proposal;
 use cw_types::{Proposal, Vote, leader};
 
 impl<H> Tally<H> {
@@ -54,15 +53,12 @@ impl<H> Tally<H> {
     fn nth_votable(&self, index: usize) -> Option<Proposal>
         ensures { result ≡ slice_get (owing.votable self.now) index }
     {
-        let noted = self.waiting.noted.iter().copied().filter(|proposal| !has_proposal(
-            self.waiting.came.as_slice(),
-            proposal,
-        ));
+        let epoch = self.epoch();
         self.waiting
-            .came
+            .views
+            .of(epoch, self.view(epoch))
             .iter()
             .copied()
-            .chain(noted)
             .filter(|proposal| self.is_votable(proposal))
             .nth(index)
     }

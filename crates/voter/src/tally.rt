@@ -66,9 +66,7 @@ impl<H> Model for Tally<H> {
     ghost invariant = { λ t. IsTally t.committees t.id t.notes t.ballots
         t.index.came.by_vote.entries t.index.known.by_vote.entries
         t.index.facts t.index.certs.first.entries t.index.certs.lists.by_vote.entries
-        t.own t.index.own.by_key.entries
-        t.waiting.votes_came.items t.waiting.votes_noted.items t.waiting.came.items
-        t.waiting.noted.items };
+        t.own t.index.own.by_key.entries t.waiting };
 }
 
 impl<H: Hasher<Digest = Digest32>> Tally<H> {
@@ -115,16 +113,17 @@ impl<H> Tally<H> {
     {
         let counted = self.counted_vote(note);
         let copy = note.copy(self.alloc)?;
-        self.waiting.reserve_noted()?;
+        self.waiting.reserve_noted(note)?;
         let len = self.notes.len();
         self.notes.push(copy)?;
         if let Err(NoMemory) = self.index.take_note(self.id, note, counted) {
             self.notes.truncate(len);
             return Err(NoMemory);
         }
+        let certifies = self.index.certifies(&self.committees, note);
         let said = &self.index.facts.said;
         self.waiting
-            .take_note(note, said, &self.committees, self.id);
+            .take_note(note, certifies, said, &self.committees, self.id);
         Ok(())
     }
 
@@ -159,16 +158,17 @@ impl<H> Tally<H> {
             return Ok(false);
         }
         let counts = self.committees.is_member(vote.epoch(), signer);
-        self.waiting.reserve_came()?;
+        self.waiting.reserve_came(vote)?;
         let len = self.ballots.len();
         self.ballots.push(Ballot::single(signer, *vote))?;
         if let Err(NoMemory) = self.index.take_vote(signer, vote, counts) {
             self.ballots.truncate(len);
             return Err(NoMemory);
         }
+        let certifies = self.index.can_certify(&self.committees, vote);
         let said = &self.index.facts.said;
         self.waiting
-            .take_came(vote, said, &self.committees, self.id);
+            .take_came(vote, certifies, said, &self.committees, self.id);
         Ok(true)
     }
 
@@ -186,16 +186,17 @@ impl<H> Tally<H> {
             return Ok(false);
         }
         let copy = cert.copy(self.alloc)?;
-        self.waiting.reserve_came()?;
+        self.waiting.reserve_came(&cert.vote)?;
         let len = self.ballots.len();
         self.ballots.push(Ballot::many(copy))?;
         if let Err(NoMemory) = self.index.certs.take(cert, len) {
             self.ballots.truncate(len);
             return Err(NoMemory);
         }
+        let certifies = self.index.can_certify(&self.committees, &cert.vote);
         let said = &self.index.facts.said;
         self.waiting
-            .take_came(&cert.vote, said, &self.committees, self.id);
+            .take_came(&cert.vote, certifies, said, &self.committees, self.id);
         Ok(true)
     }
 

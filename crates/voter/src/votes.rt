@@ -231,11 +231,12 @@ impl<H: Hasher<Digest = Digest32>> Tally<H> {
         ensures { result ≡ find (owing.owes_notarize H.digest_of self.now)
             (rule.named_proposals (known_state self.now)) }
     {
+        let epoch = self.epoch();
         self.waiting
-            .came
+            .views
+            .of(epoch, self.view(epoch))
             .iter()
             .copied()
-            .chain(self.waiting.noted.iter().copied())
             .find(|proposal| self.owes_notarize(proposal))
     }
 
@@ -244,11 +245,13 @@ impl<H: Hasher<Digest = Digest32>> Tally<H> {
         ensures { result ≡ find (owing.owes_finalize H.digest_of self.now)
             (rule.named_proposals (known_state self.now)) }
     {
-        self.waiting
+        let proposals = &self.waiting.proposals;
+        proposals
             .came
+            .waiting
             .iter()
-            .copied()
-            .chain(self.waiting.noted.iter().copied())
+            .map(|at| at.1)
+            .chain(proposals.noted.waiting.iter().map(|at| at.1))
             .find(|proposal| self.owes_finalize(proposal))
     }
 

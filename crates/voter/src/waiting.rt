@@ -1,203 +1,66 @@
 //! The votes and the proposals that are named and not done: the only ones of which something can be
 //! owed.
 
-ghost use Rattle.std.specs.Prelude.{◌≡◌, ◌++◌, ◌&&◌, ◌<◌, ◌∷◌, [], ℕ, List, OnOk, filter};
-ghost use Rattle.std.specs.Prelude.{if◌then◌else◌, not, option_map, slice_get};
-ghost use Rattle.std.specs.List.{list_any};
-ghost use Rattle.std.specs.Prelude.{vec_capacity, vec_len};
+ghost use Rattle.std.specs.Prelude.{◌≡◌, ◌++◌, ◌∷◌, [], ℕ, Bool, List, OnOk, Some, filter, not};
+ghost use Rattle.std.specs.Prelude.{option_map, slice_get};
+ghost use Rattle.std.specs.List.{cons_option, list_any};
 ghost use Rattle.cw_rules.specs.Accepted.{Ballot as BallotValue};
-ghost use Rattle.cw_rules.specs.Owed.{ballot_vote};
-ghost use Rattle.cw_types.specs.Epochs.{Epochs, is_member};
+ghost use Rattle.cw_rules.specs.Owed.{ballot_vote, note_proposal, note_vote};
+ghost use Rattle.cw_types.specs.Epochs.{Epochs};
 ghost use Rattle.cw_types.specs.Same.{same_proposal, same_vote};
-ghost use Rattle.cw_types.specs.Votes.{proposal_of};
-ghost use Rattle.cw_types.specs.declared.note.Note.{Note as NoteValue};
-ghost use Rattle.voter.specs.Facts.{HasSaid, said_at};
-ghost use Rattle.note_scans.specs.Keys.{key_of};
-ghost use Rattle.voter.specs.Waiting.{AreWaiting, is_done_by, is_uncertified_by, with_named};
+ghost use Rattle.cw_types.specs.declared.vote.Proposal.{Proposal as ProposalValue};
+ghost use Rattle.cw_types.specs.declared.vote.Vote.{Vote as VoteValue};
+ghost use Rattle.note_scans.specs.Keys.{in_view, key_of, keyed};
+ghost use Rattle.voter.specs.Facts.{HasSaid};
+ghost use Rattle.voter.specs.Known.{Known, unknowing, with_note};
+ghost use Rattle.voter.specs.Lines.{AreLines, IsComing, IsNoting, items_of};
+ghost use Rattle.voter.specs.Views.{HasKey, HasRoomAt, HasViews};
+ghost use Rattle.voter.specs.Waiting.{AreWaiting, CanCome, CanNote, also_came, can_certify};
+ghost use Rattle.voter.specs.Waiting.{is_open_by, is_uncertified_by, was_but};
 
+use crate::lines::Lines;
 use crate::said::Said;
+use crate::views::Views;
 use cw_base::NoMemory;
 use cw_types::{Committees, Note, Proposal, Vote};
-use note_scans::{proposal_of, vote_of, voted_proposal};
+use note_scans::{VoteKey, proposal_of, vote_of, voted_proposal};
 use std::alloc::Global;
 
-/// The votes and the proposals that aren't done, each once, in the order in which they were first
-/// named: by what came, and by notes.
+/// What waits: the votes of which a certificate can be noted, and the proposals of which something
+/// can be owed but a vote to notarize. One of these is only for a proposal of the member's view, so
+/// the proposals of each view stand by it.
 #[derive(Drop)]
 pub(crate) struct Waiting {
-    pub(crate) votes_came: Vec<Vote>,
-    pub(crate) votes_noted: Vec<Vote>,
-    pub(crate) came: Vec<Proposal>,
-    pub(crate) noted: Vec<Proposal>,
+    pub(crate) votes: Lines<Vote>,
+    pub(crate) proposals: Lines<Proposal>,
+    pub(crate) views: Views,
 }
 
-fn has_vote(list: &[Vote], vote: &Vote) -> bool
-    ensures { result ≡ list_any (same_vote vote.now) list.now }
+// Whether the proposal is among these.
+fn has_proposal(list: &[(usize, Proposal)], proposal: &Proposal) -> bool
+    ensures { result ≡ list_any (λ at. same_proposal proposal.now at.1) list.now }
 {
-    list.iter().any(|other| vote.is_same(other))
+    list.iter().any(|at| proposal.is_same(&at.1))
 }
 
-/// Whether the proposal is among these.
-pub(crate) fn has_proposal(list: &[Proposal], proposal: &Proposal) -> bool
-    ensures { result ≡ list_any (same_proposal proposal.now) list.now }
+// Whether something can be owed of the proposal, by what notes say to member `id`.
+fn is_open(said: &Said, committees: &Committees, id: u16, proposal: &Proposal) -> bool
+    ensures { result ≡ is_open_by committees.now id said.now.by_key.entries proposal.now }
 {
-    list.iter().any(|other| proposal.is_same(other))
-}
-
-// Puts a vote at the end of a list that hasn't it, if there is one. Takes no memory.
-fn put_vote(list: &mut Vec<Vote>, vote: Option<Vote>)
-    requires { vec_len list.old < vec_capacity list.old }
-    ensures { list.new.items ≡ with_named same_vote list.old.items vote }
-{
-    if let Some(vote) = vote {
-        if !has_vote(list.as_slice(), &vote) {
-            list.push_reserved(vote);
-        }
+    if said.has_certified(proposal) {
+        committees.is_member(proposal.epoch, id) && !said.has_closed(proposal.epoch, proposal.view)
+    } else {
+        said.has_cert(&Vote::Notarize(*proposal))
     }
 }
 
-// Puts a proposal at the end of a list that hasn't it, if there is one. Takes no memory.
-fn put_proposal(list: &mut Vec<Proposal>, proposal: Option<Proposal>)
-    requires { vec_len list.old < vec_capacity list.old }
-    ensures { list.new.items ≡ with_named same_proposal list.old.items proposal }
-{
-    if let Some(proposal) = proposal {
-        if !has_proposal(list.as_slice(), &proposal) {
-            list.push_reserved(proposal);
-        }
-    }
-}
-
-// Lets go of the votes that have a noted certificate.
-fn drop_votes(list: &mut Vec<Vote>, said: &Said)
+// Lets go of the proposals of which nothing can be owed any more.
+fn drop_closed(list: &mut Vec<(usize, Proposal)>, said: &Said, committees: &Committees, id: u16)
     ensures { list.new.items
-        ≡ filter (λ v. not (said_at (key_of v) said.now.by_key.entries)) list.old.items }
-{
-    list.retain(|vote| !said.has_cert(vote));
-}
-
-// Whether nothing is owed of the proposal any more, by what notes say to member `id`.
-fn is_done(said: &Said, committees: &Committees, id: u16, proposal: &Proposal) -> bool
-    ensures { result ≡ is_done_by committees.now id said.now.by_key.entries proposal.now }
-{
-    said.has_certified(proposal)
-        && !(committees.is_member(proposal.epoch, id)
-            && !said.has_closed(proposal.epoch, proposal.view))
-}
-
-// Lets go of the proposals that are done.
-fn drop_proposals(list: &mut Vec<Proposal>, said: &Said, committees: &Committees, id: u16)
-    ensures { list.new.items
-        ≡ filter (λ p. not (is_done_by committees.now id said.now.by_key.entries p))
+        ≡ filter (λ at. is_open_by committees.now id said.now.by_key.entries at.1)
         list.old.items }
 {
-    list.retain(|proposal| !is_done(said, committees, id, proposal));
-}
-
-impl Waiting {
-    /// That of a tally that knows nothing.
-    pub(crate) fn new(alloc: Global) -> Waiting
-        ensures { (x : Epochs) (id : ℕ) → AreWaiting x id [] [] result.votes_came.items
-            result.votes_noted.items result.came.items result.noted.items }
-    {
-        Waiting {
-            votes_came: Vec::new(alloc),
-            votes_noted: Vec::new(alloc),
-            came: Vec::new(alloc),
-            noted: Vec::new(alloc),
-        }
-    }
-
-    /// Makes room for one of each more by what comes.
-    pub(crate) fn reserve_came(&mut self) -> Result<(), NoMemory>
-        ensures votes { OnOk result
-            (vec_len self.new.votes_came < vec_capacity self.new.votes_came) }
-        ensures proposals { OnOk result (vec_len self.new.came < vec_capacity self.new.came) }
-        ensures waiting { (x : Epochs) (id : ℕ) (notes : List NoteValue)
-            (ballots : List BallotValue)
-            → AreWaiting x id notes ballots self.old.votes_came.items self.old.votes_noted.items
-            self.old.came.items self.old.noted.items
-            → AreWaiting x id notes ballots self.new.votes_came.items self.new.votes_noted.items
-            self.new.came.items self.new.noted.items }
-    {
-        self.votes_came.reserve(1)?;
-        self.came.reserve(1)?;
-        Ok(())
-    }
-
-    /// Makes room for one of each more by a note.
-    pub(crate) fn reserve_noted(&mut self) -> Result<(), NoMemory>
-        ensures votes { OnOk result
-            (vec_len self.new.votes_noted < vec_capacity self.new.votes_noted) }
-        ensures proposals { OnOk result (vec_len self.new.noted < vec_capacity self.new.noted) }
-        ensures waiting { (x : Epochs) (id : ℕ) (notes : List NoteValue)
-            (ballots : List BallotValue)
-            → AreWaiting x id notes ballots self.old.votes_came.items self.old.votes_noted.items
-            self.old.came.items self.old.noted.items
-            → AreWaiting x id notes ballots self.new.votes_came.items self.new.votes_noted.items
-            self.new.came.items self.new.noted.items }
-    {
-        self.votes_noted.reserve(1)?;
-        self.noted.reserve(1)?;
-        Ok(())
-    }
-
-    /// Something came that names a vote. There is room.
-    pub(crate) fn take_came(&mut self, vote: &Vote, said: &Said, committees: &Committees, id: u16)
-        requires votes { vec_len self.old.votes_came < vec_capacity self.old.votes_came }
-        requires proposals { vec_len self.old.came < vec_capacity self.old.came }
-        ensures { (notes : List NoteValue) (ballots : List BallotValue) (x : BallotValue)
-            → HasSaid notes said.now.by_key.entries
-            → AreWaiting committees.now id notes ballots self.old.votes_came.items
-            self.old.votes_noted.items self.old.came.items self.old.noted.items
-            → ballot_vote x ≡ vote.now
-            → AreWaiting committees.now id notes (ballots ++ x ∷ []) self.new.votes_came.items
-            self.new.votes_noted.items self.new.came.items self.new.noted.items }
-    {
-        put_vote(&mut self.votes_came, Some(*vote));
-        put_proposal(&mut self.came, voted_proposal(vote).copied());
-        drop_votes(&mut self.votes_came, said);
-        drop_proposals(&mut self.came, said, committees, id);
-    }
-
-    /// A note came that the facts tell of already. There is room.
-    pub(crate) fn take_note(&mut self, note: &Note, said: &Said, committees: &Committees, id: u16)
-        requires votes { vec_len self.old.votes_noted < vec_capacity self.old.votes_noted }
-        requires proposals { vec_len self.old.noted < vec_capacity self.old.noted }
-        ensures { (notes : List NoteValue) (ballots : List BallotValue)
-            → HasSaid (notes ++ note.now ∷ []) said.now.by_key.entries
-            → AreWaiting committees.now id notes ballots self.old.votes_came.items
-            self.old.votes_noted.items self.old.came.items self.old.noted.items
-            → AreWaiting committees.now id (notes ++ note.now ∷ []) ballots
-            self.new.votes_came.items self.new.votes_noted.items self.new.came.items
-            self.new.noted.items }
-    {
-        put_vote(&mut self.votes_noted, vote_of(note));
-        put_proposal(&mut self.noted, proposal_of(note).copied());
-        drop_votes(&mut self.votes_came, said);
-        drop_votes(&mut self.votes_noted, said);
-        drop_proposals(&mut self.came, said, committees, id);
-        drop_proposals(&mut self.noted, said, committees, id);
-    }
-
-    /// The proposal at this place of those that are notarized and not certified.
-    pub(crate) fn nth_uncertified(&self, said: &Said, index: usize) -> Option<&Proposal>
-        ensures { option_map (λ proposal. proposal.now) result
-            ≡ slice_get (filter (is_uncertified_by said.now.by_key.entries)
-            (self.now.came.items ++ filter
-            (λ p. not (list_any (same_proposal p) self.now.came.items)) self.now.noted.items))
-            index }
-    {
-        self.came
-            .iter()
-            .chain(
-                self.noted
-                    .iter()
-                    .filter(|proposal| !has_proposal(self.came.as_slice(), proposal)),
-            )
-            .filter(|proposal| is_uncertified(said, proposal))
-            .nth(index)
-    }
+    list.retain(|at| is_open(said, committees, id, &at.1));
 }
 
 // Whether the proposal is notarized and not certified, by what notes say.
@@ -205,4 +68,213 @@ fn is_uncertified(said: &Said, proposal: &Proposal) -> bool
     ensures { result ≡ is_uncertified_by said.now.by_key.entries proposal.now }
 {
     said.has_cert(&Vote::Notarize(*proposal)) && !said.has_certified(proposal)
+}
+
+impl Waiting {
+    /// That of a tally that knows nothing.
+    pub(crate) fn new(alloc: Global) -> Waiting
+        ensures { (x : Epochs) (id : ℕ) → AreWaiting (unknowing x id) result }
+    {
+        Waiting {
+            votes: Lines::new(alloc),
+            proposals: Lines::new(alloc),
+            views: Views::new(alloc),
+        }
+    }
+
+    /// Makes room for what comes and names that vote.
+    pub(crate) fn reserve_came(&mut self, vote: &Vote) -> Result<(), NoMemory>
+        ensures ready { OnOk result (CanCome vote.now self.new) }
+        ensures waiting { (t : Known) → AreWaiting t self.old → AreWaiting t self.new }
+    {
+        self.votes.prepare_came(VoteKey::new(vote))?;
+        if let Some(proposal) = voted_proposal(vote) {
+            self.proposals.prepare_came(VoteKey::on(3, proposal))?;
+            self.views.prepare(proposal)?;
+        }
+        Ok(())
+    }
+
+    /// Makes room for a note.
+    pub(crate) fn reserve_noted(&mut self, note: &Note) -> Result<(), NoMemory>
+        ensures ready { OnOk result (CanNote note.now self.new) }
+        ensures waiting { (t : Known) → AreWaiting t self.old → AreWaiting t self.new }
+    {
+        self.prepare_vote(note)?;
+        self.prepare_proposal(note)?;
+        Ok(())
+    }
+
+    // For the vote that a note names.
+    fn prepare_vote(&mut self, note: &Note) -> Result<(), NoMemory>
+        ensures ready { (v : VoteValue) → note_vote note.now ≡ Some v
+            → OnOk result (IsNoting (key_of v) self.new.votes) }
+        ensures waiting { (t : Known) → AreWaiting t self.old → AreWaiting t self.new }
+    {
+        if let Some(vote) = vote_of(note) {
+            self.votes.prepare_noted(VoteKey::new(&vote))?;
+        }
+        Ok(())
+    }
+
+    // For the proposal that a note names.
+    fn prepare_proposal(&mut self, note: &Note) -> Result<(), NoMemory>
+        ensures ready { (p : ProposalValue) → note_proposal note.now ≡ Some p
+            → OnOk result (IsNoting (keyed 3 p) self.new.proposals) }
+        ensures votes { self.new.votes ≡ self.old.votes }
+        ensures waiting { (t : Known) → AreWaiting t self.old → AreWaiting t self.new }
+    {
+        if let Some(proposal) = proposal_of(note) {
+            self.proposals.prepare_noted(VoteKey::on(3, proposal))?;
+        }
+        Ok(())
+    }
+
+    /// Something came that names a vote; `certifies` where a certificate of it can be noted. There
+    /// is room.
+    pub(crate) fn take_came(
+        &mut self,
+        vote: &Vote,
+        certifies: bool,
+        said: &Said,
+        committees: &Committees,
+        id: u16,
+    )
+        requires { CanCome vote.now self.old }
+        ensures { (t : Known) (b : BallotValue) → t.epochs ≡ committees.now → t.id ≡ id
+            → HasSaid t.notes said.now.by_key.entries → AreWaiting t self.old
+            → ballot_vote b ≡ vote.now → certifies ≡ can_certify (also_came t b) vote.now
+            → AreWaiting (also_came t b) self.new }
+    {
+        self.votes.take_came(&VoteKey::new(vote), *vote, certifies);
+        if let Some(proposal) = voted_proposal(vote) {
+            let opens = is_open(said, committees, id, proposal);
+            self.name(proposal, opens);
+        }
+    }
+
+    // What came names a proposal, of which something can be owed or not.
+    fn name(&mut self, proposal: &Proposal, opens: bool)
+        requires proposals { IsComing (keyed 3 proposal.now) self.old.proposals }
+        requires views { HasRoomAt (in_view 9 proposal.now.epoch proposal.now.view)
+            self.old.views.by_view.entries }
+        ensures proposals { (now : ProposalValue → Bool) (came noted : List ProposalValue)
+            → opens ≡ now proposal.now
+            → AreLines (keyed 3) same_proposal now came noted self.old.proposals
+            → AreLines (keyed 3) same_proposal now (came ++ proposal.now ∷ []) noted
+            self.new.proposals }
+        ensures views { (now : ProposalValue → Bool) (came noted : List ProposalValue)
+            → HasKey (in_view 9 proposal.now.epoch proposal.now.view)
+            self.old.views.by_view.entries
+            → AreLines (keyed 3) same_proposal now came noted self.old.proposals
+            → HasViews came self.old.views.by_view.entries
+            → HasViews (came ++ proposal.now ∷ []) self.new.views.by_view.entries }
+        ensures votes { self.new.votes ≡ self.old.votes }
+    {
+        let key = VoteKey::on(3, proposal);
+        self.list_in_view(&key, proposal);
+        self.proposals.take_came(&key, *proposal, opens);
+    }
+
+    // A proposal with that key goes to those of its view, unless what came names it already.
+    fn list_in_view(&mut self, key: &VoteKey, proposal: &Proposal)
+        requires { HasRoomAt (in_view 9 proposal.now.epoch proposal.now.view)
+            self.old.views.by_view.entries }
+        ensures views { (now : ProposalValue → Bool) (came noted : List ProposalValue)
+            → keyed 3 proposal.now ≡ key.now
+            → HasKey (in_view 9 proposal.now.epoch proposal.now.view)
+            self.old.views.by_view.entries
+            → AreLines (keyed 3) same_proposal now came noted self.old.proposals
+            → HasViews came self.old.views.by_view.entries
+            → HasViews (came ++ proposal.now ∷ []) self.new.views.by_view.entries }
+        ensures proposals { self.new.proposals ≡ self.old.proposals }
+        ensures votes { self.new.votes ≡ self.old.votes }
+    {
+        if !self.proposals.came.has(key) {
+            self.views.take(proposal);
+        }
+    }
+
+    /// A note came that the facts tell of already; `certifies` where of the vote that it names a
+    /// certificate can be noted. There is room.
+    pub(crate) fn take_note(
+        &mut self,
+        note: &Note,
+        certifies: bool,
+        said: &Said,
+        committees: &Committees,
+        id: u16,
+    )
+        requires { CanNote note.now self.old }
+        ensures { (t : Known) → t.epochs ≡ committees.now → t.id ≡ id
+            → HasSaid (t.notes ++ note.now ∷ []) said.now.by_key.entries → AreWaiting t self.old
+            → ((v : VoteValue) → note_vote note.now ≡ Some v
+            → certifies ≡ can_certify (with_note t note.now) v)
+            → AreWaiting (with_note t note.now) self.new }
+    {
+        self.take_vote(note, certifies);
+        self.take_proposal(note, said, committees, id);
+        drop_closed(&mut self.proposals.came.waiting, said, committees, id);
+        drop_closed(&mut self.proposals.noted.waiting, said, committees, id);
+    }
+
+    // A note names a vote, if it does.
+    fn take_vote(&mut self, note: &Note, certifies: bool)
+        requires { (v : VoteValue) → note_vote note.now ≡ Some v
+            → IsNoting (key_of v) self.old.votes }
+        ensures votes { (t : Known) → ((v : VoteValue) → note_vote note.now ≡ Some v
+            → certifies ≡ can_certify (with_note t note.now) v)
+            → (came noted : List VoteValue)
+            → AreLines key_of same_vote (can_certify t) came noted self.old.votes
+            → AreLines key_of same_vote (can_certify (with_note t note.now)) came
+            (noted ++ cons_option (note_vote note.now) []) self.new.votes }
+        ensures proposals { self.new.proposals ≡ self.old.proposals }
+        ensures views { self.new.views ≡ self.old.views }
+    {
+        if let Some(vote) = vote_of(note) {
+            self.votes.take_noted(&VoteKey::new(&vote), vote, certifies);
+        }
+    }
+
+    // A note names a proposal, if it does.
+    fn take_proposal(&mut self, note: &Note, said: &Said, committees: &Committees, id: u16)
+        requires { (p : ProposalValue) → note_proposal note.now ≡ Some p
+            → IsNoting (keyed 3 p) self.old.proposals }
+        ensures proposals { (was now : ProposalValue → Bool)
+            → ((p : ProposalValue) → now p
+            ≡ is_open_by committees.now id said.now.by_key.entries p)
+            → (came noted : List ProposalValue)
+            → AreLines (keyed 3) same_proposal was came noted self.old.proposals
+            → AreLines (keyed 3) same_proposal (was_but was now (note_proposal note.now)) came
+            (noted ++ cons_option (note_proposal note.now) []) self.new.proposals }
+        ensures votes { self.new.votes ≡ self.old.votes }
+        ensures views { self.new.views ≡ self.old.views }
+    {
+        if let Some(proposal) = proposal_of(note) {
+            let opens = is_open(said, committees, id, proposal);
+            self.proposals
+                .take_noted(&VoteKey::on(3, proposal), *proposal, opens);
+        }
+    }
+
+    /// The proposal at this place of those that are notarized and not certified.
+    pub(crate) fn nth_uncertified(&self, said: &Said, index: usize) -> Option<&Proposal>
+        ensures { option_map (λ proposal. proposal.now) result
+            ≡ slice_get (filter (is_uncertified_by said.now.by_key.entries)
+            (items_of self.now.proposals.came ++ filter
+            (λ p. not (list_any (same_proposal p) (items_of self.now.proposals.came)))
+            (items_of self.now.proposals.noted))) index }
+    {
+        let came = self.proposals.came.waiting.as_slice();
+        let noted = self.proposals.noted.waiting.as_slice();
+        let found = came
+            .iter()
+            .chain(noted.iter().filter(|at| !has_proposal(came, &at.1)))
+            .filter(|at| is_uncertified(said, &at.1))
+            .nth(index);
+        match found {
+            Some(at) => Some(&at.1),
+            None => None,
+        }
+    }
 }

@@ -43,12 +43,30 @@ invariant_of-result g c =
           (sym c.new-3.ensures) c.new-4.ensures.own;
       waiting =
           subst
-          (λ (ns : List Note). AreWaiting x c.args.id ns c.new-2.result
-          c.new-5.result.votes_came.items c.new-5.result.votes_noted.items
-          c.new-5.result.came.items c.new-5.result.noted.items)
+          (λ (ns : List Note). AreWaiting
+          (record {
+            epochs = x;
+            id = c.args.id;
+            notes = ns;
+            ballots = c.new-2.result;
+            own = c.new-3.result;
+          })
+          c.new-5.result)
           (sym c.new.ensures)
           (subst
-          (λ (bs : List Ballot). AreWaiting x c.args.id [] bs c.new-5.result.votes_came.items
-          c.new-5.result.votes_noted.items c.new-5.result.came.items c.new-5.result.noted.items)
-          (sym c.new-2.ensures) (c.new-5.ensures x c.args.id));
+          (λ (bs : List Ballot). AreWaiting
+          (record {
+            epochs = x;
+            id = c.args.id;
+            notes = [];
+            ballots = bs;
+            own = c.new-3.result;
+          })
+          c.new-5.result)
+          (sym c.new-2.ensures)
+          (subst
+          (λ (os : List OwnChunk). AreWaiting
+          (record { epochs = x; id = c.args.id; notes = []; ballots = []; own = os })
+          c.new-5.result)
+          (sym c.new-3.ensures) (c.new-5.ensures x c.args.id)));
     }

@@ -6,7 +6,7 @@ use Rattle.voter.specs.Known.{Known}
 use Rattle.voter.specs.Lists.{HasLists}
 use Rattle.voter.specs.Signing.{HaveSigners}
 use Rattle.voter.specs.Standing.{are_signers, is_formed, is_signed}
-use Rattle.voter.specs.Waiting.{AreWaiting}
+use Rattle.voter.specs.Waiting.{AreWaiting, also_came}
 use Rattle.note_scans.specs.declared.key.VoteKey.{VoteKey}
 use Rattle.voter.proofs.Signing.{cert_signed}
 use Rattle.voter.proofs.Taking.{all_more, taken_back}
@@ -20,6 +20,8 @@ invariant_of-self-2 g c =
     let ballots = c.self.inside.ballots in
     let came = c.self.inside.index.came.by_vote.entries in
     let known = c.self.inside.index.known.by_vote.entries in
+    let told : List Ballot → Known =
+    λ bs. record { epochs = x; id = id; notes = notes; ballots = bs; own = c.self.inside.own } in
     let more : c.push.new.self ≡ ballots ++ Many c.args.cert.now ∷ [] =
     c.in_ok-push.ensures.ok
     ∙ ap (λ (b : Ballot). ballots ++ b ∷ [])
@@ -48,14 +50,14 @@ invariant_of-self-2 g c =
           (c.in_default.ensures.lists ballots c.self.invariant.listed);
       owned = c.self.invariant.owned;
       waiting =
-          subst
-          (λ (bs : List Ballot). AreWaiting x id notes bs
-          c.take_came.new.self.votes_came.items c.take_came.new.self.votes_noted.items
-          c.take_came.new.self.came.items c.take_came.new.self.noted.items)
-          (sym more)
-          (c.take_came.ensures notes ballots (Many c.args.cert.now)
+          subst (λ (bs : List Ballot). AreWaiting (told bs) c.take_came.new.self) (sym more)
+          (c.take_came.ensures (told ballots) (Many c.args.cert.now) refl refl
           c.self.invariant.facts.saying
-          (c.in_ok-reserve_came.ensures.waiting x id notes ballots c.self.invariant.waiting) refl);
+          (c.in_ok-reserve_came.ensures.waiting (told ballots) c.self.invariant.waiting) refl
+          (c.can_certify-certifies.ensures (also_came (told ballots) (Many c.args.cert.now)) refl
+          (cert_signed x id notes ballots came known c.self.invariant.signers c.args.cert.now)
+          c.self.invariant.facts.saying
+          (c.in_default.ensures.first ballots c.self.invariant.places c.len-len.ensures)));
     }
 
 pub invariant_of-self-in-Err : goal.invariant_of-self-in-Err
@@ -66,6 +68,8 @@ invariant_of-self-in-Err g c =
     let ballots = c.self.inside.ballots in
     let came = c.self.inside.index.came.by_vote.entries in
     let known = c.self.inside.index.known.by_vote.entries in
+    let told : List Ballot → Known =
+    λ bs. record { epochs = x; id = id; notes = notes; ballots = bs; own = c.self.inside.own } in
     let back : c.truncate.new.self ≡ ballots =
     taken_back ballots c.push.new.self c.truncate.new.self c.many.result c.len-len.result
     c.in_ok-push.ensures.ok c.len-len.ensures c.truncate.ensures in
@@ -93,10 +97,6 @@ invariant_of-self-in-Err g c =
           ∙ (sym c.has_same_cert.ensures ∙ c.if-has_same_cert.false)));
       owned = c.self.invariant.owned;
       waiting =
-          subst
-          (λ (bs : List Ballot). AreWaiting x id notes bs
-          c.reserve_came.new.self.votes_came.items c.reserve_came.new.self.votes_noted.items
-          c.reserve_came.new.self.came.items c.reserve_came.new.self.noted.items)
-          (sym back)
-          (c.in_ok-reserve_came.ensures.waiting x id notes ballots c.self.invariant.waiting);
+          subst (λ (bs : List Ballot). AreWaiting (told bs) c.reserve_came.new.self) (sym back)
+          (c.in_ok-reserve_came.ensures.waiting (told ballots) c.self.invariant.waiting);
     }

@@ -10,7 +10,7 @@ use Rattle.voter.specs.Lists.{HasLists}
 use Rattle.voter.specs.Own.{HasOwn}
 use Rattle.voter.specs.Signing.{HaveSigners}
 use Rattle.voter.specs.Standing.{is_formed, is_signed}
-use Rattle.voter.specs.Waiting.{AreWaiting}
+use Rattle.voter.specs.Waiting.{AreWaiting, also_came}
 use Rattle.voter.specs.declared.cert_places.Certs.{Certs}
 use Rattle.voter.specs.declared.facts.Facts.{Facts}
 use Rattle.voter.proofs.FirstCerts.{single_first}
@@ -30,6 +30,8 @@ invariant_of-self-in-Err g c =
     let facts =
     subst (λ (f : Facts). HaveFacts notes f) (sym c.take_vote.ensures.facts)
     c.self.invariant.facts in
+    let told : List Ballot → Known =
+    λ bs. record { epochs = x; id = id; notes = notes; ballots = bs; own = c.self.inside.own } in
     let back : c.truncate.new.self ≡ ballots =
     taken_back ballots c.push.new.self c.truncate.new.self c.single.result c.len-len.result
     c.in_ok-push.ensures.ok c.len-len.ensures c.truncate.ensures in
@@ -64,12 +66,8 @@ invariant_of-self-in-Err g c =
           subst (λ (o : OwnKeys). HasOwn c.self.inside.own o.by_key.entries)
           (sym c.take_vote.ensures.own) c.self.invariant.owned;
       waiting =
-          subst
-          (λ (bs : List Ballot). AreWaiting x id notes bs
-          c.reserve_came.new.self.votes_came.items c.reserve_came.new.self.votes_noted.items
-          c.reserve_came.new.self.came.items c.reserve_came.new.self.noted.items)
-          (sym back)
-          (c.in_ok-reserve_came.ensures.waiting x id notes ballots c.self.invariant.waiting);
+          subst (λ (bs : List Ballot). AreWaiting (told bs) c.reserve_came.new.self) (sym back)
+          (c.in_ok-reserve_came.ensures.waiting (told ballots) c.self.invariant.waiting);
     }
 
 pub invariant_of-self-2 : goal.invariant_of-self-2
@@ -83,6 +81,19 @@ invariant_of-self-2 g c =
     let facts =
     subst (λ (f : Facts). HaveFacts notes f) (sym c.take_vote.ensures.facts)
     c.self.invariant.facts in
+    let told : List Ballot → Known =
+    λ bs. record { epochs = x; id = id; notes = notes; ballots = bs; own = c.self.inside.own } in
+    let signers =
+    c.in_default.ensures.ok x id notes ballots c.self.invariant.signers
+    (c.is_member-counts.ensures
+    ∙ ap (λ (e : ℕ). is_member x e c.args.signer) c.epoch.ensures) in
+    let places =
+    subst
+    (λ (f : Certs). HasFirst (ballots ++ Single c.args.signer c.args.vote.now ∷ [])
+    f.first.entries)
+    (sym c.take_vote.ensures.certs)
+    (single_first ballots c.args.signer c.args.vote.now c.self.inside.index.certs.first.entries
+    c.self.invariant.places) in
     let more : c.push.new.self ≡ ballots ++ Single c.args.signer c.args.vote.now ∷ [] =
     c.in_ok-push.ensures.ok ∙ ap (λ (b : Ballot). ballots ++ b ∷ []) c.single.ensures in
     record {
@@ -96,18 +107,11 @@ invariant_of-self-2 g c =
           (all_more (is_signed x) ballots (Single c.args.signer c.args.vote.now)
           c.self.invariant.signed refl);
       signers =
-          subst (λ (bs : List Ballot). HaveSigners x id notes bs came known) (sym more)
-          (c.in_default.ensures.ok x id notes ballots c.self.invariant.signers
-          (c.is_member-counts.ensures
-          ∙ ap (λ (e : ℕ). is_member x e c.args.signer) c.epoch.ensures));
+          subst (λ (bs : List Ballot). HaveSigners x id notes bs came known) (sym more) signers;
       facts = facts;
       places =
-          subst (λ (f : Certs). HasFirst c.push.new.self f.first.entries)
-          (sym c.take_vote.ensures.certs)
-          (subst
-          (λ (bs : List Ballot). HasFirst bs c.self.inside.index.certs.first.entries) (sym more)
-          (single_first ballots c.args.signer c.args.vote.now
-          c.self.inside.index.certs.first.entries c.self.invariant.places));
+          subst (λ (bs : List Ballot). HasFirst bs c.take_vote.new.self.certs.first.entries)
+          (sym more) places;
       listed =
           subst (λ (f : Certs). HasLists c.push.new.self f.lists.by_vote.entries)
           (sym c.take_vote.ensures.certs)
@@ -120,11 +124,11 @@ invariant_of-self-2 g c =
           subst (λ (o : OwnKeys). HasOwn c.self.inside.own o.by_key.entries)
           (sym c.take_vote.ensures.own) c.self.invariant.owned;
       waiting =
-          subst
-          (λ (bs : List Ballot). AreWaiting x id notes bs
-          c.take_came.new.self.votes_came.items c.take_came.new.self.votes_noted.items
-          c.take_came.new.self.came.items c.take_came.new.self.noted.items)
-          (sym more)
-          (c.take_came.ensures notes ballots (Single c.args.signer c.args.vote.now) facts.saying
-          (c.in_ok-reserve_came.ensures.waiting x id notes ballots c.self.invariant.waiting) refl);
+          subst (λ (bs : List Ballot). AreWaiting (told bs) c.take_came.new.self) (sym more)
+          (c.take_came.ensures (told ballots) (Single c.args.signer c.args.vote.now) refl refl
+          facts.saying
+          (c.in_ok-reserve_came.ensures.waiting (told ballots) c.self.invariant.waiting) refl
+          (c.can_certify-certifies.ensures
+          (also_came (told ballots) (Single c.args.signer c.args.vote.now)) refl signers
+          facts.saying places));
     }
