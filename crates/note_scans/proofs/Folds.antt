@@ -24,11 +24,6 @@ pub greatest_or : (xs : List ℕ) → unwrap_or (greatest_of xs) 0 ≡ greatest 
 greatest_or [] = refl
 greatest_or (x ∷ xs) = refl
 
--- the same, else 0
-pub greatest_else : (r : Option ℕ) (xs : List ℕ) → option_map (λ x. x) r ≡ reduce max xs
-    → unwrap_or r 0 ≡ greatest xs
-greatest_else r xs e = ap (λ o. unwrap_or o 0) (greatest_found r xs e) ∙ greatest_or xs
-
 and_true : (b : Bool) → (b && true) ≡ b
 and_true true = refl
 and_true false = refl

@@ -2,4 +2,3 @@ pub mod Countable
 pub mod Folds
 pub mod Keys
 pub mod Least
-pub mod There

@@ -5,21 +5,13 @@ ghost use Rattle.std.specs.Prelude.{option_map};
 ghost use Rattle.std.specs.List.{last_or};
 ghost use Rattle.cw_rules.specs.Accepted.{first_some};
 ghost use Rattle.cw_rules.specs.Held as held;
-ghost use Rattle.cw_rules.specs.Notes as rule;
 ghost use Rattle.note_scans.specs.Verified.{verified_in};
 
 use crate::heights::greatest_prune;
 use cw_types::{ChainBlock, Commitment, Note, Proposal, Round, Vote};
 
-/// Whether a block under the commitment is noted, be it pruned or not.
-pub fn has_block(notes: &[Note], commitment: &Commitment) -> bool
-    ensures { result ≡ rule.has_block notes.now commitment.now }
-{
-    first_block(notes, commitment).is_some()
-}
-
-/// The first noted block under a commitment, be it pruned or not.
-pub fn first_block<'a>(notes: &'a [Note], commitment: &Commitment) -> Option<&'a ChainBlock>
+// The first noted block under a commitment, be it pruned or not.
+fn first_block<'a>(notes: &'a [Note], commitment: &Commitment) -> Option<&'a ChainBlock>
     ensures { option_map (λ b. b.now) result
         ≡ first_some (held.noted_block_of commitment.now) notes.now }
 {
