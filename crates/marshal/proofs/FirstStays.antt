@@ -33,7 +33,7 @@ in_filter {X} {Y} f x y (w ∷ ws) i e = go (f w) refl i (in_filter f x y ws)
 
 module _ (r : Rules) where
   -- a note that finalizes a held block of that height
-  record Finalizes (notes : List Note) (h : ℕ) (note : Note) (cert : Cert) : Type 0 where
+  pub record Finalizes (notes : List Note) (h : ℕ) (note : Note) (cert : Cert) : Type 0 where
     pub proposal : Proposal
     pub block : Block
     pub finalizes : finalization_of note ≡ Some proposal
@@ -41,7 +41,7 @@ module _ (r : Rules) where
     pub height : (block.height == h) ≡ true
     pub named : note ≡ Note.Cert cert
 
-  final_is : (notes : List Note) (h : ℕ) (note : Note) (cert : Cert)
+  pub final_is : (notes : List Note) (h : ℕ) (note : Note) (cert : Cert)
       → finalization_at r notes h note ≡ Some cert → Finalizes notes h note cert
   final_is notes h (Note.Cert t) cert e =
       let (p, f, u) =

@@ -4,8 +4,15 @@ use Rattle.cw_rules.specs.Accepted.{first_some}
 use Rattle.cw_rules.specs.Sends.{finalization_at}
 use Rattle.cw_rules.proofs.Lists.{first_here}
 use Rattle.marshal.specs.Bare.{bare}
+use Rattle.marshal.proofs.Pruned.{pruned_finalization}
 use Rattle.marshal.proofs.Searching.{skip_finalized}
 use Rattle.marshal.proofs.notes.Notes.finalization.Goals as goal
+
+pub returns-then-is_pruned : goal.returns-then-is_pruned
+returns-then-is_pruned g c =
+    sym
+    (pruned_finalization (bare g.H.Hasher.digest_of) c.args.self.now c.args.height
+    (sym c.is_pruned.ensures ∙ c.if-is_pruned.true))
 
 pub returns-in-Some : goal.returns-in-Some
 returns-in-Some g c =
