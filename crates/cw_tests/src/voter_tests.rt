@@ -349,7 +349,14 @@ fn owed_views(alloc: Global, votes: &str) -> Result<[u64; 3], Fail> {
         }
     }
     let first = owed_view(alloc, &tally)?;
-    let tally = with_cert(alloc, tally, Vote::Nullify { epoch: 0, view: first.max(1) })?;
+    let tally = with_cert(
+        alloc,
+        tally,
+        Vote::Nullify {
+            epoch: 0,
+            view: first.max(1),
+        },
+    )?;
     Ok([before, first, owed_view(alloc, &tally)?])
 }
 
@@ -410,7 +417,10 @@ fn finalizing(alloc: Global) -> Result<[Option<Vote>; 4], Fail> {
 
 #[test]
 fn a_vote_to_finalize_is_owed_until_its_view_is_closed(rt: HostRuntime) -> Result<(), Fail> {
-    let (one, two) = (Some(Vote::Finalize(first())), Some(Vote::Finalize(second())));
+    let (one, two) = (
+        Some(Vote::Finalize(first())),
+        Some(Vote::Finalize(second())),
+    );
     assert!(rt; finalizing(rt.alloc())? == [two, one, two, None]);
     Ok(())
 }
