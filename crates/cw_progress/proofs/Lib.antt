@@ -1,0 +1,12 @@
+pub mod Carries
+pub mod Rests
+pub mod Outs
+pub mod Noted
+pub mod Taken
+pub mod Passed
+pub mod Valid
+pub mod Ends
+pub mod Tops
+pub mod Rising
+pub mod Over
+pub mod Able

@@ -1,0 +1,5 @@
+pub mod Sent
+pub mod Ended
+pub mod Tops
+pub mod Over
+pub mod Going
