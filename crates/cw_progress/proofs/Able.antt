@@ -1,12 +1,11 @@
 -- Where nothing was let go and no height was given up, the cluster can go on.
-use Rattle.std.proofs.Common.{◌≡◌, ℕ, zero, suc, ◌+◌, ◌*◌, ◌≤◌, Bool, true, false, ◌&&◌, ◌||◌, ◌==◌, not, cond, nat_le, List, [], ◌∷◌, ◌++◌, Option, Some, None, filter_map, option_map, slice_get, refl, sym, ◌∙◌, ap, subst, inl, inr, ◌⊎◌, arith}
-use Rattle.std.specs.List.{AllByRecursion, enumerate_from, list_all, list_any}
+use Rattle.std.proofs.Common.{◌≡◌, ℕ, suc, ◌+◌, ◌*◌, Bool, true, ◌||◌, ◌==◌, not, nat_le, List, [], ◌∷◌, ◌++◌, Option, Some, None, filter_map, option_map, slice_get, refl, sym, ◌∙◌, ap, subst, inl, inr, ◌⊎◌, arith}
+use Rattle.std.specs.List.{AllByRecursion, enumerate_from, list_all}
 use Rattle.std.specs.Option.{option_map_or}
 use Rattle.std.proofs.lemmas.Bool.{and_from, false≢true, le-leb, or_right}
 use Rattle.std.proofs.lemmas.Option.{same_Some}
 use Rattle.cw_types.specs.declared.commitment.Commitment.{Commitment}
 use Rattle.cw_types.specs.declared.event.Event.{Event}
-use Rattle.cw_types.specs.declared.message.Message.{Message}
 use Rattle.cw_types.specs.declared.note.Note.{Note}
 use Rattle.cw_types.specs.declared.vote.Cert.{Cert}
 use Rattle.cw_types.specs.declared.vote.Proposal.{Proposal}
@@ -18,9 +17,9 @@ use Rattle.cw_rules.specs.Notes.{epoch_of, greatest}
 use Rattle.cw_rules.specs.Reached.{In, IsCluster, Reaches}
 use Rattle.cw_rules.specs.Rules.{Rules}
 use Rattle.cw_rules.specs.Stands.{EachAfter}
-use Rattle.cw_rules.specs.Step.{Member, member_notes, start, state_of, step, step_notes, taken}
-use Rattle.cw_rules.specs.World.{Ask, Cut, Do, Faulty, Line, Restart, World, as_finalization, event_of, message_for, signed, with_done}
-use Rattle.cw_rules.proofs.Lists.{and_then_some, map_some}
+use Rattle.cw_rules.specs.Step.{Member, member_notes, state_of, step, step_notes, taken}
+use Rattle.cw_rules.specs.World.{Ask, Cut, Do, Faulty, Line, Restart, World, event_of, message_for, signed}
+use Rattle.cw_rules.proofs.Lists.{map_some}
 use Rattle.cw_rules.proofs.StepKeeps.{each_append}
 use Rattle.cw_rules.proofs.Worlds.{frames_join}
 use Rattle.cw_progress.specs.Going.{can_enter, is_able, is_stocked, keeps_all, newest_epoch, numbered_members}
@@ -52,25 +51,30 @@ module _ (r : Rules) (script : List Line) where
       plain : (x : Ask) → event_of w i x ≡ Some e → keeps_all (Do i x) ≡ true
           → ((h : ℕ) → e ≡ Event.Prune h → ⊥) × ((s : Cert) → e ≡ Event.Floor s → ⊥)
       plain (Ask.Propose payload) f k =
-          let one : Event.Propose payload ≡ e = same_Some (Event.Propose payload) e f in
-          ((λ h g. let x : Event.Propose payload ≡ Event.Prune h = one ∙ g in cc),
-          (λ s g. let x : Event.Propose payload ≡ Event.Floor s = one ∙ g in cc))
+          let one : Event.Propose payload ≡ e = same_Some (Event.Propose payload) e f in (
+            (λ h g. let x : Event.Propose payload ≡ Event.Prune h = one ∙ g in cc),
+            (λ s g. let x : Event.Propose payload ≡ Event.Floor s = one ∙ g in cc),
+          )
       plain (Ask.Timeout view) f k =
-          let one : Event.Timeout view ≡ e = same_Some (Event.Timeout view) e f in
-          ((λ h g. let x : Event.Timeout view ≡ Event.Prune h = one ∙ g in cc),
-          (λ s g. let x : Event.Timeout view ≡ Event.Floor s = one ∙ g in cc))
+          let one : Event.Timeout view ≡ e = same_Some (Event.Timeout view) e f in (
+            (λ h g. let x : Event.Timeout view ≡ Event.Prune h = one ∙ g in cc),
+            (λ s g. let x : Event.Timeout view ≡ Event.Floor s = one ∙ g in cc),
+          )
       plain (Ask.Deliver number) f k =
-          let (m, u, v) = map_some Event.Deliver (message_for w i number) e f in
-          ((λ h g. let x : Event.Deliver m ≡ Event.Prune h = v ∙ g in cc),
-          (λ s g. let x : Event.Deliver m ≡ Event.Floor s = v ∙ g in cc))
+          let (m, u, v) = map_some Event.Deliver (message_for w i number) e f in (
+            (λ h g. let x : Event.Deliver m ≡ Event.Prune h = v ∙ g in cc),
+            (λ s g. let x : Event.Deliver m ≡ Event.Floor s = v ∙ g in cc),
+          )
       plain Ask.Ack f k =
-          let one : Event.Ack ≡ e = same_Some Event.Ack e f in
-          ((λ h g. let x : Event.Ack ≡ Event.Prune h = one ∙ g in cc),
-          (λ s g. let x : Event.Ack ≡ Event.Floor s = one ∙ g in cc))
+          let one : Event.Ack ≡ e = same_Some Event.Ack e f in (
+            (λ h g. let x : Event.Ack ≡ Event.Prune h = one ∙ g in cc),
+            (λ s g. let x : Event.Ack ≡ Event.Floor s = one ∙ g in cc),
+          )
       plain (Ask.Hint height) f k =
-          let one : Event.Hint height ≡ e = same_Some (Event.Hint height) e f in
-          ((λ h g. let x : Event.Hint height ≡ Event.Prune h = one ∙ g in cc),
-          (λ s g. let x : Event.Hint height ≡ Event.Floor s = one ∙ g in cc))
+          let one : Event.Hint height ≡ e = same_Some (Event.Hint height) e f in (
+            (λ h g. let x : Event.Hint height ≡ Event.Prune h = one ∙ g in cc),
+            (λ s g. let x : Event.Hint height ≡ Event.Floor s = one ∙ g in cc),
+          )
       plain (Ask.Prune height) f k = absurd (false≢true k)
       plain (Ask.Floor number) f k = absurd (false≢true k)
 
@@ -111,7 +115,7 @@ module _ (r : Rules) (script : List Line) where
         of_finalize = λ ns q. tt;
         of_certified = λ ns q. tt;
         of_epoch = λ ns epoch c. tt;
-        of_nullify = λ view s. tt;
+        of_nullify = λ view is s. tt;
         of_ack = λ h s. tt;
         of_prune =
             λ h a is l o. (by_ask w i t.line t.ask e t.fits t.asks t.event).0 h is;

@@ -1,10 +1,7 @@
 -- Each view below an honest member's has ended for some honest member.
-use Rattle.std.proofs.Common.{◌≡◌, ℕ, zero, suc, ◌+◌, ◌-◌, ◌<◌, ◌≤◌, Bool, true, false, ◌&&◌, ◌==◌, cond, max, List, [], ◌∷◌, ◌++◌, Option, Some, None, IsSome, filter_map, option_map, option_and_then, slice_get, refl, sym, ◌∙◌, ap, subst, inl, inr, ◌⊎◌, arith, eqb-true, eq-eqb, ltb-true, nat_lt, nat_le}
-use Rattle.std.specs.List.{list_any, range_with_len}
+use Rattle.std.proofs.Common.{◌≡◌, ℕ, zero, suc, ◌+◌, ◌-◌, ◌<◌, ◌≤◌, true, false, ◌==◌, max, List, [], ◌∷◌, ◌++◌, Option, Some, None, filter_map, option_map, option_and_then, slice_get, refl, sym, ◌∙◌, ap, subst, inl, inr, ◌⊎◌, arith, eqb-true, eq-eqb, ltb-true, nat_lt, nat_le}
 use Rattle.std.proofs.lemmas.Bool.{and_parts, cases_Bool, cond-true, cond-false, false≢true, leb-true, leb-false, or_cases, or_left, or_right}
 use Rattle.std.proofs.lemmas.Option.{same_Some}
-use Rattle.cw_types.specs.declared.commitment.Commitment.{Commitment}
-use Rattle.cw_types.specs.declared.event.Event.{Event}
 use Rattle.cw_types.specs.declared.note.Note.{Note}
 use Rattle.cw_types.specs.declared.vote.Cert.{Cert}
 use Rattle.cw_types.specs.declared.vote.Proposal.{Proposal}
@@ -14,7 +11,7 @@ use Rattle.cw_types.specs.Votes.{is_view}
 use Rattle.cw_types.proofs.Same.{same_proposal_self, same_vote-true}
 use Rattle.cw_rules.specs.Fits.{block_fits}
 use Rattle.cw_rules.specs.Keeps.{AllKeep, Keeps, meaning}
-use Rattle.cw_rules.specs.Notes.{ended, ended_by, ends_in, greatest, has_cert, has_certified, is_cert, is_certified, is_vote, nullified, settler, view_of}
+use Rattle.cw_rules.specs.Notes.{ended, ended_by, ends_in, greatest, has_cert, has_certified, is_cert, is_certified, is_vote, nullified, view_of}
 use Rattle.cw_rules.specs.Owed.{all_nullified}
 use Rattle.cw_rules.specs.Reached.{In, IsCluster, Reaches, members_of}
 use Rattle.cw_rules.specs.Rules.{Rules}
@@ -27,7 +24,7 @@ use Rattle.cw_rules.proofs.NoteLemmas.{Settles, certified_note, found_after, set
 use Rattle.cw_rules.proofs.Quorums.{sharer}
 use Rattle.cw_rules.proofs.Reach.{reached_keep, reached_lawful}
 use Rattle.cw_rules.proofs.Worlds.{get-map, get-map_from, member_there}
-use Rattle.cw_progress.specs.Ended.{HasEnded, IsOfView}
+use Rattle.cw_progress.specs.Ended.{EndedForSome, IsOfView}
 use Rattle.cw_progress.proofs.Carries.{AnyLine, Writes, any_lines, each_at, reached_all, writes_carry}
 use Rattle.cw_progress.proofs.Outs.{mapped_from, mapped_in}
 use Rattle.cw_progress.proofs.Rests.{step_each}
@@ -100,7 +97,7 @@ ends_tell epoch e view u h = go (cases_Bool (e == epoch))
     )
     go (inr f) = cc (cond-false (e == epoch) (Some view) None f)
 
-ends_here : (epoch e view u : ℕ) → e ≡ epoch → view ≡ u → ends_in epoch e view ≡ Some u
+pub ends_here : (epoch e view u : ℕ) → e ≡ epoch → view ≡ u → ends_in epoch e view ≡ Some u
 ends_here epoch e view u s t =
     cond-true (e == epoch) (Some view) None (eq-eqb e epoch s) ∙ ap Some t
 
@@ -135,7 +132,7 @@ of_view r script = record {
         of_finalize = λ ns p. tt;
         of_certified = λ ns p. tt;
         of_epoch = λ ns epoch c. tt;
-        of_nullify = λ view s. (refl, s);
+        of_nullify = λ view is s. (refl, s);
         of_ack = λ h s. tt;
         of_prune = λ h a s l o. tt;
         of_cert = λ ns v signers h. tt;
@@ -165,7 +162,7 @@ module _ (r : Rules) (script : List Line) (w : World) (cluster : IsCluster r scr
   -- what some honest member noted has ended
   noted_ends : (i : ℕ) (notes : List Note) → slice_get (members_of w) i ≡ Some (Some notes)
       → (n : Note) → In n notes → (epoch view : ℕ) → ended epoch n ≡ Some view
-      → HasEnded w epoch view
+      → EndedForSome w epoch view
   noted_ends i notes at n h epoch view e =
       let (m, there, same) = member_with w i notes at in
       record {
@@ -179,7 +176,7 @@ module _ (r : Rules) (script : List Line) (w : World) (cluster : IsCluster r scr
 
   -- below the view of a proposal that stands notarized
   below_notarized : (p : Proposal) → Stands r.epochs (members_of w) (Notarize p) → (u : ℕ)
-      → p.view ≡ suc u → 0 < u → HasEnded w p.epoch u
+      → p.view ≡ suc u → 0 < u → EndedForSome w p.epoch u
   below_notarized p a u is pos =
       let s = sharer r.epochs (members_of w) (Notarize p) (Notarize p) lawful.faults refl a a in
       let f =
@@ -194,7 +191,7 @@ module _ (r : Rules) (script : List Line) (w : World) (cluster : IsCluster r scr
     where
       within : (i : ℕ) (notes before rest : List Note)
           → slice_get (members_of w) i ≡ Some (Some notes) → notes ≡ before ++ rest → (n : Note)
-          → In n before → ended p.epoch n ≡ Some u → HasEnded w p.epoch u
+          → In n before → ended p.epoch n ≡ Some u → EndedForSome w p.epoch u
       within i notes before rest at joined n h e =
           noted_ends i notes at n (subst (In n) (sym joined) (in_left n before rest h)) p.epoch u
           e
@@ -202,7 +199,7 @@ module _ (r : Rules) (script : List Line) (w : World) (cluster : IsCluster r scr
       by_settler : (i : ℕ) (notes before rest : List Note)
           → slice_get (members_of w) i ≡ Some (Some notes) → notes ≡ before ++ rest
           → p.parent ≡ u → ((q : Proposal) × Settles before p.epoch p.parent q)
-          → HasEnded w p.epoch u
+          → EndedForSome w p.epoch u
       by_settler i notes before rest at joined same (q, (of, view, inl c)) =
           within i notes before rest at joined (Note.Certified q)
           (certified_in_notes q before c)
@@ -214,7 +211,7 @@ module _ (r : Rules) (script : List Line) (w : World) (cluster : IsCluster r scr
 
       by_settled : (i : ℕ) (notes before rest : List Note)
           → slice_get (members_of w) i ≡ Some (Some notes) → notes ≡ before ++ rest
-          → p.parent ≡ u → IsSettled before p.epoch p.parent → HasEnded w p.epoch u
+          → p.parent ≡ u → IsSettled before p.epoch p.parent → EndedForSome w p.epoch u
       by_settled i notes before rest at joined same (inl z) =
           absurd (omega (arith, same, z.0, pos))
       by_settled i notes before rest at joined same (inr z) =
@@ -225,7 +222,7 @@ module _ (r : Rules) (script : List Line) (w : World) (cluster : IsCluster r scr
           → slice_get (members_of w) i ≡ Some (Some notes) → notes ≡ before ++ rest
           → p.parent < p.view → IsSettled before p.epoch p.parent
           → all_nullified before p.epoch p.parent p.view ≡ true
-          → ((p.parent == u) ≡ true) ⊎ ((p.parent == u) ≡ false) → HasEnded w p.epoch u
+          → ((p.parent == u) ≡ true) ⊎ ((p.parent == u) ≡ false) → EndedForSome w p.epoch u
       by_parent i notes before rest at joined low settled nulls (inl t) =
           by_settled i notes before rest at joined (eqb-true p.parent u t) settled
       by_parent i notes before rest at joined low settled nulls (inr f) =
@@ -251,7 +248,7 @@ module _ (r : Rules) (script : List Line) (w : World) (cluster : IsCluster r scr
 
   -- below a view that stands nullified
   below_nullified : (epoch u : ℕ) → Stands r.epochs (members_of w) (Nullify epoch (suc u))
-      → 0 < u → HasEnded w epoch u
+      → 0 < u → EndedForSome w epoch u
   below_nullified epoch u a pos =
       let v = Nullify epoch (suc u) in
       let s = sharer r.epochs (members_of w) v v lawful.faults refl a a in
@@ -269,7 +266,7 @@ module _ (r : Rules) (script : List Line) (w : World) (cluster : IsCluster r scr
       (subst (In n) (sym joined ∙ same) (in_left n front (Note.Vote v ∷ rest) at)) epoch u e
 
   -- below a view that has ended for somebody the next has too
-  below_ended : (epoch u : ℕ) → HasEnded w epoch (suc u) → 0 < u → HasEnded w epoch u
+  below_ended : (epoch u : ℕ) → EndedForSome w epoch (suc u) → 0 < u → EndedForSome w epoch u
   below_ended epoch u h pos =
       let (n, at, e) =
       mapped_from (ended epoch) (member_notes h.member) (suc u) h.noted in
@@ -281,13 +278,13 @@ module _ (r : Rules) (script : List Line) (w : World) (cluster : IsCluster r scr
           (member_there w h.number h.member h.there)
 
       by_notarized : (p : Proposal) → Stands r.epochs (members_of w) (Notarize p)
-          → ends_in epoch p.epoch p.view ≡ Some (suc u) → HasEnded w epoch u
+          → ends_in epoch p.epoch p.view ≡ Some (suc u) → EndedForSome w epoch u
       by_notarized p a e =
           let t = ends_tell epoch p.epoch p.view (suc u) e in
-          subst (λ x. HasEnded w x u) t.0 (below_notarized p a u t.1 pos)
+          subst (λ x. EndedForSome w x u) t.0 (below_notarized p a u t.1 pos)
 
       by_vote : (v : Vote) → Stands r.epochs (members_of w) v
-          → ended_by epoch v ≡ Some (suc u) → HasEnded w epoch u
+          → ended_by epoch v ≡ Some (suc u) → EndedForSome w epoch u
       by_vote (Notarize p) a e = cc
       by_vote (Nullify x view) a e =
           let t = ends_tell epoch x view (suc u) e in
@@ -300,7 +297,7 @@ module _ (r : Rules) (script : List Line) (w : World) (cluster : IsCluster r scr
           e
 
       by_note : (n : Note) → In n (member_notes h.member) → ended epoch n ≡ Some (suc u)
-          → HasEnded w epoch u
+          → EndedForSome w epoch u
       by_note (Note.Certified p) at e =
           by_notarized p
           (certified_rests r.epochs (block_fits r) (members_of w) (member_notes h.member)
@@ -320,20 +317,20 @@ module _ (r : Rules) (script : List Line) (w : World) (cluster : IsCluster r scr
       by_note (Note.Prune x) at e = cc
       by_note (Note.Epoch x c) at e = cc
 
-  descend : (epoch view down : ℕ) → 0 < view → HasEnded w epoch (view + down)
-      → HasEnded w epoch view
-  descend epoch view zero pos h = subst (HasEnded w epoch) (omega arith) h
+  descend : (epoch view down : ℕ) → 0 < view → EndedForSome w epoch (view + down)
+      → EndedForSome w epoch view
+  descend epoch view zero pos h = subst (EndedForSome w epoch) (omega arith) h
   descend epoch view (suc down) pos h =
       let same : view + suc down ≡ suc (view + down) = omega arith in
       descend epoch view down pos
-      (below_ended epoch (view + down) (subst (HasEnded w epoch) same h) (omega (arith, pos)))
+      (below_ended epoch (view + down) (subst (EndedForSome w epoch) same h) (omega (arith, pos)))
 
   -- each view below an honest member's has ended for somebody
   pub all_ended : (i : ℕ) (m : Member) → member_at w i ≡ Some m → (epoch view : ℕ) → 0 < view
-      → view < view_of (member_notes m) epoch → HasEnded w epoch view
+      → view < view_of (member_notes m) epoch → EndedForSome w epoch view
   all_ended i m at epoch view pos low =
       let tops = filter_map (ended epoch) (member_notes m) in
-      let top : HasEnded w epoch (greatest tops) =
+      let top : EndedForSome w epoch (greatest tops) =
       record {
         number = i;
         member = m;
@@ -341,4 +338,4 @@ module _ (r : Rules) (script : List Line) (w : World) (cluster : IsCluster r scr
         noted = greatest_in tops (omega (arith, pos, low));
       } in
       let same : greatest tops ≡ view + (greatest tops - view) = omega (arith, pos, low) in
-      descend epoch view (greatest tops - view) pos (subst (HasEnded w epoch) same top)
+      descend epoch view (greatest tops - view) pos (subst (EndedForSome w epoch) same top)

@@ -10,3 +10,8 @@ pub mod Tops
 pub mod Rising
 pub mod Over
 pub mod Able
+pub mod Further
+pub mod Quorum
+pub mod Voting
+pub mod Timeouts
+pub mod Finals

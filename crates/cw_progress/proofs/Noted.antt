@@ -1,33 +1,28 @@
 -- What a live member noted was sent, and what it misses was asked for.
-use Rattle.std.proofs.Common.{◌≡◌, ℕ, zero, suc, ◌+◌, ◌≤◌, ◌<◌, Bool, true, false, ◌&&◌, ◌||◌, ◌==◌, not, cond, max, nat_lt, List, [], ◌∷◌, ◌++◌, Option, Some, None, filter, filter_map, flat_map, map, option_map, option_and_then, slice_get, unwrap_or, refl, sym, ◌∙◌, ap, subst, inl, inr, ◌⊎◌, arith, append_assoc, append-nil}
-use Rattle.std.specs.List.{AllByRecursion, last_or, list_any}
+use Rattle.std.proofs.Common.{◌≡◌, ℕ, zero, suc, ◌≤◌, Bool, true, false, ◌||◌, not, cond, nat_lt, List, [], ◌∷◌, ◌++◌, Option, Some, None, filter, filter_map, flat_map, map, option_and_then, slice_get, unwrap_or, refl, sym, ◌∙◌, ap, subst, inl, inr, ◌⊎◌, arith, append_assoc, append-nil}
+use Rattle.std.specs.List.{last_or, list_any}
 use Rattle.std.specs.Option.{option_map_or}
-use Rattle.std.proofs.lemmas.Bool.{and_from, and_parts, cases_Bool, cond-true, cond-false, false≢true, lt-ltb, ltb-true, not-true, or_cases, or_left, or_right}
+use Rattle.std.proofs.lemmas.Bool.{cases_Bool, cond-true, cond-false, false≢true, lt-ltb, ltb-true, or_cases}
 use Rattle.std.proofs.lemmas.Option.{same_Some}
 use Rattle.cw_types.specs.declared.commitment.Commitment.{Commitment}
 use Rattle.cw_types.specs.declared.event.Event.{Event}
 use Rattle.cw_types.specs.declared.event.Handed.{Handed}
-use Rattle.cw_types.specs.declared.event.Out.{Out}
 use Rattle.cw_types.specs.declared.message.Message.{Message}
 use Rattle.cw_types.specs.declared.note.Note.{Note}
-use Rattle.cw_types.specs.declared.vote.Cert.{Cert}
-use Rattle.cw_types.specs.declared.vote.Proposal.{Proposal}
-use Rattle.cw_types.specs.declared.vote.Vote.{Vote}
 use Rattle.cw_types.specs.Block.{Block}
 use Rattle.cw_types.specs.Same.{same_commitment}
-use Rattle.cw_types.specs.Votes.{proposal_of}
-use Rattle.cw_types.proofs.Same.{same_commitment-true, same_commitment_self}
+use Rattle.cw_types.proofs.Same.{same_commitment-true}
 use Rattle.cw_rules.specs.Accepted.{State}
-use Rattle.cw_rules.specs.Held.{greatest_floor, held, next}
-use Rattle.cw_rules.specs.Notes.{epoch_of, has_block}
+use Rattle.cw_rules.specs.Held.{held, next}
+use Rattle.cw_rules.specs.Notes.{has_block}
 use Rattle.cw_rules.specs.Reached.{In, IsCluster, Reaches}
 use Rattle.cw_rules.specs.Rules.{Rules, genesis_commitment}
-use Rattle.cw_rules.specs.Sends.{leads, missing, note_sends, once, sends, to_all}
+use Rattle.cw_rules.specs.Sends.{leads, missing, note_sends, once, to_all}
 use Rattle.cw_rules.specs.Step.{Member, add_frame, deliveries, deliveries_within, delivery, member_notes, most_delivered, nothing_came, start, state_of, step, step_notes, taken, with_given, with_handed, with_notes}
 use Rattle.cw_rules.specs.World.{Line, World, member_at, signed, with_done}
-use Rattle.cw_rules.proofs.Deliveries.{delivery_is, last_added, next_given}
+use Rattle.cw_rules.proofs.Deliveries.{delivery_is, next_given}
 use Rattle.cw_rules.proofs.Lists.{and_then_some, in_cases, in_left, in_right}
-use Rattle.cw_rules.proofs.Worlds.{IsWorldKept, frames_join, member_there}
+use Rattle.cw_rules.proofs.Worlds.{frames_join, member_there}
 use Rattle.cw_progress.specs.Sent.{IsSent}
 use Rattle.cw_progress.proofs.Carries.{AnyLine, Carries, Extends, Turning, any_lines, extends_done, reached_all}
 use Rattle.cw_progress.proofs.Outs.{filter_from, filter_in_list, in_flat, in_map, mapped_from, mapped_in, sends_asks, sends_notes, sent_done, sent_stays}

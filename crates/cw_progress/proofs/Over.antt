@@ -1,8 +1,8 @@
 -- A certificate goes over to whoever is live, and a block to whoever misses it.
-use Rattle.std.proofs.Common.{◌≡◌, ◌≢◌, ℕ, zero, suc, ◌+◌, ◌<◌, ◌≤◌, Bool, true, false, ◌&&◌, ◌||◌, ◌==◌, not, cond, max, nat_le, nat_lt, List, [], ◌∷◌, ◌++◌, Option, Some, None, filter_map, length, map, option_map, option_and_then, slice_get, slice_set, refl, sym, ◌∙◌, ap, subst, inl, inr, ◌⊎◌, arith, append_assoc, append-nil, eq-eqb, lt-ltb}
-use Rattle.std.specs.List.{AllByRecursion, list_any}
+use Rattle.std.proofs.Common.{◌≡◌, ◌≢◌, ℕ, zero, suc, ◌<◌, ◌≤◌, Bool, true, false, ◌&&◌, ◌||◌, not, cond, max, nat_le, nat_lt, List, [], ◌∷◌, ◌++◌, Option, Some, None, filter_map, length, option_map, option_and_then, slice_get, refl, sym, ◌∙◌, ap, subst, inl, inr, ◌⊎◌, arith, append_assoc, append-nil, eq-eqb, lt-ltb}
+use Rattle.std.specs.List.{list_any}
 use Rattle.std.specs.Option.{option_map_or, option_or}
-use Rattle.std.proofs.lemmas.Bool.{and_from, and_parts, cases_Bool, cases_eq, cond-true, cond-false, false≢true, le-leb, leb-false, not-true, or_left, or_right}
+use Rattle.std.proofs.lemmas.Bool.{and_from, cases_Bool, cond-true, cond-false, false≢true, leb-false, not-true, or_left, or_right}
 use Rattle.std.proofs.lemmas.List.Elements.{filter_map-append}
 use Rattle.std.proofs.lemmas.Option.{same_Some}
 use Rattle.cw_types.specs.declared.commitment.Commitment.{Commitment}
@@ -14,13 +14,12 @@ use Rattle.cw_types.specs.declared.note.Note.{Note}
 use Rattle.cw_types.specs.declared.vote.Cert.{Cert}
 use Rattle.cw_types.specs.Block.{Block}
 use Rattle.cw_types.specs.Same.{same_block, same_commitment}
-use Rattle.cw_types.proofs.EpochLemmas.{get-within}
 use Rattle.cw_types.proofs.Same.{same_block-true, same_block_self, same_commitment-true, same_commitment_self}
-use Rattle.cw_rules.specs.Accepted.{Came, Many, Part, Row, State, Whole, first_some, is_valid, same_part, take_part}
-use Rattle.cw_rules.specs.Held.{floor_height, greatest_floor, greatest_prune, held, if_committed, next, noted_block_of, pruned_height, shown, shown_by, shown_by_rows, shown_whole, whole_of}
+use Rattle.cw_rules.specs.Accepted.{Came, Part, Row, State, Whole, first_some, is_valid, same_part}
+use Rattle.cw_rules.specs.Held.{floor_height, greatest_floor, greatest_prune, held, next, pruned_height, shown, shown_by, shown_by_rows, shown_whole, whole_of}
 use Rattle.cw_rules.specs.Keeps.{Keeps, meaning}
 use Rattle.cw_rules.specs.Notes.{greatest, has_block, has_cert, is_block}
-use Rattle.cw_rules.specs.Owed.{block_owed, cert_owed, named_commitments, named_votes, owed, part_commitment, when}
+use Rattle.cw_rules.specs.Owed.{block_owed, cert_owed, named_commitments, named_votes, part_commitment, when}
 use Rattle.cw_rules.specs.Reached.{In, IsCluster, Reaches, members_of}
 use Rattle.cw_rules.specs.Rules.{Rules, commit, genesis_commitment}
 use Rattle.cw_rules.specs.declared.travel.Travel.{Travel}
@@ -31,7 +30,6 @@ use Rattle.cw_rules.specs.Step.{Member, Stepped, member_notes, state_of, step, s
 use Rattle.cw_rules.specs.World.{Ask, Do, Line, Sent, World, done_by, event_of, happens, is_to, member_at, message_for, run, signed, turned, with_done}
 use Rattle.cw_rules.proofs.Blocks.{first_in}
 use Rattle.cw_rules.proofs.Anchors.{get-set_other}
-use Rattle.cw_rules.proofs.Lists.{and_then_some, in_cases}
 use Rattle.cw_rules.proofs.NoteLemmas.{any_front}
 use Rattle.cw_rules.proofs.Reach.{reached_kept}
 use Rattle.cw_rules.proofs.Settles.{step_ends}
@@ -50,7 +48,7 @@ use Rattle.cw_progress.proofs.Valid.{noted_valid}
 -- ---- a delivery
 
 -- what a delivery of a message that was sent makes of the world
-delivery_happens : (r : Rules) (w : World) (i j : ℕ) (n : Member) (o : Out) (s : IsSent w i o)
+pub delivery_happens : (r : Rules) (w : World) (i j : ℕ) (n : Member) (o : Out) (s : IsSent w i o)
     → member_at w j ≡ Some n → n.live ≡ true → is_to j o.to ≡ true
     → happens r w (Do j (Ask.Deliver s.number))
     ≡ with_done w j (step r j (signed w) n (Event.Deliver o.message))
@@ -78,7 +76,7 @@ delivery_happens r w i j n o s at live to = ap (λ d. option_map_or (with_done w
     by_member = ap (option_and_then (turned r w j line)) at ∙ by_turn
 
 -- the member that stands in a world after its turn
-member_done : (w : World) (j : ℕ) (n : Member) (done : Stepped) → member_at w j ≡ Some n
+pub member_done : (w : World) (j : ℕ) (n : Member) (done : Stepped) → member_at w j ≡ Some n
     → member_at (with_done w j done) j ≡ Some done.member
 member_done w j n done at =
     member_is (with_done w j done) j done.member
@@ -89,10 +87,10 @@ member_done w j n done at =
 pub cert_over : (r : Rules) (script : List Line) (w : World) → IsCluster r script
     → Reaches r script w → (i j : ℕ) (m n : Member) → member_at w i ≡ Some m → m.live ≡ true
     → member_at w j ≡ Some n → n.live ≡ true → (s : Cert) → In (Note.Cert s) (member_notes m)
-    → ComesTo r w j (λ notes. has_cert notes s.vote)
+    → ComesTo r w j is_delivery (λ notes. has_cert notes s.vote)
 cert_over r script w cluster reach i j m n at live there ready s h = record {
   lines = Do j (Ask.Deliver sent.number) ∷ [];
-  deliveries = (refl, tt);
+  are = (refl, tt);
   after = done.member;
   there =
       ap (λ v. member_at v j)
@@ -178,7 +176,7 @@ prune_kept before (Note.Certified p ∷ ns) e =
     prune_kept (before ++ Note.Certified p ∷ []) ns e.1
 prune_kept before (Note.Epoch x c ∷ ns) e = prune_kept (before ++ Note.Epoch x c ∷ []) ns e.1
 
-delivery_keeps : (r : Rules) (id : ℕ) (s : State) (m : Message)
+pub delivery_keeps : (r : Rules) (id : ℕ) (s : State) (m : Message)
     → greatest_prune (s.notes ++ step_notes r id s (Event.Deliver m)) ≡ greatest_prune s.notes
 delivery_keeps r id s m =
     ap greatest
@@ -199,7 +197,7 @@ delivery_keeps r id s m =
           of_finalize = λ ns p. tt;
           of_certified = λ ns p. tt;
           of_epoch = λ ns epoch c. tt;
-          of_nullify = λ view s. tt;
+          of_nullify = λ view is s. tt;
           of_ack = λ h s. tt;
           of_prune = λ h a is l o. never h is;
           of_cert = λ ns v signers h. tt;
@@ -219,7 +217,7 @@ module _ (r : Rules) (id : ℕ) (s : State) (m : Message) (c : Commitment) (a : 
   noted_or_low ns none =
       let h = first_none (block_owed r (noted_as s ns)) (named_commitments r s) c none named in
       let wanted : when (not (has_block ns c) && nat_le (given_up ns) a.height) (Note.Block c a)
-          ≡ None =
+      ≡ None =
       sym
       (ap
       (option_and_then
@@ -300,7 +298,7 @@ module _ (r : Rules) (id : ℕ) (s : State) (m : Message) (c : Commitment) (a : 
         of_finalize = λ ns p. tt;
         of_certified = λ ns p. tt;
         of_epoch = λ ns epoch c. tt;
-        of_nullify = λ view s. tt;
+        of_nullify = λ view is s. tt;
         of_ack = λ h s. tt;
         of_prune = λ h x e l o. never h e;
         of_cert = λ ns v signers h. tt;
@@ -359,8 +357,7 @@ shown_as r came b other at =
         by_test (inl t) =
             let same : x ≡ a =
             same_Some x a
-            (sym (cond-true (same_commitment (commit r x) c) (Some x) None t) ∙ e) in
-            (
+            (sym (cond-true (same_commitment (commit r x) c) (Some x) None t) ∙ e) in (
               subst (λ y. In (Whole y) came.parts) same at,
               ap (commit r) (sym same) ∙ same_commitment-true (commit r x) c t,
             )
@@ -500,10 +497,10 @@ module _ (r : Rules) (script : List Line) (w : World) (cluster : IsCluster r scr
   CameOther = (a : Block) × In (Whole a) n.came.parts × (a ≢ b) × (commit r a ≡ c)
 
   given_over : has_block (member_notes n ++ brought_notes) c ≡ true
-      → ComesTo r w j (λ notes. has_block notes c)
+      → ComesTo r w j is_delivery (λ notes. has_block notes c)
   given_over h = record {
     lines = Do i (Ask.Deliver asked.number) ∷ Do j (Ask.Deliver answer_sent.number) ∷ [];
-    deliveries = (refl, (refl, tt));
+    are = (refl, (refl, tt));
     after = brought_step.member;
     there = ap (λ v. member_at v j) goes ∙ member_done answered j n brought_step still;
     live = refl;
@@ -512,7 +509,7 @@ module _ (r : Rules) (script : List Line) (w : World) (cluster : IsCluster r scr
   }
 
   pub block_over : max (greatest_floor (member_notes n)) (greatest_prune (member_notes n)) ≤ b.height
-      → ComesTo r w j (λ notes. has_block notes c) ⊎ CameOther
+      → ComesTo r w j is_delivery (λ notes. has_block notes c) ⊎ CameOther
   block_over le =
       by_shown
       (shown_as r during_brought.came b
@@ -529,14 +526,14 @@ module _ (r : Rules) (script : List Line) (w : World) (cluster : IsCluster r scr
           → In (Whole a) n.came.parts
           ⊎ ((Whole a ≡ Whole b) × (true ≡ true)
           × (list_any (same_part (Whole b)) n.came.parts ≡ false))
-          → ComesTo r w j (λ notes. has_block notes c) ⊎ CameOther
+          → ComesTo r w j is_delivery (λ notes. has_block notes c) ⊎ CameOther
       by_part a not_it of (inl x) = inr (a, x, not_it, of)
       by_part a not_it of (inr (e, t, f)) = let one : a ≡ b = cc in absurd (not_it one)
 
       by_same : (a : Block) → shown r during_brought.came c ≡ Some a
           → In (Whole a) during_brought.came.parts → commit r a ≡ c
           → (same_block a b ≡ true) ⊎ (same_block a b ≡ false)
-          → ComesTo r w j (λ notes. has_block notes c) ⊎ CameOther
+          → ComesTo r w j is_delivery (λ notes. has_block notes c) ⊎ CameOther
       by_same a is whole of (inl t) =
           inl
           (given_over
@@ -552,7 +549,7 @@ module _ (r : Rules) (script : List Line) (w : World) (cluster : IsCluster r scr
 
       by_shown : ((a : Block) × (shown r during_brought.came (commit r b) ≡ Some a)
           × In (Whole a) during_brought.came.parts × (commit r a ≡ commit r b))
-          → ComesTo r w j (λ notes. has_block notes c) ⊎ CameOther
+          → ComesTo r w j is_delivery (λ notes. has_block notes c) ⊎ CameOther
       by_shown (a, is, whole, of) =
           by_same a (ap (shown r during_brought.came) (sym commits) ∙ is) whole (of ∙ commits)
           (cases_Bool (same_block a b))

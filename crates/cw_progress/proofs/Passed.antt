@@ -1,18 +1,17 @@
 -- Whoever accepted its own chunk passed it on.
-use Rattle.std.proofs.Common.{◌≡◌, ℕ, Bool, true, false, ◌&&◌, ◌==◌, not, cond, List, [], ◌∷◌, ◌++◌, Option, Some, None, filter_map, refl, sym, ◌∙◌, ap, subst, inl, inr, ◌⊎◌, eq-eqb}
+use Rattle.std.proofs.Common.{◌≡◌, ℕ, Bool, true, false, ◌&&◌, ◌==◌, not, List, [], ◌∷◌, ◌++◌, Some, None, refl, sym, ◌∙◌, ap, subst, inl, inr, ◌⊎◌, eq-eqb}
 use Rattle.std.specs.List.{list_any}
 use Rattle.std.specs.Option.{option_map_or}
 use Rattle.std.proofs.lemmas.Bool.{and_from, cond-true}
 use Rattle.cw_base.specs.Config.{same_counts}
 use Rattle.cw_types.specs.declared.commitment.Commitment.{Commitment}
 use Rattle.cw_types.specs.declared.event.Event.{Event}
-use Rattle.cw_types.specs.declared.event.Out.{Out}
 use Rattle.cw_types.specs.declared.message.Message.{Message}
 use Rattle.cw_types.specs.declared.note.Note.{Note}
 use Rattle.cw_types.specs.Epochs.{place}
 use Rattle.cw_rules.specs.Accepted.{Row, State, is_chunk_of, same_part}
 use Rattle.cw_rules.specs.Keeps.{Keeps, Meaning, meaning}
-use Rattle.cw_rules.specs.Notes.{entered, epoch_of, greatest}
+use Rattle.cw_rules.specs.Notes.{epoch_of}
 use Rattle.cw_rules.specs.Reached.{In, IsCluster, Reaches, members_of}
 use Rattle.cw_rules.specs.Rules.{Chunk, Rules, config}
 use Rattle.cw_rules.specs.Sends.{own_chunk, to_all}

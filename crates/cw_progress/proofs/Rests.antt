@@ -1,5 +1,5 @@
 -- What holds of each note of a step, by what the note rests on.
-use Rattle.std.proofs.Common.{◌≡◌, ℕ, zero, suc, ◌+◌, ◌-◌, ◌*◌, ◌^◌, ◌≤◌, Bool, true, false, ◌&&◌, ◌==◌, not, cond, min, nat_lt, nat_le, List, [], ◌∷◌, ◌++◌, Option, Some, None, length, option_map, option_and_then, refl, sym, ◌∙◌, ap, subst, inl, inr, ◌⊎◌, arith, append_assoc, eqb-true}
+use Rattle.std.proofs.Common.{◌≡◌, ℕ, zero, suc, ◌-◌, ◌*◌, ◌^◌, ◌≤◌, Bool, true, false, ◌&&◌, ◌==◌, not, cond, min, nat_lt, nat_le, List, [], ◌∷◌, ◌++◌, Option, Some, None, option_map, refl, sym, ◌∙◌, ap, subst, inl, inr, ◌⊎◌, arith, eqb-true}
 use Rattle.std.specs.List.{AllByRecursion}
 use Rattle.std.specs.Option.{option_map_or, option_or}
 use Rattle.std.proofs.lemmas.Bool.{and_parts, cases_Bool, cond-true, cond-false, false≢true, leb-false, leb-true}
@@ -12,12 +12,11 @@ use Rattle.cw_types.specs.declared.vote.Vote.{Vote}
 use Rattle.cw_types.specs.declared.vote.Vote.TheVariants.{Finalize, Notarize, Nullify}
 use Rattle.cw_types.specs.Block.{Block}
 use Rattle.cw_types.specs.Epochs.{is_last, is_member, is_within, leader}
-use Rattle.cw_rules.specs.Accepted.{Came, State, first_some}
+use Rattle.cw_rules.specs.Accepted.{State, first_some}
 use Rattle.cw_rules.specs.Direct.{best_parent, direct, least, proposal_notes, propose_new, propose_over, proposed, proposed_block, timed_out}
-use Rattle.cw_rules.specs.Fits.{block_fits}
-use Rattle.cw_rules.specs.Held.{at_height, floor_height, greatest_floor, greatest_prune, held, last_ack, pending, shown}
+use Rattle.cw_rules.specs.Held.{at_height, greatest_prune, held, last_ack, pending, shown}
 use Rattle.cw_rules.specs.Notes.{epoch_of, has_block, has_cert, view_of}
-use Rattle.cw_rules.specs.Owed.{block_owed, cert_owed, certified_owed, epoch_owed, finalize_owed, floor_owed, has_closed, has_voted, named_commitments, named_proposals, named_votes, notarize_owed, owed, reached_epoch, signers_of, top_epoch, when}
+use Rattle.cw_rules.specs.Owed.{block_owed, cert_owed, certified_owed, epoch_owed, finalize_owed, floor_owed, has_closed, has_voted, named_commitments, named_proposals, named_votes, notarize_owed, owed, reached_epoch, signers_of, top_epoch}
 use Rattle.cw_rules.specs.Reached.{In}
 use Rattle.cw_rules.specs.Rules.{Rules, commit}
 use Rattle.cw_rules.specs.Stands.{EachAfter}
@@ -94,7 +93,7 @@ pub record Rests (R : List Note → Note → Type 0) (r : Rules) (id : ℕ) (s :
   pub of_finalize : (ns : List Note) (p : Proposal) → R ns (Note.Vote (Finalize p))
   pub of_certified : (ns : List Note) (p : Proposal) → R ns (Note.Certified p)
   pub of_epoch : (ns : List Note) (epoch : ℕ) (c : Commitment) → R ns (Note.Epoch epoch c)
-  pub of_nullify : (view : ℕ) → view ≡ view_of s.notes (epoch_of s.notes)
+  pub of_nullify : (view : ℕ) → e ≡ Event.Timeout view → view ≡ view_of s.notes (epoch_of s.notes)
       → R s.notes (Note.Vote (Nullify (epoch_of s.notes) view))
   pub of_ack : (h : ℕ) → In h (pending s) → R s.notes (Note.Ack h)
   pub of_prune : (h a : ℕ) → e ≡ Event.Prune h → last_ack s.notes ≡ Some a → h ≤ a
@@ -220,17 +219,17 @@ module _ (R : List Note → Note → Type 0) (r : Rules) (id : ℕ) (s : State) 
   plain_each before [] a = tt
   plain_each before (Note.Block c b ∷ ns) a =
       (k.of_block before c b, plain_each (before ++ Note.Block c b ∷ []) ns a.1)
-  plain_each before (Note.Verified epoch view c ∷ ns) a =
-      (
-        k.of_verified before epoch view c,
-        plain_each (before ++ Note.Verified epoch view c ∷ []) ns a.1,
-      )
+  plain_each before (Note.Verified epoch view c ∷ ns) a = (
+    k.of_verified before epoch view c,
+    plain_each (before ++ Note.Verified epoch view c ∷ []) ns a.1,
+  )
   plain_each before (Note.Vote (Notarize p) ∷ ns) a =
       (k.of_notarize before p, plain_each (before ++ Note.Vote (Notarize p) ∷ []) ns a.1)
   plain_each before (_ ∷ ns) a = absurd (false≢true a.0)
 
-  timeout_each : (view : ℕ) → EachAfter R s.notes (timed_out r id s.notes view)
-  timeout_each view = go (cases_Bool test)
+  timeout_each : (view : ℕ) → e ≡ Event.Timeout view
+      → EachAfter R s.notes (timed_out r id s.notes view)
+  timeout_each view is = go (cases_Bool test)
     where
       epoch : ℕ
       epoch = epoch_of s.notes
@@ -255,7 +254,7 @@ module _ (R : List Note → Note → Type 0) (r : Rules) (id : ℕ) (s : State) 
           (is_member r.epochs epoch id) a.0 in
           let c = and_parts (view == view_of s.notes epoch) (nat_lt view (2 ^ 64 - 1)) b.0 in
           subst (EachAfter R s.notes) (sym (cond-true test note [] t))
-          (k.of_nullify view (eqb-true view (view_of s.notes epoch) c.0), tt)
+          (k.of_nullify view is (eqb-true view (view_of s.notes epoch) c.0), tt)
       go (inr f) = subst (EachAfter R s.notes) (sym (cond-false test note [] f)) tt
 
   ack_each : EachAfter R s.notes (option_map_or (λ h. Note.Ack h ∷ []) (least (pending s)) [])
@@ -292,7 +291,7 @@ module _ (R : List Note → Note → Type 0) (r : Rules) (id : ℕ) (s : State) 
   direct_by : (x : Event) → e ≡ x → EachAfter R s.notes (direct r id s x)
   direct_by (Event.Propose payload) is =
       plain_each s.notes (proposed r id s.notes payload) (proposed_plain r id s.notes payload)
-  direct_by (Event.Timeout view) is = timeout_each view
+  direct_by (Event.Timeout view) is = timeout_each view is
   direct_by Event.Ack is = ack_each
   direct_by (Event.Prune h) is = prune_each h is
   direct_by _ is = tt

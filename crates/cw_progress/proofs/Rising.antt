@@ -1,9 +1,8 @@
 -- Final heights rise with the views, and what is certified above them is held.
-use Rattle.std.proofs.Common.{◌≡◌, ℕ, ◌+◌, ◌<◌, ◌≤◌, Bool, true, false, List, [], ◌∷◌, ◌++◌, Option, Some, None, option_map, slice_get, refl, sym, ◌∙◌, ap, subst, inl, inr, ◌⊎◌, arith}
+use Rattle.std.proofs.Common.{◌≡◌, ℕ, ◌<◌, ◌≤◌, true, false, List, [], ◌∷◌, ◌++◌, Some, option_map, refl, sym, ◌∙◌, ap, inl, inr, ◌⊎◌, arith}
 use Rattle.std.specs.Option.{option_or}
 use Rattle.std.proofs.lemmas.Bool.{cases_Bool, cond-true}
 use Rattle.std.proofs.lemmas.Option.{same_Some}
-use Rattle.cw_types.specs.declared.commitment.Commitment.{Commitment}
 use Rattle.cw_types.specs.declared.note.Note.{Note}
 use Rattle.cw_types.specs.declared.vote.Proposal.{Proposal}
 use Rattle.cw_types.specs.declared.vote.Vote.TheVariants.{Finalize, Notarize}
@@ -12,8 +11,7 @@ use Rattle.cw_types.specs.Same.{same_commitment}
 use Rattle.cw_rules.specs.Accepted.{first_some}
 use Rattle.cw_rules.specs.Chains.{block_under}
 use Rattle.cw_rules.specs.Fits.{block_fits}
-use Rattle.cw_rules.specs.Held.{greatest_prune, held, kept_block, noted_block_of}
-use Rattle.cw_rules.specs.Keeps.{AllKeep}
+use Rattle.cw_rules.specs.Held.{held, kept_block, noted_block_of}
 use Rattle.cw_rules.specs.Reached.{GoesDown, In, IsCluster, Lower, Reaches, ReachesClear, Same, members_of}
 use Rattle.cw_rules.specs.Rules.{Rules, genesis, genesis_commitment}
 use Rattle.cw_rules.specs.Stands.{Descends, LeadsTo, Stands}
@@ -136,8 +134,7 @@ certified_held r script w cluster reach i m at p h =
         ap (first_some (noted_block_of p.payload)) joined
         ∙ (first_of_both (noted_block_of p.payload) before rest
         ∙ ap (λ o. option_or o (first_some (noted_block_of p.payload) rest))
-        (held_first r before p.payload b n holds).0) in
-        (
+        (held_first r before p.payload b n holds).0) in (
           b,
           first_in p.payload (member_notes m) b first,
           λ le.

@@ -1,8 +1,8 @@
 -- What a member has accepted after an event.
-use Rattle.std.proofs.Common.{◌≡◌, ℕ, Bool, true, false, ◌&&◌, ◌==◌, not, cond, List, [], ◌∷◌, ◌++◌, Option, Some, None, refl, sym, ◌∙◌, ap, subst, inl, inr, ◌⊎◌}
+use Rattle.std.proofs.Common.{◌≡◌, ℕ, Bool, true, false, ◌&&◌, not, cond, List, [], ◌∷◌, ◌++◌, Option, Some, None, refl, sym, ◌∙◌, ap, subst, inl, inr, ◌⊎◌}
 use Rattle.std.specs.List.{list_any}
 use Rattle.std.specs.Option.{option_map_or}
-use Rattle.std.proofs.lemmas.Bool.{and_from, and_parts, cases_Bool, cond-true, cond-false, false≢true, not-true, not-false, or_cases}
+use Rattle.std.proofs.lemmas.Bool.{and_from, and_parts, cases_Bool, cond-true, cond-false, false≢true, not-true, or_cases}
 use Rattle.cw_types.specs.declared.commitment.Commitment.{Commitment}
 use Rattle.cw_types.specs.declared.event.Event.{Event}
 use Rattle.cw_types.specs.declared.message.Message.{Message}
@@ -14,7 +14,7 @@ use Rattle.cw_types.specs.Epochs.{is_member}
 use Rattle.cw_types.specs.Same.{same_block, same_cert}
 use Rattle.cw_types.specs.Votes.{finalized, vote_epoch, well_formed}
 use Rattle.cw_types.proofs.Same.{same_block-true, same_cert-true}
-use Rattle.cw_rules.specs.Accepted.{Ballot, Came, Many, Part, Row, Single, Whole, accepted, add_wish, is_chunk_of, is_valid, same_ballot, same_part, take_ballot, take_part, wish_for, wished}
+use Rattle.cw_rules.specs.Accepted.{Ballot, Came, Many, Part, Row, Single, Whole, accepted, add_wish, is_chunk_of, is_valid, same_ballot, same_part, take_ballot, take_part, wish_for}
 use Rattle.cw_rules.specs.Reached.{In, IsSigned}
 use Rattle.cw_rules.specs.Rules.{Chunk, Rules}
 use Rattle.cw_rules.specs.Step.{taken_came}
@@ -64,7 +64,7 @@ ballot_from came fits b x h = go (cases_Bool test) h
         h)
 
 -- the ballots before are among them
-ballot_in : (came : Came) (fits : Bool) (b x : Ballot) → In x came.ballots
+pub ballot_in : (came : Came) (fits : Bool) (b x : Ballot) → In x came.ballots
     → In x (take_ballot came fits b).ballots
 ballot_in came fits b x h = go (fits && not (list_any (same_ballot b) came.ballots))
   where

@@ -1,7 +1,7 @@
 -- What is acknowledged, given up and let go is never above what is known to be final.
-use Rattle.std.proofs.Common.{◌≡◌, ℕ, zero, suc, ◌+◌, ◌<◌, ◌≤◌, Bool, true, false, ◌&&◌, ◌==◌, cond, max, nat_lt, nat_le, List, [], ◌∷◌, ◌++◌, Option, Some, None, filter, filter_map, map, option_map, option_and_then, refl, sym, ◌∙◌, ap, subst, inl, inr, ◌⊎◌, arith, append_assoc, append-nil, eqb-true}
-use Rattle.std.specs.List.{last_or, list_any}
-use Rattle.std.specs.Option.{option_map_or, option_or}
+use Rattle.std.proofs.Common.{◌≡◌, ℕ, zero, suc, ◌+◌, ◌<◌, ◌≤◌, Bool, true, false, ◌&&◌, ◌==◌, cond, max, nat_lt, List, [], ◌∷◌, ◌++◌, Option, Some, None, filter_map, map, option_map, option_and_then, refl, sym, ◌∙◌, ap, subst, inl, inr, ◌⊎◌, arith, append_assoc, append-nil, eqb-true}
+use Rattle.std.specs.List.{last_or}
+use Rattle.std.specs.Option.{option_or}
 use Rattle.std.proofs.lemmas.Bool.{and_parts, and_from, cases_Bool, cond-true, cond-false, false≢true, lt-ltb, ltb-true, ltb-false}
 use Rattle.std.proofs.lemmas.List.Elements.{filter_map-append}
 use Rattle.std.proofs.lemmas.Option.{same_Some}
@@ -11,25 +11,24 @@ use Rattle.cw_types.specs.declared.event.Handed.{Handed}
 use Rattle.cw_types.specs.declared.note.Note.{Note}
 use Rattle.cw_types.specs.declared.vote.Cert.{Cert}
 use Rattle.cw_types.specs.declared.vote.Proposal.{Proposal}
-use Rattle.cw_types.specs.declared.vote.Vote.{Vote}
 use Rattle.cw_types.specs.Block.{Block}
 use Rattle.cw_types.specs.Same.{same_commitment}
 use Rattle.cw_types.specs.Votes.{finalized}
-use Rattle.cw_types.proofs.Same.{same_commitment-true, same_vote_self}
-use Rattle.cw_rules.specs.Accepted.{Ballot, Many, Single, State, first_some}
-use Rattle.cw_rules.specs.Held.{acked_height, at_height, finalization_of, greatest_floor, greatest_prune, held, is_pending, last_ack, noted_block_of, parent_of, pending, pruned_height, reached}
+use Rattle.cw_types.proofs.Same.{same_vote_self}
+use Rattle.cw_rules.specs.Accepted.{Many, State, first_some}
+use Rattle.cw_rules.specs.Held.{acked_height, at_height, finalization_of, greatest_floor, greatest_prune, held, is_pending, last_ack, noted_block_of, parent_of, pruned_height, reached}
 use Rattle.cw_rules.specs.Notes.{greatest, has_cert}
-use Rattle.cw_rules.specs.Owed.{ballot_vote, cert_owed, final_heights, known, named_votes, note_vote, signers_in, signers_of, when}
+use Rattle.cw_rules.specs.Owed.{ballot_vote, cert_owed, final_heights, named_votes, note_vote, signers_in, signers_of, when}
 use Rattle.cw_rules.specs.Reached.{In, IsCluster, Reaches}
 use Rattle.cw_rules.specs.Rules.{Rules, genesis, genesis_commitment}
 use Rattle.cw_rules.specs.Stands.{EachAfter}
-use Rattle.cw_rules.specs.Step.{Member, Stepped, deliveries, member_notes, start, state_of, step, step_notes, stopped, taken, with_notes}
+use Rattle.cw_rules.specs.Step.{Member, member_notes, start, state_of, step, step_notes, stopped, taken}
 use Rattle.cw_rules.specs.World.{Line, Restart, World, event_of, member_at, opening, signed, turned, with_done}
 use Rattle.cw_rules.specs.World as line
-use Rattle.cw_rules.proofs.Lists.{and_then_some, first_of_both, in_cases, in_left, in_right, map_some}
+use Rattle.cw_rules.proofs.Lists.{and_then_some, first_of_both, in_cases, in_left, map_some}
 use Rattle.cw_rules.proofs.Runs.{Delivered, Turned, turn}
 use Rattle.cw_rules.proofs.StepKeeps.{each_append}
-use Rattle.cw_rules.proofs.Worlds.{IsWorldKept, frames_join, member_there}
+use Rattle.cw_rules.proofs.Worlds.{frames_join, member_there}
 use Rattle.cw_progress.specs.Tops.{final_top}
 use Rattle.cw_progress.proofs.Carries.{AnyLine, Carries, Turning, any_lines, reached_all}
 use Rattle.cw_progress.proofs.Ends.{cert_note, greatest_in}
@@ -39,7 +38,7 @@ use Rattle.cw_progress.proofs.Taken.{ballots_stay, wishes_taken}
 
 -- ---- numbers
 
-in_greatest : (xs : List ℕ) (x : ℕ) → In x xs → x ≤ greatest xs
+pub in_greatest : (xs : List ℕ) (x : ℕ) → In x xs → x ≤ greatest xs
 in_greatest [] x h = absurd h
 in_greatest (y ∷ ys) x (inl e) = omega (arith, e)
 in_greatest (y ∷ ys) x (inr h) = omega (arith, in_greatest ys x h)
@@ -96,8 +95,7 @@ module _ (r : Rules) where
           × ((nat_lt 0 b.height && nat_lt b.height (greatest_prune notes)) ≡ false)
       by_low x e true is f = cc
       by_low x e false is f =
-          let same : x ≡ b = same_Some x b f in
-          (
+          let same : x ≡ b = same_Some x b f in (
             e ∙ f,
             ap (λ (y : Block). nat_lt 0 y.height && nat_lt y.height (greatest_prune notes))
                 (sym same)
@@ -489,7 +487,7 @@ module _ (r : Rules) (script : List Line) where
         of_finalize = λ ns q. tt;
         of_certified = λ ns q. tt;
         of_epoch = λ ns epoch c. tt;
-        of_nullify = λ view s. tt;
+        of_nullify = λ view is s. tt;
         of_ack =
             λ h at.
             p.given h

@@ -1,9 +1,8 @@
 -- Each certificate that a live member noted is valid by the signatures.
-use Rattle.std.proofs.Common.{◌≡◌, ℕ, zero, suc, Bool, true, false, ◌&&◌, ◌||◌, ◌==◌, cond, nat_le, List, [], ◌∷◌, ◌++◌, Option, Some, None, filter, length, map, option_map, slice_get, refl, sym, ◌∙◌, ap, subst, inl, inr, ◌⊎◌, eq-eqb, eqb-true, IsTrue}
+use Rattle.std.proofs.Common.{◌≡◌, ℕ, zero, suc, Bool, true, ◌&&◌, ◌||◌, ◌==◌, nat_le, List, [], ◌∷◌, ◌++◌, Some, None, length, option_map, slice_get, refl, sym, ◌∙◌, ap, subst, inl, inr, ◌⊎◌, eq-eqb, eqb-true, IsTrue}
 use Rattle.std.specs.List.{AllByRecursion, list_all, list_any}
 use Rattle.std.proofs.lemmas.Bool.{and_from, and_parts, false≢true, or_cases, or_left, or_right}
 use Rattle.cw_types.specs.declared.event.Event.{Event}
-use Rattle.cw_types.specs.declared.event.To.{To}
 use Rattle.cw_types.specs.declared.message.Message.{Message}
 use Rattle.cw_types.specs.declared.note.Note.{Note}
 use Rattle.cw_types.specs.declared.vote.Cert.{Cert}
@@ -24,18 +23,18 @@ use Rattle.cw_rules.specs.Reached.{In, IsCluster, IsSigned, Reaches, members_of}
 use Rattle.cw_rules.specs.Rules.{Rules}
 use Rattle.cw_rules.specs.Sends.{to_all}
 use Rattle.cw_rules.specs.Stands.{AreLawful, EachAfter, Members, Stands}
-use Rattle.cw_rules.specs.Step.{Member, member_notes, state_of, step_notes, taken}
+use Rattle.cw_rules.specs.Step.{Member, member_notes, state_of, taken}
 use Rattle.cw_rules.specs.World.{Line, Sent, World, is_sent_vote, is_vote_of, member_at, signed}
 use Rattle.cw_rules.proofs.Chain.{finalized_notarized}
 use Rattle.cw_rules.proofs.Lists.{filter_in, filter_rises, in_left, is_in, when_some}
 use Rattle.cw_rules.proofs.NoteLemmas.{found_after, vote_note}
 use Rattle.cw_rules.proofs.Quorums.{sharer}
 use Rattle.cw_rules.proofs.Reach.{reached_keep, reached_lawful}
-use Rattle.cw_rules.proofs.Worlds.{IsWorldKept, get-map, member_there}
+use Rattle.cw_rules.proofs.Worlds.{get-map, member_there}
 use Rattle.cw_progress.specs.Sent.{IsSent}
 use Rattle.cw_progress.proofs.Carries.{AnyLine, Extends, Turning, Writes, any_lines, each_at, reached_all, writes_carry}
 use Rattle.cw_progress.proofs.Noted.{noted_sent}
-use Rattle.cw_progress.proofs.Rests.{Rests, first_found, noted_as, or_split, step_each}
+use Rattle.cw_progress.proofs.Rests.{first_found, noted_as, or_split, step_each}
 use Rattle.cw_progress.proofs.Taken.{ballots_taken}
 
 -- ---- what is signed
@@ -96,6 +95,26 @@ counted_more r before after s f c = record {
       s.signers c.each;
   enough = c.enough;
 }
+
+-- a valid certificate's vote may be counted
+pub valid_formed : (r : Rules) (sign : ℕ → Vote → Bool) (s : Cert) → is_valid r sign s ≡ true
+    → well_formed s.vote ≡ true
+valid_formed r sign s h =
+    let all = list_all (λ i. is_member r.epochs (vote_epoch s.vote) i && sign i s.vote) s.signers
+    in
+    let a =
+    and_parts (well_formed s.vote && rises_from 0 s.signers && all)
+    (is_enough r.epochs (vote_epoch s.vote) (length s.signers)) h in
+    let b = and_parts (well_formed s.vote && rises_from 0 s.signers) all a.0 in
+    (and_parts (well_formed s.vote) (rises_from 0 s.signers) b.0).0
+
+-- it stays valid where more is signed
+pub valid_more : (r : Rules) (before after : ℕ → Vote → Bool) (s : Cert)
+    → ((i : ℕ) → before i s.vote ≡ true → after i s.vote ≡ true) → is_valid r before s ≡ true
+    → is_valid r after s ≡ true
+valid_more r before after s f h =
+    valid_counted r after s (valid_formed r before s h)
+    (counted_more r before after s f (counted_valid r before s h))
 
 -- ---- what is noted
 
@@ -244,7 +263,7 @@ counted_writes r script cluster = record {
         of_finalize = λ ns p. tt;
         of_certified = λ ns p. tt;
         of_epoch = λ ns epoch c. tt;
-        of_nullify = λ view s. tt;
+        of_nullify = λ view is s. tt;
         of_ack = λ h s. tt;
         of_prune = λ h a s l o. tt;
         of_cert =

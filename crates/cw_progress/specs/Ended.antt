@@ -1,7 +1,6 @@
 -- Which views have ended, and for whom.
 use Rattle.std.specs.Prelude.{ℕ, ⊤, ◌≡◌, List, Some, filter_map}
 use Rattle.cw_types.specs.declared.note.Note.{Note}
-use Rattle.cw_types.specs.declared.vote.Vote.{Vote}
 use Rattle.cw_types.specs.declared.vote.Vote.TheVariants.{Nullify}
 use Rattle.cw_rules.specs.Notes.{ended, epoch_of, view_of}
 use Rattle.cw_rules.specs.Reached.{In}
@@ -15,7 +14,7 @@ IsOfView before (Note.Vote (Nullify epoch view)) =
 IsOfView before _ = ⊤
 
 -- the view of the epoch has ended for some honest member
-pub record HasEnded (w : World) (epoch view : ℕ) : Type 0 where
+pub record EndedForSome (w : World) (epoch view : ℕ) : Type 0 where
   pub number : ℕ
   pub member : Member
   pub there : member_at w number ≡ Some member

@@ -1,5 +1,5 @@
 -- When a cluster can go on, by which lines, and what it is that it goes on.
-use Rattle.std.specs.Prelude.{[], ℕ, ◌&&◌, ◌*◌, ◌++◌, ◌==◌, ◌||◌, ◌∷◌, Bool, List, None, Option, Some, bytes_eq, false, filter_map, if◌then◌else◌, length, map, nat_le, nat_lt, not, option_map, slice_get, true}
+use Rattle.std.specs.Prelude.{[], ℕ, ◌&&◌, ◌*◌, ◌++◌, ◌==◌, ◌||◌, ◌∷◌, Bool, List, Option, bytes_eq, false, filter_map, if◌then◌else◌, length, map, nat_le, nat_lt, not, option_map, slice_get, true}
 use Rattle.std.specs.List.{enumerate_from, list_all, list_any}
 use Rattle.std.specs.Option.{option_map_or}
 use Rattle.cw_types.specs.Block.{Block}

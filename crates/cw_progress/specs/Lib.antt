@@ -3,3 +3,5 @@ pub mod Ended
 pub mod Tops
 pub mod Over
 pub mod Going
+pub mod Views
+pub mod Scenes
