@@ -316,4 +316,3 @@ votes_over r script w cluster j n at live v formed (x ∷ xs) rise enough member
           quorum_noted r j v g.after (x ∷ xs) x cluster.rising g.none rise (inl refl) members
           enough g.came;
     }
-

@@ -79,7 +79,6 @@ closed_nullified r w notes kept epoch view is h =
     by_note (Note.Prune x) at e = absurd (false≢true e)
     by_note (Note.Epoch x c) at e = absurd (false≢true e)
 
-
 module _ (r : Rules) (epoch view : ℕ) (room : view < 2 ^ 64 - 1) where
   -- a member of that view has voted after a timeout
   voter_votes : (script : List Line) (w : World) → IsCluster r script → Reaches r script w
