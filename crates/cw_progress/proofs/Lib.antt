@@ -1,0 +1,17 @@
+pub mod Carries
+pub mod Rests
+pub mod Outs
+pub mod Noted
+pub mod Taken
+pub mod Passed
+pub mod Valid
+pub mod Ends
+pub mod Tops
+pub mod Rising
+pub mod Over
+pub mod Able
+pub mod Further
+pub mod Quorum
+pub mod Voting
+pub mod Timeouts
+pub mod Finals

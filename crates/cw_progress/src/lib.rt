@@ -1,0 +1,13 @@
+//! Laws on what a cluster can still do, wherever a script has brought it.
+//!
+//! No member stands on this crate. The definitions stand in specs/; the laws, and worked runs that
+//! the checker computes, are functions with an empty body, so that they can't go unproved.
+#![tactic(auto)]
+
+mod laws;
+mod worked;
+
+pub use laws::{
+    able_laws, ended_laws, final_laws, further_law, held_laws, over_laws, quorum_laws, sent_laws,
+};
+pub use worked::{a_floor_within_an_epoch_keeps_its_member_out, a_split_view_goes_on};

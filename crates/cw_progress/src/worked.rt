@@ -1,0 +1,41 @@
+//! Worked runs, computed from the definitions: a cluster that goes on, and one that can't.
+#![tactic(auto, unfolding(cw_types::specs::Same::same_commitment, cw_types::specs::Same::same_context, cw_types::specs::Same::same_proposal, cw_types::specs::Same::same_vote, cw_types::specs::Same::same_cert, cw_types::specs::Same::same_block))]
+
+ghost use Rattle.std.specs.Prelude.{[], ℕ, List, false, true, ◌∷◌, ◌≡◌};
+ghost use Rattle.std.specs.List.{list_all};
+ghost use Rattle.cw_rules.specs.World.{world_of};
+ghost use Rattle.cw_progress.specs.Going.{goes_on, helps, is_able, is_stocked, shows_twins};
+ghost use Rattle.cw_progress.specs.Scenes.{endless_rules, floor_at_the_end, floor_within};
+ghost use Rattle.cw_progress.specs.Scenes.{split_view, split_view_lines, two_epochs_without_one};
+ghost use Rattle.cw_progress.specs.Scenes.{two_heights_rules};
+
+/// Two members vote for a block and two to end its view, one of which was stopped before it sent
+/// its vote. Lines that help lead on.
+pub fn a_split_view_goes_on()
+    ensures able { is_able endless_rules (world_of endless_rules split_view) ≡ true }
+    // each line helps
+    ensures helps { list_all (helps (world_of endless_rules split_view) (62 ∷ []))
+        split_view_lines ≡ true }
+    // each member hands out a block above genesis
+    ensures goes { goes_on endless_rules (world_of endless_rules split_view) split_view_lines
+        ≡ true }
+    // no twins are shown
+    ensures clear { shows_twins endless_rules (world_of endless_rules split_view) (62 ∷ [])
+        split_view_lines ≡ false }
+    // no lines at all lead nowhere
+    ensures nothing { goes_on endless_rules (world_of endless_rules split_view) [] ≡ false }
+{}
+
+/// A member that lags raises a floor within an epoch that it hasn't entered. Then it can't enter
+/// that epoch, and the cluster lacks its votes.
+pub fn a_floor_within_an_epoch_keeps_its_member_out()
+    // before it the cluster can go on
+    ensures before { is_able two_heights_rules
+        (world_of two_heights_rules two_epochs_without_one) ≡ true }
+    // with it the cluster can't, though every block is still there
+    ensures within { is_able two_heights_rules (world_of two_heights_rules floor_within) ≡ false }
+    ensures stocked { is_stocked (world_of two_heights_rules floor_within) ≡ true }
+    // a floor at the last block of the epoch before does no harm
+    ensures at_the_end { is_able two_heights_rules
+        (world_of two_heights_rules floor_at_the_end) ≡ true }
+{}
