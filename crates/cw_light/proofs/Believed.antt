@@ -23,7 +23,7 @@ use Rattle.cw_rules.specs.Chains.{Ends, Follow, IsChain, all_notes, block_under,
 use Rattle.cw_rules.specs.Fits.{block_fits}
 use Rattle.cw_rules.specs.Held.{noted_block_of}
 use Rattle.cw_rules.specs.Keeps.{AllKeep}
-use Rattle.cw_rules.specs.Reached.{In, IsCluster, IsKnown, IsOneChain, members_of}
+use Rattle.cw_rules.specs.Reached.{In, IsChainUpTo, IsCluster, IsKnown, members_of}
 use Rattle.cw_rules.specs.Report.{chain_of, handed_in, highest, report_of}
 use Rattle.cw_rules.specs.Rules.{Rules, commit, digest, genesis, genesis_commitment}
 use Rattle.cw_rules.specs.Stands.{AreLawful, Stands, backs_at}
@@ -380,7 +380,7 @@ module _ (r : Rules) (script : List Line) (w : World) (c : IsCluster r script)
           g.gave.block g.gave.high g.gave.holds g.gave.same
 
   chain_on : (handed : List Handed) → ((y : Handed) → In y handed → Lies y) → (z : Handed)
-      → In z handed → IsOneChain r w handed z
+      → In z handed → IsChainUpTo r w handed z
   chain_on handed all z at =
       one_chain r w c.spans keep k.clear (members_of w) lawful keep (now_fronts w)
       k.anchored handed all z at
@@ -429,7 +429,7 @@ module _ (r : Rules) (script : List Line) (w : World) (c : IsCluster r script)
             (High at_top.positive p stands top top at_top.under 0 refl at_top.under refl refl)
         lone z (inr e) = absurd e
 
-        one : IsOneChain r w (y ∷ []) y
+        one : IsChainUpTo r w (y ∷ []) y
         one = chain_on (y ∷ []) lone y (inl refl)
 
         chain : IsChain r w (chain_to r w top)

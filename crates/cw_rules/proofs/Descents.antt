@@ -14,7 +14,7 @@ use Rattle.cw_rules.specs.Chains.{block_under, chain_to, link_commitment, links_
 use Rattle.cw_rules.specs.Fits.{block_fits}
 use Rattle.cw_rules.specs.Held.{at_height, finalization_of, held}
 use Rattle.cw_rules.specs.Keeps.{AllKeep, IsCertifiedIn}
-use Rattle.cw_rules.specs.Reached.{AllAnchored, GoesDown, In, IsLinkOf, IsOneChain, Lower, Same, members_of}
+use Rattle.cw_rules.specs.Reached.{AllAnchored, GoesDown, In, IsChainUpTo, IsLinkOf, Lower, Same, members_of}
 use Rattle.cw_rules.specs.Rules.{Rules, commit, digest, genesis, genesis_commitment}
 use Rattle.cw_rules.specs.Stands.{AreLawful, LeadsTo, Members, Stands}
 use Rattle.cw_rules.specs.World.{World}
@@ -482,10 +482,10 @@ module _ (r : Rules) (w : World)
 
     -- all that is handed out lies on one chain
     pub one_chain : (handed : List Handed) → ((y : Handed) → In y handed → Branch y) → (z : Handed)
-        → In z handed → IsOneChain r w handed z
+        → In z handed → IsChainUpTo r w handed z
     one_chain handed all z at = go (all z at)
       where
-        go : Branch z → IsOneChain r w handed z
+        go : Branch z → IsChainUpTo r w handed z
         go (Low e0 n g) = record {
           block = genesis r;
           under = subst (λ c. block_under r w c ≡ Some (genesis r)) (sym n) genesis_under;

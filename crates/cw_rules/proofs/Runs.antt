@@ -16,7 +16,7 @@ use Rattle.cw_rules.specs.Accepted.{State}
 use Rattle.cw_rules.specs.Chains.{Clashes, Ends, clash_at, outcome}
 use Rattle.cw_rules.specs.Held.{at_height, held, next, pending}
 use Rattle.cw_rules.specs.Keeps.{IsCertifiedIn}
-use Rattle.cw_rules.specs.Reached.{AllAnchored, GoesDown, In, IsAnchored, IsCluster, IsKnown, IsOneChain, ReachesClear, members_of}
+use Rattle.cw_rules.specs.Reached.{AllAnchored, GoesDown, In, IsAnchored, IsChainUpTo, IsCluster, IsKnown, ReachesClear, members_of}
 use Rattle.cw_rules.specs.Report.{Entry, entries_from, first_line, handed_in, opening_entries, opening_entry}
 use Rattle.cw_rules.specs.Rules.{Rules, digest, genesis}
 use Rattle.cw_rules.specs.Stands.{Stands}
@@ -590,7 +590,7 @@ clear_down r script w c (before, rest, joined, h) =
 -- where a script ends without a clash, all that is handed out is one chain
 pub script_chain : (r : Rules) (script : List Line) (w : World) → IsCluster r script
     → outcome r (opening r script) script ≡ Ends w → (x : Handed) → In x (handed_in r script)
-    → IsOneChain r w (handed_in r script) x
+    → IsChainUpTo r w (handed_in r script) x
 script_chain r script w c h x at =
     let k =
     subst (IsClearRun r script w) (sym (handed_parts r script))

@@ -81,7 +81,7 @@ pub record IsLinkOf (r : Rules) (links : List Block) (y : Handed) : Type 0 where
 
 -- the chain up to a handed block is a chain that ends in it, and each handed block that isn't
 -- higher lies on it
-pub record IsOneChain (r : Rules) (w : World) (handed : List Handed) (x : Handed) : Type 0 where
+pub record IsChainUpTo (r : Rules) (w : World) (handed : List Handed) (x : Handed) : Type 0 where
   pub block : Block
   pub under : block_under r w x.commitment ≡ Some block
   pub height : block.height ≡ x.height

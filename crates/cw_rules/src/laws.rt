@@ -25,7 +25,7 @@ ghost use Rattle.cw_rules.specs.Keeps.{Keeps, KeepsBy, Meaning};
 ghost use Rattle.cw_rules.specs.Notes.{epoch_of, has_vote};
 ghost use Rattle.cw_rules.specs.Owed.{epoch_owed, is_known, notarize_owed, owed};
 ghost use Rattle.cw_rules.specs.Reached.{AllAnchored, AllNamed, GoesDown, In, IsClash, IsCluster};
-ghost use Rattle.cw_rules.specs.Reached.{IsMemberKept, IsOneChain, IsReported, OnlyGrows, Reaches};
+ghost use Rattle.cw_rules.specs.Reached.{IsChainUpTo, IsMemberKept, IsReported, OnlyGrows, Reaches};
 ghost use Rattle.cw_rules.specs.Reached.{ReachesClear, members_of};
 ghost use Rattle.cw_rules.specs.Report.{handed_in, report_of};
 ghost use Rattle.cw_rules.specs.Rules.{Chunk, Rules, among, chunks, commit, genesis_commitment};
@@ -190,7 +190,7 @@ pub fn epoch_laws()
 pub fn one_chain()
     ensures { (r : Rules) (script : List Line) (w : World)
         → IsCluster r script → outcome r (opening r script) script ≡ Ends w
-        → (x : Handed) → In x (handed_in r script) → IsOneChain r w (handed_in r script) x }
+        → (x : Handed) → In x (handed_in r script) → IsChainUpTo r w (handed_in r script) x }
 {}
 
 /// The report of a script that ends without a clash: its chain is one from genesis, and each block
