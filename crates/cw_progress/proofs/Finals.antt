@@ -1,10 +1,8 @@
 -- What is notarized, and held where it fits by a quorum, can be finalized.
-use Rattle.std.proofs.Common.{◌≡◌, ℕ, ◌≤◌, Bool, true, false, ◌&&◌, ◌||◌, ◌==◌, not, cond, List, [], ◌∷◌, ◌++◌, Option, Some, None, filter_map, find, length, map, option_map, option_and_then, slice_get, refl, sym, ◌∙◌, ap, subst, inl, inr, ◌⊎◌, eqb-true}
-use Rattle.std.specs.List.{list_any}
-use Rattle.std.specs.Option.{option_map_or, option_or}
-use Rattle.std.proofs.lemmas.Bool.{and_from, and_parts, cases_Bool, cond-true, cond-false, false≢true}
+use Rattle.std.proofs.Common.{◌≡◌, ℕ, ◌≤◌, Bool, true, false, ◌&&◌, ◌==◌, not, cond, List, [], ◌∷◌, ◌++◌, Option, Some, None, filter_map, find, length, option_map, option_and_then, slice_get, refl, sym, ◌∙◌, ap, subst, inl, inr, ◌⊎◌, eqb-true}
+use Rattle.std.specs.Option.{option_map_or}
+use Rattle.std.proofs.lemmas.Bool.{and_from, and_parts, cases_Bool, cond-true, false≢true}
 use Rattle.std.proofs.lemmas.List.Elements.{filter_map-append}
-use Rattle.std.proofs.lemmas.Option.{same_Some}
 use Rattle.cw_types.specs.declared.commitment.Commitment.{Commitment}
 use Rattle.cw_types.specs.declared.event.Event.{Event}
 use Rattle.cw_types.specs.declared.message.Message.{Message}
@@ -27,17 +25,16 @@ use Rattle.cw_rules.specs.Owed.{ballot_vote, block_owed, cert_owed, certified_ow
 use Rattle.cw_rules.specs.Reached.{In, IsCluster, Reaches, members_of}
 use Rattle.cw_rules.specs.Rules.{Rules, genesis, genesis_commitment}
 use Rattle.cw_rules.specs.Sends.{to_all}
-use Rattle.cw_rules.specs.Stands.{AreKept, AreLawful, EachAfter}
+use Rattle.cw_rules.specs.Stands.{EachAfter}
 use Rattle.cw_rules.specs.Step.{Member, Stepped, member_notes, state_of, step, step_notes, taken, with_notes}
-use Rattle.cw_rules.specs.World.{Ask, Do, Line, Sent, World, event_of, happens, is_to, member_at, message_for, run, signed, with_done}
-use Rattle.cw_rules.proofs.Certified.{Fitting, fitting}
+use Rattle.cw_rules.specs.World.{Ask, Do, Line, Sent, World, event_of, is_to, member_at, signed, with_done}
+use Rattle.cw_rules.proofs.Certified.{fitting}
 use Rattle.cw_rules.proofs.Chain.{certified_rests, finalized_certified, one_notarized}
 use Rattle.cw_rules.proofs.Lists.{get_front, in_cases, in_left}
 use Rattle.cw_rules.proofs.Reach.{reached_lawful}
 use Rattle.cw_rules.proofs.Settles.{step_ends}
 use Rattle.cw_rules.proofs.Worlds.{frames_join, get-map, member_there}
-use Rattle.cw_progress.specs.Over.{ComesTo, is_delivery, is_honest_line}
-use Rattle.cw_progress.specs.Sent.{IsSent}
+use Rattle.cw_progress.specs.Over.{ComesTo, is_delivery}
 use Rattle.cw_progress.specs.Views.{CanFinalize}
 use Rattle.cw_progress.proofs.Carries.{Extends, each_at}
 use Rattle.cw_progress.proofs.Further.{reaches_on}
@@ -48,7 +45,7 @@ use Rattle.cw_progress.proofs.Quorum.{any_in, in_any}
 use Rattle.cw_progress.proofs.Rests.{first_none, or_none, step_each}
 use Rattle.cw_progress.proofs.Taken.{cert_taken}
 use Rattle.cw_progress.proofs.Tops.{cert_noted, held_same}
-use Rattle.cw_progress.proofs.Valid.{noted_valid, valid_formed, valid_more, vote_in}
+use Rattle.cw_progress.proofs.Valid.{noted_valid, valid_formed, valid_more}
 use Rattle.cw_progress.proofs.Voting.{Votes, Voting, turn_goes, voting_over}
 
 -- ---- what stays with more notes

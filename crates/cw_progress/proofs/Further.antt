@@ -1,14 +1,13 @@
 -- A world that lines of honest members lead to is one that a longer script reaches.
-use Rattle.std.proofs.Common.{◌≡◌, ℕ, ◌≤◌, Bool, true, false, ◌||◌, cond, List, [], ◌∷◌, ◌++◌, Option, Some, None, map, refl, sym, ◌∙◌, ap, subst, arith, append_assoc, append-nil, count_by}
+use Rattle.std.proofs.Common.{◌≡◌, ℕ, true, false, ◌||◌, cond, List, [], ◌∷◌, ◌++◌, Some, None, map, refl, sym, ◌∙◌, ap, arith, append_assoc}
 use Rattle.std.specs.List.{AllByRecursion, list_any, range_with_len}
 use Rattle.std.proofs.lemmas.Bool.{false≢true}
 use Rattle.std.proofs.lemmas.List.Folds.{list_any-append}
-use Rattle.cw_types.specs.Epochs.{members_in, size}
-use Rattle.cw_types.specs.Numbers.{max_faults}
+use Rattle.cw_types.specs.Epochs.{members_in}
 use Rattle.cw_rules.specs.Reached.{IsCluster, Reaches}
 use Rattle.cw_rules.specs.Rules.{Rules}
-use Rattle.cw_rules.specs.Step.{Member, start}
-use Rattle.cw_rules.specs.World.{Ask, Cut, Do, Faulty, Line, Restart, World, faults, happens, opening, run}
+use Rattle.cw_rules.specs.Step.{start}
+use Rattle.cw_rules.specs.World.{Cut, Do, Faulty, Line, Restart, World, faults, happens, opening, run}
 use Rattle.cw_rules.proofs.Grows.{count_more}
 use Rattle.cw_progress.specs.Over.{is_honest_line}
 

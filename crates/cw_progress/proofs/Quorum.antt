@@ -1,53 +1,37 @@
 -- A vote that a quorum sent comes to a certificate.
-use Rattle.std.proofs.Common.{◌≡◌, ℕ, zero, suc, ◌+◌, ◌-◌, ◌^◌, ◌<◌, ◌≤◌, Bool, true, false, ◌&&◌, ◌||◌, ◌==◌, not, cond, nat_le, nat_lt, List, [], ◌∷◌, ◌++◌, Option, Some, None, count_by, filter, filter_map, length, map, option_map, option_and_then, slice_get, IsTrue, refl, sym, ◌∙◌, ap, subst, inl, inr, ◌⊎◌, arith, eq-eqb, eqb-true, lt-ltb}
+use Rattle.std.proofs.Common.{◌≡◌, ℕ, ◌≤◌, Bool, true, false, ◌&&◌, ◌==◌, not, cond, nat_le, List, [], ◌∷◌, ◌++◌, Option, Some, None, filter_map, length, map, option_map, IsTrue, refl, sym, ◌∙◌, ap, subst, inl, inr, ◌⊎◌, arith, eq-eqb}
 use Rattle.std.specs.List.{AllByRecursion, list_any}
-use Rattle.std.specs.Option.{option_map_or, option_or}
-use Rattle.std.proofs.lemmas.Bool.{and_from, and_parts, cases_Bool, cases_eq, cond-true, cond-false, false≢true, le-leb, or_cases, or_left, or_right}
+use Rattle.std.proofs.lemmas.Bool.{and_from, and_parts, cond-true, false≢true, le-leb, or_cases, or_left, or_right}
 use Rattle.std.proofs.lemmas.List.Sums.{length-filter}
-use Rattle.std.proofs.lemmas.Option.{same_Some}
 use Rattle.cw_types.specs.declared.event.Event.{Event}
 use Rattle.cw_types.specs.declared.message.Message.{Message}
 use Rattle.cw_types.specs.declared.note.Note.{Note}
-use Rattle.cw_types.specs.declared.vote.Cert.{Cert}
-use Rattle.cw_types.specs.declared.vote.Proposal.{Proposal}
 use Rattle.cw_types.specs.declared.vote.Vote.{Vote}
-use Rattle.cw_types.specs.declared.vote.Vote.TheVariants.{Finalize, Notarize, Nullify}
 use Rattle.cw_types.specs.Epochs.{is_member, members_in, rises_from, size}
-use Rattle.cw_types.specs.Numbers.{max_faults, quorum}
+use Rattle.cw_types.specs.Numbers.{quorum}
 use Rattle.cw_types.specs.Same.{same_vote}
-use Rattle.cw_types.specs.Votes.{is_view, vote_epoch, vote_view, well_formed}
+use Rattle.cw_types.specs.Votes.{vote_epoch, well_formed}
 use Rattle.cw_types.proofs.Same.{same_vote-true, same_vote_self}
-use Rattle.cw_rules.specs.Accepted.{Ballot, Came, Many, Single, State, first_some, same_ballot, take_ballot}
-use Rattle.cw_rules.specs.Direct.{direct, timed_out}
-use Rattle.cw_rules.specs.Fits.{block_fits}
-use Rattle.cw_rules.specs.Notes.{ended, ends_in, epoch_of, greatest, has_cert, has_vote, is_vote, view_of}
-use Rattle.cw_rules.specs.Owed.{ballot_vote, block_owed, cert_owed, closes, has_closed, is_closing, is_of, is_single, known, knows, named_commitments, named_votes, note_vote, signers_in, signers_of, when}
-use Rattle.cw_rules.specs.Reached.{In, IsCluster, Reaches, members_of}
+use Rattle.cw_rules.specs.Accepted.{Ballot, Came, Many, Single, first_some, same_ballot, take_ballot}
+use Rattle.cw_rules.specs.Notes.{has_cert, has_vote}
+use Rattle.cw_rules.specs.Owed.{ballot_vote, block_owed, cert_owed, is_single, known, knows, named_commitments, named_votes, note_vote, signers_in, signers_of, when}
+use Rattle.cw_rules.specs.Reached.{In, IsCluster}
 use Rattle.cw_rules.specs.Rules.{Rules}
 use Rattle.cw_rules.specs.Sends.{to_all}
-use Rattle.cw_rules.specs.Stands.{AreKept}
-use Rattle.cw_rules.specs.Step.{Member, Stepped, marks, member_notes, settle, state_of, step, step_notes, taken, with_notes}
-use Rattle.cw_rules.specs.World.{Ask, Do, Line, World, done_by, event_of, happens, member_at, run, signed, turned, with_done}
-use Rattle.cw_rules.proofs.Anchors.{get-set_other}
-use Rattle.cw_rules.proofs.Chain.{finalized_certified}
+use Rattle.cw_rules.specs.Step.{Member, Stepped, member_notes, state_of, step, step_notes, taken, with_notes}
+use Rattle.cw_rules.specs.World.{Ask, Do, Line, World, happens, member_at, run, signed, with_done}
 use Rattle.cw_rules.proofs.Grows.{count_signers}
-use Rattle.cw_rules.proofs.Lists.{all_both, in_left, in_right, is_in}
-use Rattle.cw_rules.proofs.NoteLemmas.{any_back, any_front}
-use Rattle.cw_rules.proofs.Reach.{reached_lawful}
+use Rattle.cw_rules.proofs.Lists.{in_left, in_right, is_in}
 use Rattle.cw_rules.proofs.Settles.{step_ends}
-use Rattle.cw_rules.proofs.Worlds.{frames_join, get-map, member_there}
+use Rattle.cw_rules.proofs.Worlds.{frames_join, member_there}
 use Rattle.cw_progress.specs.Over.{ComesTo, is_delivery}
 use Rattle.cw_progress.specs.Sent.{IsSent}
 use Rattle.cw_progress.proofs.Carries.{extends_done}
-use Rattle.cw_progress.proofs.Ends.{certified_in_notes, ends_here, member_is}
-use Rattle.cw_progress.proofs.Further.{reaches_on, run_both}
-use Rattle.cw_progress.proofs.Noted.{noted_sent}
-use Rattle.cw_progress.proofs.Outs.{in_map, mapped_in, sent_stays}
+use Rattle.cw_progress.proofs.Outs.{in_map, sent_stays}
 use Rattle.cw_progress.proofs.Over.{delivery_happens, member_done}
 use Rattle.cw_progress.proofs.Rests.{first_none, or_none}
 use Rattle.cw_progress.proofs.Taken.{ballot_in, ballots_stay}
-use Rattle.cw_progress.proofs.Tops.{in_greatest}
-use Rattle.cw_progress.proofs.Valid.{sent_signs, vote_in}
+use Rattle.cw_progress.proofs.Valid.{sent_signs}
 
 -- ---- lists
 

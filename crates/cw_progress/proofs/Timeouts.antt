@@ -1,20 +1,18 @@
 -- A view that a quorum of honest members is in can be ended.
-use Rattle.std.proofs.Common.{◌≡◌, ℕ, zero, suc, ◌+◌, ◌-◌, ◌^◌, ◌<◌, ◌≤◌, Bool, true, false, ◌&&◌, ◌||◌, ◌==◌, not, cond, nat_lt, List, [], ◌∷◌, ◌++◌, Option, Some, None, filter_map, length, option_map, slice_get, refl, sym, ◌∙◌, ap, subst, inl, inr, ◌⊎◌, arith, eq-eqb, eqb-true, lt-ltb}
-use Rattle.std.specs.List.{list_any}
+use Rattle.std.proofs.Common.{◌≡◌, ℕ, ◌-◌, ◌^◌, ◌<◌, ◌≤◌, Bool, true, false, ◌&&◌, ◌==◌, not, nat_lt, List, [], ◌∷◌, ◌++◌, Some, filter_map, length, option_map, refl, sym, ◌∙◌, ap, subst, inl, inr, ◌⊎◌, arith, eq-eqb, eqb-true, lt-ltb}
 use Rattle.std.proofs.lemmas.Bool.{and_from, and_parts, cases_Bool, cond-true, false≢true, or_left}
 use Rattle.cw_types.specs.declared.event.Event.{Event}
 use Rattle.cw_types.specs.declared.note.Note.{Note}
-use Rattle.cw_types.specs.declared.vote.Proposal.{Proposal}
 use Rattle.cw_types.specs.declared.vote.Vote.{Vote}
 use Rattle.cw_types.specs.declared.vote.Vote.TheVariants.{Finalize, Notarize, Nullify}
 use Rattle.cw_types.specs.Epochs.{is_member, rises_from, size}
 use Rattle.cw_types.specs.Numbers.{quorum}
-use Rattle.cw_types.specs.Votes.{is_view, vote_epoch, vote_view, well_formed}
+use Rattle.cw_types.specs.Votes.{vote_epoch, vote_view}
 use Rattle.cw_types.specs.Same.{same_vote}
 use Rattle.cw_types.proofs.Same.{same_vote_self}
 use Rattle.cw_rules.specs.Direct.{timed_out}
 use Rattle.cw_rules.specs.Fits.{block_fits}
-use Rattle.cw_rules.specs.Notes.{ended, epoch_of, greatest, has_cert, has_vote, is_vote, view_of}
+use Rattle.cw_rules.specs.Notes.{ended, epoch_of, has_cert, has_vote, is_vote, view_of}
 use Rattle.cw_rules.specs.Owed.{closes, has_closed, is_closing, is_of}
 use Rattle.cw_rules.specs.Reached.{In, IsCluster, Reaches, members_of}
 use Rattle.cw_rules.specs.Rules.{Rules}
@@ -32,7 +30,7 @@ use Rattle.cw_progress.proofs.Ends.{certified_in_notes, ends_here}
 use Rattle.cw_progress.proofs.Outs.{mapped_in}
 use Rattle.cw_progress.proofs.Quorum.{any_in, in_any}
 use Rattle.cw_progress.proofs.Tops.{in_greatest}
-use Rattle.cw_progress.proofs.Voting.{Votes, Voting, voting_over}
+use Rattle.cw_progress.proofs.Voting.{Voting, voting_over}
 
 -- who closed the view that it is in has voted to nullify it
 closed_nullified : (r : Rules) (w : World) (notes : List Note)

@@ -1,5 +1,5 @@
 -- Members that one ask each brings to a vote come to a certificate of it.
-use Rattle.std.proofs.Common.{◌≡◌, ℕ, ◌≤◌, Bool, true, false, cond, List, [], ◌∷◌, ◌++◌, Option, Some, None, length, option_map, option_and_then, slice_get, refl, sym, ◌∙◌, ap, subst, inl, inr, ◌⊎◌, arith}
+use Rattle.std.proofs.Common.{◌≡◌, ℕ, ◌≤◌, Bool, true, cond, List, [], ◌∷◌, ◌++◌, Some, None, length, option_map, option_and_then, refl, sym, ◌∙◌, ap, subst, inl, inr, ◌⊎◌}
 use Rattle.std.specs.List.{AllByRecursion}
 use Rattle.std.specs.Option.{option_map_or}
 use Rattle.std.proofs.lemmas.Bool.{cases_eq, false≢true}
@@ -15,7 +15,7 @@ use Rattle.cw_rules.specs.Reached.{In, IsCluster, Reaches}
 use Rattle.cw_rules.specs.Rules.{Rules}
 use Rattle.cw_rules.specs.Sends.{to_all}
 use Rattle.cw_rules.specs.Step.{Member, Stepped, member_notes, state_of, step, step_notes, taken}
-use Rattle.cw_rules.specs.World.{Ask, Do, Line, World, done_by, event_of, happens, member_at, run, signed, turned, with_done}
+use Rattle.cw_rules.specs.World.{Ask, Do, Line, World, event_of, happens, member_at, run, signed, turned, with_done}
 use Rattle.cw_rules.proofs.Anchors.{get-set_other}
 use Rattle.cw_rules.proofs.Lists.{all_both}
 use Rattle.cw_rules.proofs.NoteLemmas.{any_front}

@@ -1,5 +1,5 @@
 use Rattle.cw_rules.specs.declared.travel.Travel.TheVariants.{Chunked}
-use Rattle.hail_world.proofs.Framing.{made_done, made_early, made_short}
+use Rattle.hail_world.proofs.Framing.{made_done}
 use Rattle.run_light.proofs.Telling.{told_run}
 use Rattle.run_light.proofs.program.made_of_source.Goals as goal
 
@@ -16,9 +16,3 @@ returns-in-Ok-light_text g c =
     made_done c.in-Ok.ensures.run _
     (λ text run. told_run g.H.Hasher.digest_of c.args.height text _ _ _ run
     c.in-Ok-light_text.ensures)
-
-pub returns-in-Err-light_text : goal.returns-in-Err-light_text
-returns-in-Err-light_text g c = made_short c.in-Ok.ensures.run
-
-pub returns-in-Err : goal.returns-in-Err
-returns-in-Err g c = made_early c.in-Err.ensures.run
