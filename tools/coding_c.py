@@ -57,7 +57,7 @@ def encode(k, m, text):
 def decode(k, m, root, chunks):
     kept = [c.create_string_buffer(chunk, len(chunk)) for chunk in chunks]
     spans = (Bytes * len(kept))(*[Bytes(c.cast(b, c.POINTER(c.c_uint8)), len(b)) for b in kept])
-    room = sum(map(len, chunks)) + 1
+    room = k * max(map(len, chunks))
     text, size = c.create_string_buffer(room), c.c_size_t()
     refuse(lib.buz_decode(k, m, root, spans, len(kept), text, room, c.byref(size)))
     return text.raw[:size.value]
