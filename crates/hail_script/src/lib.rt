@@ -19,7 +19,7 @@ pub use event::{Ask, AskKind, EventLine, Fault, FaultKind, LineKind};
 pub use headers::Header;
 pub use lanes::LaneScript;
 pub use laws::script_laws;
-pub use pieces::number_of;
+pub use pieces::{bytes_of, number_of, numbers_of, pieces_of};
 pub use script::Script;
 pub use stop::Stop;
 pub use views::view_text;

@@ -11,7 +11,7 @@ use std::alloc::{AllocError, Global};
 use std::str;
 
 /// The pieces of a text between separators.
-pub(crate) fn pieces_of(alloc: Global, text: &[u8], separator: u8) -> Result<Vec<&[u8]>, AllocError>
+pub fn pieces_of(alloc: Global, text: &[u8], separator: u8) -> Result<Vec<&[u8]>, AllocError>
     ensures { IfOk result
         (λ pieces. map (λ piece. piece.now) pieces.items ≡ slice_split
         (λ b. b == separator) text.now) }
@@ -57,7 +57,7 @@ pub fn number_of(field: &[u8]) -> Option<u64>
 
 /// The bytes of a field in hexadecimal, which is `-` for none.
 #[tactic(auto, unfolding(crate::specs::Pieces::bytes_in))]
-pub(crate) fn bytes_of(alloc: Global, field: &[u8]) -> Result<Option<Items<u8>>, NoMemory>
+pub fn bytes_of(alloc: Global, field: &[u8]) -> Result<Option<Items<u8>>, NoMemory>
     ensures { IfOk result (λ bytes. bytes ≡ pieces.bytes_in field.now) }
 {
     if field == b"-".as_slice() {
@@ -74,7 +74,7 @@ pub(crate) fn bytes_of(alloc: Global, field: &[u8]) -> Result<Option<Items<u8>>,
 }
 
 /// The numbers that fields are, if all are.
-pub(crate) fn numbers_of(alloc: Global, fields: &[&[u8]]) -> Result<Option<Items<u64>>, NoMemory>
+pub fn numbers_of(alloc: Global, fields: &[&[u8]]) -> Result<Option<Items<u64>>, NoMemory>
     ensures { IfOk result
         (λ numbers. numbers ≡ pieces.numbers (map (λ field. field.now) fields.now)) }
 {
