@@ -5,4 +5,3 @@ pub mod Numbered
 pub mod Voted
 pub mod StormWords
 pub mod StormLines
-pub mod Answering

@@ -5,4 +5,3 @@ pub mod Reading
 pub mod Writing
 pub mod Text
 pub mod Exits
-pub mod Answers

@@ -1,4 +1,3 @@
-pub mod OneChain
 pub mod MemoryNodes
 pub mod Places
 pub mod Offers
