@@ -7,8 +7,6 @@ mod damage_tests;
 #[cfg(test)]
 mod disks;
 #[cfg(test)]
-mod host_tests;
-#[cfg(test)]
 mod mailbox_tests;
 #[cfg(test)]
 mod marshal_tests;

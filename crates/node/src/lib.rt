@@ -10,7 +10,6 @@ mod came;
 mod direct;
 mod fits;
 mod holding;
-mod host;
 mod laws;
 mod leads;
 mod member;

@@ -42,7 +42,7 @@ pub type NodeError = StoreError;
 /// ```
 #[derive(Drop)]
 pub struct Member<H: Hasher<Digest = Digest32>, D: Disk, A: Application + Drop, W: Way> {
-    pub(crate) holding: Holding<H, D, A>,
+    holding: Holding<H, D, A>,
     // What its notes lead to.
     leads: LeadMap,
     // A step was refused, by the disk or for memory.
