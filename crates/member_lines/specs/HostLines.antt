@@ -17,7 +17,6 @@ use Rattle.member_lines.specs.Claims.{no_claim}
 use Rattle.member_lines.specs.declared.claim.Claim.{Claim}
 use Rattle.member_lines.specs.declared.line.HostLine.{HostLine}
 use Rattle.member_lines.specs.declared.line.HostLine.TheVariants.{Ask, Disk, Start, Take}
-use Rattle.member_lines.specs.declared.line.Question.{Question}
 use Rattle.member_lines.specs.declared.line.Question.TheVariants as question
 use Rattle.member_lines.specs.declared.refusal.Refusal.{Refusal}
 use Rattle.member_lines.specs.declared.refusal.Refusal.TheVariants.{NoFinalization, OversizeBlock, Syntax}

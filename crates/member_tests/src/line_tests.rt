@@ -140,18 +140,6 @@ fn told_question(alloc: Global, question: &Question) -> Result<String, Fail> {
     }
 }
 
-#[test]
-fn a_payload_of_more_than_a_mebibyte_is_refused(rt: HostRuntime) -> Result<(), Fail> {
-    let mut line = Vec::from_slice(rt.alloc(), b"propose ")?;
-    line.resize(8 + 2 * 1_048_576, b'0')?;
-    let whole = told_of(rt.alloc(), &line)?;
-    assert_eq!(rt; whole.as_str(), "propose 1048576");
-    line.resize(8 + 2 * 1_048_577, b'0')?;
-    let longer = told_of(rt.alloc(), &line)?;
-    assert_eq!(rt; longer.as_str(), "no OversizeBlock");
-    Ok(())
-}
-
 fn nullify(view: u64) -> Vote {
     Vote::Nullify { epoch: 0, view }
 }
