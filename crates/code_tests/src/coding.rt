@@ -1,4 +1,5 @@
-//! Tests of cw_coding.
+//! Tests of cw_coding: what is encoded is checked and decoded; beside them refusals, clashes, bytes,
+//! planted shards, roots, stripes and commitments, a file each.
 
 mod clashes;
 mod commitments;

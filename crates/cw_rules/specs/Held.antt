@@ -73,7 +73,7 @@ abbrev pub acked_height : Note → Option ℕ
 acked_height (Note.Ack h) = Some h
 acked_height _ = None
 
--- the height below which blocks are let go
+-- the height below which blocks are hidden by a prune
 abbrev pub greatest_prune : List Note → ℕ
 greatest_prune notes = greatest (filter_map pruned_height notes)
 

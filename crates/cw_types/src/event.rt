@@ -21,7 +21,7 @@ pub enum Event {
     /// The least height that is pending is acknowledged: it was handed out, and lies above the last
     /// acknowledged one and not below the floor.
     Ack,
-    /// Blocks below the height are to be let go.
+    /// Blocks below the height are to be hidden: no question finds them any more.
     Prune(u64),
     /// What a finalization finalizes becomes the floor once its block is held.
     Floor(Cert),

@@ -34,7 +34,7 @@ pub enum Note {
     Ack(u64),
     /// Heights below it are given up, unless they were handed out.
     Floor(u64),
-    /// Blocks below it, but for the first one, are let go.
+    /// Blocks below it, but for the first one, are hidden.
     Prune(u64),
     /// The epoch that it entered, and the commitment of the last block of the epoch before.
     Epoch(u64, Commitment),

@@ -27,8 +27,9 @@ mail_joined m other = record {
   lists = m.lists ++ lists_of other;
 }
 
--- A mailbox made one more call of its own, at this place: some state of the session was turned
--- lawfully by this event, and the call has an equal event, and a reply equal to that of the turn.
+-- A mailbox made one more call of its own, at this place: the event turned some state lawfully, and
+-- the call has an equal event, and a reply equal to that of the turn. That all turns are those of one
+-- state is said where the session is closed.
 pub record HasAddedCall {S E R : Type 0} (turns : S → E → R → S → Type 0)
     (same_event : E → E → Bool)
     (same_reply : R → R → Bool) (event : E) (place : ℕ) (old new : Mail (Call S E R)) : Type 0 where

@@ -8,7 +8,7 @@ ghost use Rattle.note_scans.specs.Heights.{greatest_of};
 
 use cw_types::Note;
 
-/// The height below which blocks are let go: the greatest of a Prune note, else 0.
+/// The height below which blocks are hidden: the greatest of a Prune note, else 0.
 pub(crate) fn greatest_prune(notes: &[Note]) -> u64
     ensures { result ≡ rule.greatest_prune notes.now }
 {

@@ -27,7 +27,7 @@ pub(crate) struct Facts {
     pub(crate) runs: Runs,
     pub(crate) epoch: u64,
     pub(crate) heights: Heights,
-    // blocks below it, but for those of height 0, are let go
+    // blocks below it, but for those of height 0, are hidden
     pub(crate) prune: u64,
 }
 

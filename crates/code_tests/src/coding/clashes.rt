@@ -1,3 +1,5 @@
+//! Tests of two texts of one digest, which two inputs of one root give.
+
 use super::*;
 use cw_base::SumHasher;
 

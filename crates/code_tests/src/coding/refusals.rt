@@ -1,3 +1,5 @@
+//! Tests of what is not decoded, checked or read, and why.
+
 use super::*;
 use cw_base::{CodecError, Digest32, Reader};
 

@@ -1,3 +1,5 @@
+//! Tests of chunks as bytes: how they are written, and what is read back or refused.
+
 use super::*;
 use cw_base::{CodecError, Digest32, Reader, SumHasher};
 
