@@ -111,7 +111,7 @@ module _ (r : Rules) (script : List Line) where
       (step_each IsTame r i (taken r (signed w) (state_of m) e) e (record {
         of_block = λ ns c b. tt;
         of_verified = λ ns epoch view c. tt;
-        of_notarize = λ ns q. tt;
+        of_notarize = λ ns q o. tt;
         of_finalize = λ ns q. tt;
         of_certified = λ ns q. tt;
         of_epoch = λ ns epoch c. tt;

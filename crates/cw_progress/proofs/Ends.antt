@@ -87,7 +87,7 @@ has_noted p (n ∷ ns) (inr h) =
     or_right (is_certified p n) (has_certified ns p) (has_noted p ns h)
 
 -- the end of a view in an epoch
-ends_tell : (epoch e view u : ℕ) → ends_in epoch e view ≡ Some u → (e ≡ epoch) × (view ≡ u)
+pub ends_tell : (epoch e view u : ℕ) → ends_in epoch e view ≡ Some u → (e ≡ epoch) × (view ≡ u)
 ends_tell epoch e view u h = go (cases_Bool (e == epoch))
   where
     go : ((e == epoch) ≡ true) ⊎ ((e == epoch) ≡ false) → (e ≡ epoch) × (view ≡ u)
@@ -128,7 +128,7 @@ of_view r script = record {
       step_each IsOfView r i (taken r (signed w) (state_of m) e) e (record {
         of_block = λ ns c b. tt;
         of_verified = λ ns epoch view c. tt;
-        of_notarize = λ ns p. tt;
+        of_notarize = λ ns p o. tt;
         of_finalize = λ ns p. tt;
         of_certified = λ ns p. tt;
         of_epoch = λ ns epoch c. tt;
@@ -175,7 +175,7 @@ module _ (r : Rules) (script : List Line) (w : World) (cluster : IsCluster r scr
       }
 
   -- below the view of a proposal that stands notarized
-  below_notarized : (p : Proposal) → Stands r.epochs (members_of w) (Notarize p) → (u : ℕ)
+  pub below_notarized : (p : Proposal) → Stands r.epochs (members_of w) (Notarize p) → (u : ℕ)
       → p.view ≡ suc u → 0 < u → EndedForSome w p.epoch u
   below_notarized p a u is pos =
       let s = sharer r.epochs (members_of w) (Notarize p) (Notarize p) lawful.faults refl a a in

@@ -72,7 +72,7 @@ map_found f None p y g h = cc
 map_found f (Some x) p y g h = ap (option_map f) (g x refl) ∙ h
 
 -- what is settled stays so
-settled_stays : (c0 : Commitment) (xs ys : List Note) (epoch view : ℕ) (c : Commitment)
+pub settled_stays : (c0 : Commitment) (xs ys : List Note) (epoch view : ℕ) (c : Commitment)
     → settled c0 xs epoch view ≡ Some c → settled c0 (xs ++ ys) epoch view ≡ Some c
 settled_stays c0 xs ys epoch view c =
     cond_both (view == 0) (epoch_parent c0 xs epoch)
@@ -100,7 +100,7 @@ settled_stays c0 xs ys epoch view c =
 module _ (r : Rules) (xs ys : List Note)
     (same : greatest_prune (xs ++ ys) ≡ greatest_prune xs) where
   -- what is held stays so where nothing more is let go
-  held_on : (c : Commitment) (b : Block) → held r xs c ≡ Some b → held r (xs ++ ys) c ≡ Some b
+  pub held_on : (c : Commitment) (b : Block) → held r xs c ≡ Some b → held r (xs ++ ys) c ≡ Some b
   held_on c b h = go (cases_Bool (same_commitment c (genesis_commitment r)))
     where
       go : (same_commitment c (genesis_commitment r) ≡ true)
@@ -139,7 +139,7 @@ delivery_nullifies_none r id s m =
     step_each NoNullify r id s (Event.Deliver m) (record {
       of_block = λ ns c b. tt;
       of_verified = λ ns epoch view c. tt;
-      of_notarize = λ ns p. tt;
+      of_notarize = λ ns p o. tt;
       of_finalize = λ ns p. tt;
       of_certified = λ ns p. tt;
       of_epoch = λ ns epoch c. tt;

@@ -41,12 +41,12 @@ same_faults i before more rest a =
     ∙ ap (λ b. b || list_any (faults i) rest) (no_faults i more a))
     ∙ sym (list_any-append (faults i) before rest))
 
-pub reaches_on : (r : Rules) (script : List Line) (w : World) (more : List Line)
-    → IsCluster r script → Reaches r script w
-    → AllByRecursion (λ line. is_honest_line line ≡ true) more
-    → (longer : List Line) × IsCluster r longer × Reaches r longer (run r w more)
-reaches_on r script w more cluster (before, rest, joined, e) a =
-    (before ++ (more ++ rest), within, reached)
+-- the script with such lines in between is one of as many faulty members, and opens so too
+pub inserted : (r : Rules) (script before more rest : List Line) → IsCluster r script
+    → script ≡ before ++ rest → AllByRecursion (λ line. is_honest_line line ≡ true) more
+    → IsCluster r (before ++ (more ++ rest))
+    × (opening r (before ++ (more ++ rest)) ≡ opening r script)
+inserted r script before more rest cluster joined a = (within, opens)
   where
     longer : List Line
     longer = before ++ (more ++ rest)
@@ -70,7 +70,7 @@ reaches_on r script w more cluster (before, rest, joined, e) a =
       spans = cluster.spans;
     }
 
-    opens : opening r longer ≡ opening r script
+    opens : opening r (before ++ (more ++ rest)) ≡ opening r script
     opens =
         ap (λ ms. record { members = ms; pool = [] })
         (map_same
@@ -79,11 +79,19 @@ reaches_on r script w more cluster (before, rest, joined, e) a =
         (λ i. ap (λ b. cond b None (Some (start r i []).member)) (same i))
         (range_with_len 0 r.epochs.total))
 
-    reached : Reaches r (before ++ (more ++ rest)) (run r w more)
-    reached = (
-      before ++ more,
-      rest,
-      sym (append_assoc before more rest),
-      ap (λ v. run r v more) (e ∙ ap (λ v. run r v before) (sym opens))
-          ∙ sym (run_both r (opening r longer) before more),
+pub reaches_on : (r : Rules) (script : List Line) (w : World) (more : List Line)
+    → IsCluster r script → Reaches r script w
+    → AllByRecursion (λ line. is_honest_line line ≡ true) more
+    → (longer : List Line) × IsCluster r longer × Reaches r longer (run r w more)
+reaches_on r script w more cluster (before, rest, joined, e) a =
+    let (within, opens) = inserted r script before more rest cluster joined a in (
+      before ++ (more ++ rest),
+      within,
+      (
+        before ++ more,
+        rest,
+        sym (append_assoc before more rest),
+        ap (λ v. run r v more) (e ∙ ap (λ v. run r v before) (sym opens))
+            ∙ sym (run_both r (opening r (before ++ (more ++ rest))) before more),
+      ),
     )

@@ -9,6 +9,7 @@ use Rattle.cw_types.specs.declared.event.Event.{Event}
 use Rattle.cw_types.specs.declared.event.Handed.{Handed}
 use Rattle.cw_types.specs.declared.message.Message.{Message}
 use Rattle.cw_types.specs.declared.note.Note.{Note}
+use Rattle.cw_types.specs.declared.vote.Vote.{Vote}
 use Rattle.cw_types.specs.Block.{Block}
 use Rattle.cw_types.specs.Same.{same_commitment}
 use Rattle.cw_types.proofs.Same.{same_commitment-true}
@@ -270,7 +271,7 @@ once_from seen (d ∷ ds) c h =
         h)
         more
 
-in_once : (seen cs : List Commitment) (c : Commitment) → In c cs
+pub in_once : (seen cs : List Commitment) (c : Commitment) → In c cs
     → list_any (same_commitment c) seen ≡ false → In c (once seen cs)
 in_once seen [] c h e = absurd h
 in_once seen (d ∷ ds) c h e =
@@ -384,65 +385,85 @@ is_among c (d ∷ ds) h =
     go (inl e) later = inl (same_commitment-true c d e)
     go (inr e) later = inr (later e)
 
+-- what is missing after a step was so before, or the step asks for it
+pub step_asks : (r : Rules) (i : ℕ) (sign : ℕ → Vote → Bool) (m : Member) (e : Event)
+    (c : Commitment)
+    → In c (missing r (state_of (step r i sign m e).member))
+    → In c (missing r (state_of m)) ⊎ In (to_all (Message.Ask i c)) (step r i sign m e).sent
+step_asks r i sign m e c h =
+    go (cases_Bool (list_any (same_commitment c) (missing r (state_of m))))
+  where
+    during : State
+    during = taken r sign (state_of m) e
+
+    notes : List Note
+    notes = step_notes r i during e
+
+    after : State
+    after = with_notes during notes
+
+    there : In c (missing r after)
+    there =
+        missing_lower r after (state_of (step r i sign m e).member)
+        (sym (frames_join m.frames notes))
+        (subst (λ ns. next after ≤ next (record {
+          notes = ns;
+          came = during.came;
+          given = m.given ++ map (λ (h : Handed). h.height) (deliveries r after);
+        })) (sym (frames_join m.frames notes))
+        (next_within r (most_delivered r after) after))
+        c h
+
+    go : (list_any (same_commitment c) (missing r (state_of m)) ≡ true)
+        ⊎ (list_any (same_commitment c) (missing r (state_of m)) ≡ false)
+        → In c (missing r (state_of m)) ⊎ In (to_all (Message.Ask i c)) (step r i sign m e).sent
+    go (inl y) = inl (is_among c (missing r (state_of m)) y)
+    go (inr n) =
+        inr
+        (sends_asks r i (state_of m) after e notes (to_all (Message.Ask i c))
+        (in_map (λ c. to_all (Message.Ask i c))
+        (filter (λ c. not (list_any (same_commitment c) (missing r (state_of m))))
+        (missing r after))
+        c
+        (filter_in_list
+        (λ c. not (list_any (same_commitment c) (missing r (state_of m))))
+        (missing r after) c there (ap not n))))
+
+-- a start asks for all that is missing
+pub start_asks : (r : Rules) (i : ℕ) (frames : List (List Note)) (c : Commitment)
+    → In c (missing r (state_of (start r i frames).member))
+    → In (to_all (Message.Ask i c)) (start r i frames).sent
+start_asks r i frames c h =
+    in_right (to_all (Message.Ask i c))
+    (flat_map (note_sends r i fresh.notes) (last_frame frames))
+    (map (λ c. to_all (Message.Ask i c)) (missing r fresh))
+    (in_map (λ c. to_all (Message.Ask i c)) (missing r fresh) c
+    (missing_lower r fresh (state_of (start r i frames).member) refl
+    (next_within r (most_delivered r fresh) fresh) c h))
+  where
+    fresh : State
+    fresh =
+        record { notes = flat_map (λ frame. frame) frames; came = nothing_came; given = [] }
+
 module _ (r : Rules) (script : List Line) where
   asked_stepped : (w : World) (i : ℕ) (m : Member) (e : Event) → Turning r script AnyLine w i m e
       → AreAsked r w i m
       → AreAsked r (with_done w i (step r i (signed w) m e)) i (step r i (signed w) m e).member
-  asked_stepped w i m e t all live c h =
-      go (cases_Bool (list_any (same_commitment c) (missing r (state_of m))))
+  asked_stepped w i m e t all live c h = go (step_asks r i (signed w) m e c h)
     where
-      during : State
-      during = taken r (signed w) (state_of m) e
-
-      notes : List Note
-      notes = step_notes r i during e
-
-      after : State
-      after = with_notes during notes
-
-      there : In c (missing r after)
-      there =
-          missing_lower r after (state_of (step r i (signed w) m e).member)
-          (sym (frames_join m.frames notes))
-          (subst (λ ns. next after ≤ next (record {
-            notes = ns;
-            came = during.came;
-            given = m.given ++ map (λ (h : Handed). h.height) (deliveries r after);
-          })) (sym (frames_join m.frames notes))
-          (next_within r (most_delivered r after) after))
-          c h
-
-      go : (list_any (same_commitment c) (missing r (state_of m)) ≡ true)
-          ⊎ (list_any (same_commitment c) (missing r (state_of m)) ≡ false)
+      go : In c (missing r (state_of m))
+          ⊎ In (to_all (Message.Ask i c)) (step r i (signed w) m e).sent
           → IsSent (with_done w i (step r i (signed w) m e)) i (to_all (Message.Ask i c))
       go (inl y) =
           sent_stays w (with_done w i (step r i (signed w) m e)) i (to_all (Message.Ask i c))
-          (extends_done w i m (step r i (signed w) m e) t.at)
-          (all t.live c (is_among c (missing r (state_of m)) y))
-      go (inr n) =
-          sent_done w i (step r i (signed w) m e) (to_all (Message.Ask i c))
-          (sends_asks r i (state_of m) after e notes (to_all (Message.Ask i c))
-          (in_map (λ c. to_all (Message.Ask i c))
-          (filter (λ c. not (list_any (same_commitment c) (missing r (state_of m))))
-          (missing r after))
-          c
-          (filter_in_list
-          (λ c. not (list_any (same_commitment c) (missing r (state_of m))))
-          (missing r after) c there (ap not n))))
+          (extends_done w i m (step r i (signed w) m e) t.at) (all t.live c y)
+      go (inr y) = sent_done w i (step r i (signed w) m e) (to_all (Message.Ask i c)) y
 
   asked_started : (w : World) (i : ℕ) (m : Member)
       → AreAsked r (with_done w i (start r i m.frames)) i (start r i m.frames).member
   asked_started w i m live c h =
       sent_done w i (start r i m.frames) (to_all (Message.Ask i c))
-      (in_right (to_all (Message.Ask i c))
-      (flat_map (note_sends r i (member_notes m)) (last_frame m.frames))
-      (map (λ c. to_all (Message.Ask i c)) (missing r fresh))
-      (in_map (λ c. to_all (Message.Ask i c)) (missing r fresh) c
-      (missing_lower r fresh (state_of (start r i m.frames).member) refl
-      (next_within r (most_delivered r fresh) fresh) c h)))
-    where
-      fresh : State
-      fresh = record { notes = member_notes m; came = nothing_came; given = [] }
+      (start_asks r i m.frames c h)
 
   asked_carries : Carries r script AnyLine (AreAsked r)
   asked_carries = record {

@@ -1,5 +1,5 @@
 -- What a turn sends is sent, and stays so.
-use Rattle.std.proofs.Common.{◌≡◌, ℕ, suc, ◌+◌, Bool, true, false, not, cond, List, [], ◌∷◌, ◌++◌, Option, Some, None, filter, filter_map, flat_map, length, map, slice_get, refl, sym, ◌∙◌, ap, subst, inl, inr}
+use Rattle.std.proofs.Common.{◌≡◌, ℕ, suc, ◌+◌, ◌≤◌, Bool, true, false, not, cond, List, [], ◌∷◌, ◌++◌, Option, Some, None, filter, filter_map, flat_map, length, map, slice_get, refl, sym, ◌∙◌, ap, subst, inl, inr, arith}
 use Rattle.std.specs.List.{cons_option, list_any}
 use Rattle.std.proofs.lemmas.Bool.{false≢true}
 use Rattle.cw_types.specs.declared.event.Event.{Event}
@@ -23,9 +23,10 @@ use Rattle.cw_progress.proofs.Carries.{Extends}
 
 -- what stands somewhere in a list stands somewhere behind others
 get_behind : {X : Type 0} (xs ys : List X) (i : ℕ) (x : X) → slice_get ys i ≡ Some x
-    → (k : ℕ) × (slice_get (xs ++ ys) k ≡ Some x)
-get_behind [] ys i x h = (i, h)
-get_behind (z ∷ zs) ys i x h = let (k, e) = get_behind zs ys i x h in (suc k, e)
+    → (k : ℕ) × (slice_get (xs ++ ys) k ≡ Some x) × (length xs ≤ k)
+get_behind [] ys i x h = (i, h, omega arith)
+get_behind (z ∷ zs) ys i x h =
+    let (k, e, le) = get_behind zs ys i x h in (suc k, e, omega (arith, le))
 
 pub in_map : {X Y : Type 0} (f : X → Y) (xs : List X) (x : X) → In x xs → In (f x) (map f xs)
 in_map f [] x h = absurd h
@@ -110,13 +111,33 @@ out_sent n i (x ∷ xs) o (inr h) =
     let (k, s, at, from, to, message) = out_sent (n + 1) i xs o h in
     (suc k, s, at, from, to, message)
 
+-- the member sent the message after so many others
+pub record IsNew (low : ℕ) (w : World) (i : ℕ) (o : Out) : Type 0 where
+  pub sent : IsSent w i o
+  pub late : low ≤ sent.number
+
 -- what a turn sends is sent
+pub new_done : (w : World) (i : ℕ) (done : Stepped) (o : Out) → In o done.sent
+    → IsNew (length w.pool) (with_done w i done) i o
+new_done w i done o h =
+    let (k, s, at, from, to, message) = out_sent (length w.pool) i done.sent o h in
+    let (n, there, le) = get_behind w.pool (sent_now w i done.sent) k s at in
+    record {
+      sent =
+          record {
+            number = n;
+            sent = s;
+            there = there;
+            from = from;
+            to = to;
+            message = message;
+          };
+      late = le;
+    }
+
 pub sent_done : (w : World) (i : ℕ) (done : Stepped) (o : Out) → In o done.sent
     → IsSent (with_done w i done) i o
-sent_done w i done o h =
-    let (k, s, at, from, to, message) = out_sent (length w.pool) i done.sent o h in
-    let (n, there) = get_behind w.pool (sent_now w i done.sent) k s at in
-    record { number = n; sent = s; there = there; from = from; to = to; message = message }
+sent_done w i done o h = (new_done w i done o h).sent
 
 -- and stays so
 pub sent_stays : (w v : World) (i : ℕ) (o : Out) → Extends w v → IsSent w i o → IsSent v i o
@@ -130,6 +151,15 @@ sent_stays w v i o e s = record {
   to = s.to;
   message = s.message;
 }
+
+pub new_stays : (low : ℕ) (w v : World) (i : ℕ) (o : Out) → Extends w v → IsNew low w i o
+    → IsNew low v i o
+unfolding sent_stays
+new_stays low w v i o e s = record { sent = sent_stays w v i o e s.sent; late = s.late }
+
+pub new_lower : (low high : ℕ) (w : World) (i : ℕ) (o : Out) → low ≤ high → IsNew high w i o
+    → IsNew low w i o
+new_lower low high w i o le s = record { sent = s.sent; late = omega (arith, le, s.late) }
 
 -- ---- the parts of what a step sends
 

@@ -12,6 +12,7 @@ use Rattle.cw_types.specs.declared.event.To.{To}
 use Rattle.cw_types.specs.declared.message.Message.{Message}
 use Rattle.cw_types.specs.declared.note.Note.{Note}
 use Rattle.cw_types.specs.declared.vote.Cert.{Cert}
+use Rattle.cw_types.specs.declared.vote.Vote.{Vote}
 use Rattle.cw_types.specs.Block.{Block}
 use Rattle.cw_types.specs.Same.{same_block, same_commitment}
 use Rattle.cw_types.proofs.Same.{same_block-true, same_block_self, same_commitment-true, same_commitment_self}
@@ -84,6 +85,33 @@ member_done w j n done at =
 
 -- ---- a certificate
 
+-- who is given a valid certificate notes one of its vote
+pub cert_step : (r : Rules) (j : ℕ) (sign : ℕ → Vote → Bool) (n : Member) (s : Cert)
+    → is_valid r sign s ≡ true
+    → has_cert (member_notes (step r j sign n (Event.Deliver (Message.Cert s))).member) s.vote
+    ≡ true
+cert_step r j sign n s valid =
+    subst (λ ns. has_cert ns s.vote ≡ true) (sym (frames_join n.frames notes))
+    (cert_noted r j after s none (cert_taken n.came (is_valid r sign s) s valid))
+  where
+    e : Event
+    e = Event.Deliver (Message.Cert s)
+
+    during : State
+    during = taken r sign (state_of n) e
+
+    notes : List Note
+    notes = step_notes r j during e
+
+    after : State
+    after = with_notes during notes
+
+    none : first_some (cert_owed r j after) (named_votes after) ≡ None
+    none =
+        (or_none (first_some (cert_owed r j after) (named_votes after)) _
+        (or_none (first_some (block_owed r after) (named_commitments r after)) _
+        (step_ends r j during e)).1).0
+
 pub cert_over : (r : Rules) (script : List Line) (w : World) → IsCluster r script
     → Reaches r script w → (i j : ℕ) (m n : Member) → member_at w i ≡ Some m → m.live ≡ true
     → member_at w j ≡ Some n → n.live ≡ true → (s : Cert) → In (Note.Cert s) (member_notes m)
@@ -97,37 +125,15 @@ cert_over r script w cluster reach i j m n at live there ready s h = record {
       (delivery_happens r w i j n (to_all (Message.Cert s)) sent there ready refl)
       ∙ member_done w j n done there;
   live = refl;
-  passes =
-      subst (λ ns. has_cert ns s.vote ≡ true) (sym (frames_join n.frames notes))
-      (cert_noted r j after s none
-      (cert_taken n.came (is_valid r (signed w) s) s
-      (noted_valid r script w cluster reach i m at live s h)));
+  passes = cert_step r j (signed w) n s (noted_valid r script w cluster reach i m at live s h);
 }
   where
     sent : IsSent w i (to_all (Message.Cert s))
     sent =
         noted_sent r script w cluster reach i m at live (Note.Cert s) (Message.Cert s) refl h
 
-    e : Event
-    e = Event.Deliver (Message.Cert s)
-
     done : Stepped
-    done = step r j (signed w) n e
-
-    during : State
-    during = taken r (signed w) (state_of n) e
-
-    notes : List Note
-    notes = step_notes r j during e
-
-    after : State
-    after = with_notes during notes
-
-    none : first_some (cert_owed r j after) (named_votes after) ≡ None
-    none =
-        (or_none (first_some (cert_owed r j after) (named_votes after)) _
-        (or_none (first_some (block_owed r after) (named_commitments r after)) _
-        (step_ends r j during e)).1).0
+    done = step r j (signed w) n (Event.Deliver (Message.Cert s))
 
 -- ---- a block
 
@@ -193,7 +199,7 @@ delivery_keeps r id s m =
         step_each KeepsAll r id s (Event.Deliver m) (record {
           of_block = λ ns c b. tt;
           of_verified = λ ns epoch view c. tt;
-          of_notarize = λ ns p. tt;
+          of_notarize = λ ns p o. tt;
           of_finalize = λ ns p. tt;
           of_certified = λ ns p. tt;
           of_epoch = λ ns epoch c. tt;
@@ -294,7 +300,7 @@ module _ (r : Rules) (id : ℕ) (s : State) (m : Message) (c : Commitment) (a : 
       step_each IsAfterBlock r id s (Event.Deliver m) (record {
         of_block = λ ns c b. tt;
         of_verified = λ ns epoch view c. tt;
-        of_notarize = λ ns p. tt;
+        of_notarize = λ ns p o. tt;
         of_finalize = λ ns p. tt;
         of_certified = λ ns p. tt;
         of_epoch = λ ns epoch c. tt;
@@ -331,7 +337,7 @@ module _ (r : Rules) (id : ℕ) (s : State) (m : Message) (c : Commitment) (a : 
       go (inr x) (inr y) = absurd (omega (arith, x, y))
 
 -- where a block came whole, some block is shown under its commitment
-shown_as : (r : Rules) (came : Came) (b : Block)
+pub shown_as : (r : Rules) (came : Came) (b : Block)
     → same_commitment (commit r b) (genesis_commitment r) ≡ false → In (Whole b) came.parts
     → (a : Block) × (shown r came (commit r b) ≡ Some a) × In (Whole a) came.parts
     × (commit r a ≡ commit r b)
@@ -383,7 +389,7 @@ shown_as r came b other at =
         let x = by_part p a there f in
         (a, by_travel r.travel a e, x.0, x.1)
 
-get_below : {X : Type 0} (xs : List X) (i : ℕ) (x : X) → slice_get xs i ≡ Some x → i < length xs
+pub get_below : {X : Type 0} (xs : List X) (i : ℕ) (x : X) → slice_get xs i ≡ Some x → i < length xs
 get_below [] i x h = cc
 get_below (y ∷ ys) zero x h = omega arith
 get_below (y ∷ ys) (suc i) x h = omega (arith, get_below ys i x h)
@@ -421,10 +427,10 @@ module _ (r : Rules) (script : List Line) (w : World) (cluster : IsCluster r scr
   asked : IsSent w j (to_all (Message.Ask j c))
   asked = missing_asked r script w cluster reach j n there ready c misses
 
-  abbrev question : Event
+  abbrev pub question : Event
   question = Event.Deliver (Message.Ask j c)
 
-  abbrev asked_step : Stepped
+  abbrev pub asked_step : Stepped
   asked_step = step r i (signed w) m question
 
   abbrev during_asked : State
@@ -433,10 +439,10 @@ module _ (r : Rules) (script : List Line) (w : World) (cluster : IsCluster r scr
   abbrev asked_notes : List Note
   asked_notes = step_notes r i during_asked question
 
-  abbrev block_out : Out
+  abbrev pub block_out : Out
   block_out = record { to = To.One j; message = Message.Block b }
 
-  answers : In block_out (answer r i (member_notes m ++ asked_notes) question)
+  pub answers : In block_out (answer r i (member_notes m ++ asked_notes) question)
   answers =
       subst (In block_out)
       (sym
@@ -457,7 +463,7 @@ module _ (r : Rules) (script : List Line) (w : World) (cluster : IsCluster r scr
       (delivery_keeps r i during_asked (Message.Ask j c))))
       (inl refl))
 
-  abbrev answered : World
+  abbrev pub answered : World
   answered = with_done w i asked_step
 
   answer_sent : IsSent answered i block_out

@@ -59,7 +59,8 @@ same_single : (i : ℕ) (v : Vote) (b : Ballot) → same_ballot (Single i v) b �
 same_single i v (Single j w) h = h
 same_single i v (Many s) h = absurd (false≢true h)
 
-single_taken : (came : Came) (fits : Bool) (i : ℕ) (v : Vote) → fits ≡ true
+-- a vote that fits is among the ballots
+pub single_taken : (came : Came) (fits : Bool) (i : ℕ) (v : Vote) → fits ≡ true
     → list_any (is_single i v) (take_ballot came fits (Single i v)).ballots ≡ true
 single_taken came fits i v f = go (list_any (same_ballot (Single i v)) came.ballots) refl
   where
@@ -90,10 +91,10 @@ single_taken came fits i v f = go (list_any (same_ballot (Single i v)) came.ball
 
 module _ (r : Rules) (j : ℕ) (v : Vote) where
   -- the member owes no certificate
-  abbrev OwesNone : Member → Type 0
+  abbrev pub OwesNone : Member → Type 0
   OwesNone n = first_some (cert_owed r j (state_of n)) (named_votes (state_of n)) ≡ None
 
-  step_none : (sign : ℕ → Vote → Bool) (n : Member) (e : Event)
+  pub step_none : (sign : ℕ → Vote → Bool) (n : Member) (e : Event)
       → OwesNone (step r j sign n e).member
   step_none sign n e =
       let during = taken r sign (state_of n) e in
@@ -110,7 +111,7 @@ module _ (r : Rules) (j : ℕ) (v : Vote) where
       (step_ends r j during e)).1).0
 
   -- where a quorum's votes came and no certificate is owed, one is noted
-  quorum_noted : (n : Member) (signers : List ℕ) (one : ℕ)
+  pub quorum_noted : (n : Member) (signers : List ℕ) (one : ℕ)
       → ((epoch : ℕ) → IsTrue (rises_from 0 (members_in r.epochs epoch))) → OwesNone n
       → rises_from 0 signers ≡ true → In one signers
       → ((i : ℕ) → In i signers → is_member r.epochs (vote_epoch v) i ≡ true)
@@ -191,7 +192,7 @@ module _ (r : Rules) (j : ℕ) (v : Vote) where
       go false e h = absurd (by_signers (signers_of r j (state_of n) v) refl h)
 
   -- the member with these votes delivered
-  abbrev NoneAfter : List ℕ → Member → Member → Type 0
+  abbrev pub NoneAfter : List ℕ → Member → Member → Type 0
   NoneAfter [] n after = OwesNone n → OwesNone after
   NoneAfter (x ∷ xs) n after = OwesNone after
 

@@ -1,6 +1,6 @@
 -- What holds of each note of a step, by what the note rests on.
 use Rattle.std.proofs.Common.{◌≡◌, ℕ, zero, suc, ◌-◌, ◌*◌, ◌^◌, ◌≤◌, Bool, true, false, ◌&&◌, ◌==◌, not, cond, min, nat_lt, nat_le, List, [], ◌∷◌, ◌++◌, Option, Some, None, option_map, refl, sym, ◌∙◌, ap, subst, inl, inr, ◌⊎◌, arith, eqb-true}
-use Rattle.std.specs.List.{AllByRecursion}
+use Rattle.std.specs.List.{AllByRecursion, list_any}
 use Rattle.std.specs.Option.{option_map_or, option_or}
 use Rattle.std.proofs.lemmas.Bool.{and_parts, cases_Bool, cond-true, cond-false, false≢true, leb-false, leb-true}
 use Rattle.std.proofs.lemmas.Option.{same_Some}
@@ -16,7 +16,7 @@ use Rattle.cw_rules.specs.Accepted.{State, first_some}
 use Rattle.cw_rules.specs.Direct.{best_parent, direct, least, proposal_notes, propose_new, propose_over, proposed, proposed_block, timed_out}
 use Rattle.cw_rules.specs.Held.{at_height, greatest_prune, held, last_ack, pending, shown}
 use Rattle.cw_rules.specs.Notes.{epoch_of, has_block, has_cert, view_of}
-use Rattle.cw_rules.specs.Owed.{block_owed, cert_owed, certified_owed, epoch_owed, finalize_owed, floor_owed, has_closed, has_voted, named_commitments, named_proposals, named_votes, notarize_owed, owed, reached_epoch, signers_of, top_epoch}
+use Rattle.cw_rules.specs.Owed.{all_nullified, block_owed, can_vote, cert_owed, certified_owed, epoch_owed, finalize_owed, floor_owed, has_closed, has_voted, is_single, named_commitments, named_proposals, named_votes, notarize_owed, owed, reached_epoch, signers_of, top_epoch}
 use Rattle.cw_rules.specs.Reached.{In}
 use Rattle.cw_rules.specs.Rules.{Rules, commit}
 use Rattle.cw_rules.specs.Stands.{EachAfter}
@@ -83,13 +83,21 @@ least_in (x ∷ xs) h e =
 abbrev pub noted_as : State → List Note → State
 noted_as s notes = record { notes = notes; came = s.came; given = s.given }
 
+-- the event asks for a proposal
+abbrev pub IsProposing : Event → Type 0
+IsProposing (Event.Propose payload) = Unit {0}
+IsProposing _ = ⊥
+
 -- R holds of each note that the state leads to by the event, after the notes before it
 pub record Rests (R : List Note → Note → Type 0) (r : Rules) (id : ℕ) (s : State)
     (e : Event) : Type 0 where
   pub of_block : (ns : List Note) (c : Commitment) (b : Block) → R ns (Note.Block c b)
   pub of_verified : (ns : List Note) (epoch view : ℕ) (c : Commitment)
       → R ns (Note.Verified epoch view c)
-  pub of_notarize : (ns : List Note) (p : Proposal) → R ns (Note.Vote (Notarize p))
+  pub of_notarize : (ns : List Note) (p : Proposal)
+      → IsProposing e
+      ⊎ (list_any (is_single (leader r.epochs p.epoch p.view) (Notarize p)) s.came.ballots ≡ true)
+      → R ns (Note.Vote (Notarize p))
   pub of_finalize : (ns : List Note) (p : Proposal) → R ns (Note.Vote (Finalize p))
   pub of_certified : (ns : List Note) (p : Proposal) → R ns (Note.Certified p)
   pub of_epoch : (ns : List Note) (epoch : ℕ) (c : Commitment) → R ns (Note.Epoch epoch c)
@@ -215,17 +223,20 @@ epoch_is r notes span (suc epoch) note h =
 
 module _ (R : List Note → Note → Type 0) (r : Rules) (id : ℕ) (s : State) (e : Event)
     (k : Rests R r id s e) where
-  plain_each : (before notes : List Note) → ArePlain notes → EachAfter R before notes
-  plain_each before [] a = tt
-  plain_each before (Note.Block c b ∷ ns) a =
-      (k.of_block before c b, plain_each (before ++ Note.Block c b ∷ []) ns a.1)
-  plain_each before (Note.Verified epoch view c ∷ ns) a = (
+  plain_each : IsProposing e → (before notes : List Note) → ArePlain notes
+      → EachAfter R before notes
+  plain_each o before [] a = tt
+  plain_each o before (Note.Block c b ∷ ns) a =
+      (k.of_block before c b, plain_each o (before ++ Note.Block c b ∷ []) ns a.1)
+  plain_each o before (Note.Verified epoch view c ∷ ns) a = (
     k.of_verified before epoch view c,
-    plain_each (before ++ Note.Verified epoch view c ∷ []) ns a.1,
+    plain_each o (before ++ Note.Verified epoch view c ∷ []) ns a.1,
   )
-  plain_each before (Note.Vote (Notarize p) ∷ ns) a =
-      (k.of_notarize before p, plain_each (before ++ Note.Vote (Notarize p) ∷ []) ns a.1)
-  plain_each before (_ ∷ ns) a = absurd (false≢true a.0)
+  plain_each o before (Note.Vote (Notarize p) ∷ ns) a = (
+    k.of_notarize before p (inl o),
+    plain_each o (before ++ Note.Vote (Notarize p) ∷ []) ns a.1,
+  )
+  plain_each o before (_ ∷ ns) a = absurd (false≢true a.0)
 
   timeout_each : (view : ℕ) → e ≡ Event.Timeout view
       → EachAfter R s.notes (timed_out r id s.notes view)
@@ -290,7 +301,8 @@ module _ (R : List Note → Note → Type 0) (r : Rules) (id : ℕ) (s : State) 
 
   direct_by : (x : Event) → e ≡ x → EachAfter R s.notes (direct r id s x)
   direct_by (Event.Propose payload) is =
-      plain_each s.notes (proposed r id s.notes payload) (proposed_plain r id s.notes payload)
+      plain_each (subst IsProposing (sym is) tt) s.notes (proposed r id s.notes payload)
+      (proposed_plain r id s.notes payload)
   direct_by (Event.Timeout view) is = timeout_each view is
   direct_by Event.Ack is = ack_each
   direct_by (Event.Prune h) is = prune_each h is
@@ -342,7 +354,15 @@ module _ (R : List Note → Note → Type 0) (r : Rules) (id : ℕ) (s : State) 
       six : (a6 ≡ Some note) ⊎ ((a6 ≡ None) × (a7 ≡ Some note)) → R ns note
       six (inl x) =
           let (p, at, f) = first_found (notarize_owed r id t) (named_proposals t) note x in
-          subst (R ns) (when_some _ (Note.Vote (Notarize p)) note f).1 (k.of_notarize ns p)
+          let w = when_some _ (Note.Vote (Notarize p)) note f in
+          let g = and_parts _ (all_nullified ns p.epoch p.parent p.view) w.0 in
+          let u = and_parts _ (can_vote r id t p) g.0 in
+          let y = and_parts _ (not (has_voted ns p.epoch p.view)) u.0 in
+          let z =
+          and_parts _
+          (list_any (is_single (leader r.epochs p.epoch p.view) (Notarize p)) s.came.ballots) y.0
+          in
+          subst (R ns) w.1 (k.of_notarize ns p (inr z.1))
       six (inr x) =
           let (p, at, f) = first_found (finalize_owed r id t) (named_proposals t) note x.1 in
           subst (R ns) (when_some _ (Note.Vote (Finalize p)) note f).1 (k.of_finalize ns p)

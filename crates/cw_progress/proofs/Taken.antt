@@ -23,7 +23,7 @@ use Rattle.cw_rules.proofs.Lists.{in_cases, in_left, in_right}
 -- ---- a ballot
 
 -- what is among the ballots after one more
-ballot_from : (came : Came) (fits : Bool) (b x : Ballot)
+pub ballot_from : (came : Came) (fits : Bool) (b x : Ballot)
     → In x (take_ballot came fits b).ballots → In x came.ballots ⊎ ((x ≡ b) × (fits ≡ true))
 ballot_from came fits b x h = go (cases_Bool test) h
   where
@@ -175,7 +175,8 @@ part_from came fits p x h = go (cases_Bool test) h
         (subst (λ (c : Came). In x c.parts) (cond-true test more came t) h))
     go (inr f) h = inl (subst (λ (c : Came). In x c.parts) (cond-false test more came f) h)
 
-part_ballots : (came : Came) (fits : Bool) (p : Part)
+-- a part leaves the ballots
+pub part_ballots : (came : Came) (fits : Bool) (p : Part)
     → (take_part came fits p).ballots ≡ came.ballots
 part_ballots came fits p = go (fits && not (list_any (same_part p) came.parts))
   where
@@ -443,3 +444,37 @@ chunks_taken r sign came (Event.Hint y) c x h = inl h
 chunks_taken r sign came (Event.WatchDigest d) c x h = inl h
 chunks_taken r sign came (Event.WatchCommitment d) c x h = inl h
 chunks_taken r sign came (Event.Cancel number) c x h = inl h
+
+-- a whole block is there after a delivery that was there before, or that was delivered
+pub wholes_taken : (r : Rules) (sign : ℕ → Vote → Bool) (came : Came) (m : Message) (a : Block)
+    → In (Whole a) (taken_came r sign came (Event.Deliver m)).parts
+    → In (Whole a) came.parts ⊎ (m ≡ Message.Block a)
+wholes_taken r sign came (Message.Vote i v) a h =
+    inl
+    (subst (In (Whole a))
+    (ballot_parts came (is_member r.epochs (vote_epoch v) i && well_formed v && sign i v)
+    (Single i v))
+    h)
+wholes_taken r sign came (Message.Cert s) a h =
+    inl (subst (In (Whole a)) (ballot_parts came (is_valid r sign s) (Many s)) h)
+wholes_taken r sign came (Message.Shard c x) a h =
+    go (part_from came (is_chunk_of r c x) (Row c x) (Whole a) h)
+  where
+    go : In (Whole a) came.parts
+        ⊎ ((Whole a ≡ Row c x) × (is_chunk_of r c x ≡ true)
+        × (list_any (same_part (Row c x)) came.parts ≡ false))
+        → In (Whole a) came.parts ⊎ (Message.Shard c x ≡ Message.Block a)
+    go (inl k) = inl k
+    go (inr (e, t, f)) = cc e
+wholes_taken r sign came (Message.Block b) a h =
+    go (part_from came true (Whole b) (Whole a) h)
+  where
+    go : In (Whole a) came.parts
+        ⊎ ((Whole a ≡ Whole b) × (true ≡ true)
+        × (list_any (same_part (Whole b)) came.parts ≡ false))
+        → In (Whole a) came.parts ⊎ (Message.Block b ≡ Message.Block a)
+    go (inl k) = inl k
+    go (inr (e, t, f)) = let one : a ≡ b = cc e in inr (ap Message.Block (sym one))
+wholes_taken r sign came (Message.Ask i c) a h = inl h
+wholes_taken r sign came (Message.AskHeight i x) a h = inl h
+wholes_taken r sign came (Message.Junk bytes) a h = inl h

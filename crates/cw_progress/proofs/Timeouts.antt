@@ -79,7 +79,7 @@ closed_nullified r w notes kept epoch view is h =
 
 module _ (r : Rules) (epoch view : ℕ) (room : view < 2 ^ 64 - 1) where
   -- a member of that view has voted after a timeout
-  voter_votes : (script : List Line) (w : World) → IsCluster r script → Reaches r script w
+  pub voter_votes : (script : List Line) (w : World) → IsCluster r script → Reaches r script w
       → (i : ℕ) → (x : IsVoter r w epoch view i)
       → has_vote (member_notes (step r i (signed w) x.member (Event.Timeout view)).member)
       (Nullify epoch view)

@@ -16,7 +16,7 @@ use Rattle.cw_types.specs.Same.{same_commitment}
 use Rattle.cw_types.specs.Votes.{finalized}
 use Rattle.cw_types.proofs.Same.{same_vote_self}
 use Rattle.cw_rules.specs.Accepted.{Many, State, first_some}
-use Rattle.cw_rules.specs.Held.{acked_height, at_height, finalization_of, greatest_floor, greatest_prune, held, is_pending, last_ack, noted_block_of, parent_of, pruned_height, reached}
+use Rattle.cw_rules.specs.Held.{acked_height, at_height, finalization_of, floor_height, greatest_floor, greatest_prune, held, is_pending, last_ack, noted_block_of, parent_of, pruned_height, reached}
 use Rattle.cw_rules.specs.Notes.{greatest, has_cert}
 use Rattle.cw_rules.specs.Owed.{ballot_vote, cert_owed, final_heights, named_votes, note_vote, signers_in, signers_of, when}
 use Rattle.cw_rules.specs.Reached.{In, IsCluster, Reaches}
@@ -47,7 +47,7 @@ greatest_both : (xs ys : List ℕ) → greatest (xs ++ ys) ≡ max (greatest xs)
 greatest_both [] ys = omega arith
 greatest_both (x ∷ xs) ys = omega (arith, greatest_both xs ys)
 
-greatest_low : (xs : List ℕ) (bound : ℕ) → ((x : ℕ) → In x xs → x ≤ bound)
+pub greatest_low : (xs : List ℕ) (bound : ℕ) → ((x : ℕ) → In x xs → x ≤ bound)
     → greatest xs ≤ bound
 greatest_low [] bound f = omega arith
 greatest_low (x ∷ xs) bound f =
@@ -211,7 +211,7 @@ module _ (r : Rules) where
       (ap (option_map (λ (b : Block). b.height)) h))
 
   -- the highest
-  top_at : (notes : List Note) → 0 < final_top r notes
+  pub top_at : (notes : List Note) → 0 < final_top r notes
       → (p : Proposal) × (b : Block) × In p (filter_map finalization_of notes)
       × (held r notes p.payload ≡ Some b) × (b.height ≡ final_top r notes)
   top_at notes pos =
@@ -483,7 +483,7 @@ module _ (r : Rules) (script : List Line) where
       step_each (IsLow r) r i (taken r (signed w) (state_of m) e) e (record {
         of_block = λ ns c b. tt;
         of_verified = λ ns epoch view c. tt;
-        of_notarize = λ ns q. tt;
+        of_notarize = λ ns q o. tt;
         of_finalize = λ ns q. tt;
         of_certified = λ ns q. tt;
         of_epoch = λ ns epoch c. tt;
@@ -638,5 +638,30 @@ module _ (r : Rules) (script : List Line) where
 
       by_height : (h : ℕ)
           → ((n : Note) × In n (member_notes m) × (pruned_height n ≡ Some h))
+          → h ≤ final_top r (member_notes m)
+      by_height h (n, there, f) = by_note h n f (notes_final w cluster reach i m at n there)
+
+  -- and where heights were given up
+  pub floor_low : (w : World) → IsCluster r script → Reaches r script w → (i : ℕ) (m : Member)
+      → member_at w i ≡ Some m → greatest_floor (member_notes m) ≤ final_top r (member_notes m)
+  floor_low w cluster reach i m at =
+      greatest_low (filter_map floor_height (member_notes m)) (final_top r (member_notes m))
+      (λ h a. by_height h (mapped_from floor_height (member_notes m) h a))
+    where
+      by_note : (h : ℕ) (n : Note) → floor_height n ≡ Some h → IsLow r (member_notes m) n
+          → h ≤ final_top r (member_notes m)
+      by_note h (Note.Floor x) f low =
+          subst (λ y. y ≤ final_top r (member_notes m)) (same_Some x h f) low
+      by_note h (Note.Ack x) f low = cc
+      by_note h (Note.Prune x) f low = cc
+      by_note h (Note.Vote v) f low = cc
+      by_note h (Note.Verified epoch view c) f low = cc
+      by_note h (Note.Block c b) f low = cc
+      by_note h (Note.Cert s) f low = cc
+      by_note h (Note.Certified q) f low = cc
+      by_note h (Note.Epoch epoch c) f low = cc
+
+      by_height : (h : ℕ)
+          → ((n : Note) × In n (member_notes m) × (floor_height n ≡ Some h))
           → h ≤ final_top r (member_notes m)
       by_height h (n, there, f) = by_note h n f (notes_final w cluster reach i m at n there)

@@ -259,7 +259,7 @@ counted_writes r script cluster = record {
       step_each (CountedNote r w i) r i (taken r (signed w) (state_of m) e) e (record {
         of_block = λ ns c b. tt;
         of_verified = λ ns epoch view c. tt;
-        of_notarize = λ ns p. tt;
+        of_notarize = λ ns p o. tt;
         of_finalize = λ ns p. tt;
         of_certified = λ ns p. tt;
         of_epoch = λ ns epoch c. tt;

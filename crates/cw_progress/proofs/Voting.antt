@@ -1,5 +1,5 @@
 -- Members that one ask each brings to a vote come to a certificate of it.
-use Rattle.std.proofs.Common.{◌≡◌, ℕ, ◌≤◌, Bool, true, cond, List, [], ◌∷◌, ◌++◌, Some, None, length, option_map, option_and_then, refl, sym, ◌∙◌, ap, subst, inl, inr, ◌⊎◌}
+use Rattle.std.proofs.Common.{◌≡◌, ℕ, zero, suc, ◌≤◌, Bool, true, cond, List, [], ◌∷◌, ◌++◌, Option, Some, None, length, option_map, option_and_then, slice_get, slice_set, refl, sym, ◌∙◌, ap, subst, inl, inr, ◌⊎◌}
 use Rattle.std.specs.List.{AllByRecursion}
 use Rattle.std.specs.Option.{option_map_or}
 use Rattle.std.proofs.lemmas.Bool.{cases_eq, false≢true}
@@ -65,6 +65,21 @@ turn_goes r w i m ask e at live is =
     (ap (option_and_then (turned r w i (Do i ask))) at
     ∙ (ap (λ b. cond b (option_map (step r i (signed w) m) (event_of w i ask)) None) live
     ∙ ap (option_map (step r i (signed w) m)) is))
+
+get-set_apart : {X : Type 0} (xs : List X) (i j : ℕ) (x : X) → (i ≡ j → ⊥)
+    → slice_get (slice_set xs i x) j ≡ slice_get xs j
+get-set_apart [] i j x ne = refl
+get-set_apart (y ∷ ys) zero zero x ne = absurd (ne refl)
+get-set_apart (y ∷ ys) zero (suc j) x ne = refl
+get-set_apart (y ∷ ys) (suc i) zero x ne = refl
+get-set_apart (y ∷ ys) (suc i) (suc j) x ne = get-set_apart ys i j x (λ e. ne (ap suc e))
+
+-- another member, or nobody, stands as before
+pub other_same : (w : World) (i : ℕ) (done : Stepped) (j : ℕ) → (i ≡ j → ⊥)
+    → member_at (with_done w i done) j ≡ member_at w j
+other_same w i done j ne =
+    ap (option_and_then (λ (o : Option Member). o))
+    (get-set_apart w.members i j (Some done.member) ne)
 
 -- another member stands as it stood
 pub other_stands : (w : World) (i : ℕ) (done : Stepped) (j : ℕ) (n : Member) → (i ≡ j → ⊥)

@@ -26,7 +26,7 @@ is_ballot _ = false
 -- what may help from a world on: a message that is sent from there on arrives, or a vote or a
 -- certificate from before; a leader proposes this payload, a timer runs out, a handed block is
 -- acknowledged, a stopped member starts, or a member stops before it writes anything. No faulty
--- member does anything, no height is given up, no block is let go
+-- member does anything, no height is given up, no block is hidden
 abbrev pub helps : World → List ℕ → Line → Bool
 helps w payload (Do i (Ask.Propose own)) = bytes_eq own payload
 helps w payload (Do i (Ask.Timeout view)) = true

@@ -4,4 +4,5 @@ pub mod Tops
 pub mod Over
 pub mod Going
 pub mod Views
+pub mod Fresh
 pub mod Scenes

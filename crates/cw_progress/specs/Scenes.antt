@@ -60,6 +60,22 @@ split_view_lines =
     ∷ Do 0 (Deliver 16) ∷ Do 1 (Deliver 16) ∷ Do 3 (Deliver 16) ∷ Do 2 (Deliver 19)
     ∷ Do 2 (Deliver 21) ∷ Do 0 (Deliver 24) ∷ Do 1 (Deliver 24) ∷ Do 3 (Deliver 24) ∷ []
 
+-- ---- what one member certified
+
+-- members 0 to 2 vote for the block of member 1, which certifies it
+abbrev pub one_certified : List Line
+one_certified =
+    Do 1 (Propose (61 ∷ [])) ∷ Do 0 (Deliver 0) ∷ Do 0 (Deliver 1) ∷ Do 2 (Deliver 0)
+    ∷ Do 2 (Deliver 1) ∷ Do 1 (Deliver 2) ∷ Do 1 (Deliver 3) ∷ []
+
+-- the certificate goes to member 3, its question to member 1, and the answer back
+abbrev pub one_certified_lines : List Line
+one_certified_lines = Do 3 (Deliver 4) ∷ Do 1 (Deliver 7) ∷ Do 3 (Deliver 8) ∷ []
+
+-- the certificate goes to members 0 and 2 too, which hold the block
+abbrev pub one_view_lines : List Line
+one_view_lines = one_certified_lines ++ Do 0 (Deliver 4) ∷ Do 2 (Deliver 4) ∷ []
+
 -- ---- a floor within an epoch that its member hasn't entered
 
 -- four members in epochs of two heights

@@ -1,7 +1,7 @@
 //! Laws on every world that a script reaches: what can still be delivered, which views have ended,
 //! what is held, what goes over.
 
-ghost use Rattle.std.specs.Prelude.{length, ◌-◌, ◌^◌, IsTrue, List, None, Some, [], max, ℕ, ◌<◌, ◌≡◌, ◌≢◌, ◌≤◌, ◌⊎◌};
+ghost use Rattle.std.specs.Prelude.{length, ◌-◌, ◌^◌, IsTrue, List, None, Some, [], max, nat_le, ℕ, ◌<◌, ◌≡◌, ◌≢◌, ◌≤◌, ◌⊎◌};
 ghost use Rattle.std.specs.List.{AllByRecursion};
 ghost use Rattle.cw_base.specs.Config.{same_counts};
 ghost use Rattle.cw_types.specs.declared.commitment.Commitment.{Commitment};
@@ -15,9 +15,9 @@ ghost use Rattle.cw_types.specs.Epochs.{is_member, place, rises_from, size};
 ghost use Rattle.cw_types.specs.Numbers.{quorum};
 ghost use Rattle.cw_types.specs.Votes.{vote_epoch, well_formed};
 ghost use Rattle.cw_rules.specs.Accepted.{Row, Whole, is_valid};
-ghost use Rattle.cw_rules.specs.Chains.{block_under};
+ghost use Rattle.cw_rules.specs.Chains.{Ends, block_under, outcome};
 ghost use Rattle.cw_rules.specs.Held.{greatest_floor, greatest_prune, held};
-ghost use Rattle.cw_rules.specs.Notes.{has_block, has_cert, view_of};
+ghost use Rattle.cw_rules.specs.Notes.{has_block, has_cert, has_certified, view_of};
 ghost use Rattle.cw_rules.specs.Reached.{In, IsCluster, Reaches, ReachesClear, members_of};
 ghost use Rattle.cw_rules.specs.Rules.{Chunk, Rules, commit, config};
 ghost use Rattle.cw_rules.specs.Sends.{missing, to_all};
@@ -25,12 +25,14 @@ ghost use Rattle.cw_rules.specs.Stands.{EachAfter, Stands};
 ghost use Rattle.cw_rules.specs.Step.{Member, member_notes, state_of};
 ghost use Rattle.cw_rules.specs.World.{Line, World, member_at, run, signed};
 ghost use Rattle.cw_progress.specs.Ended.{EndedForSome, IsOfView};
-ghost use Rattle.cw_progress.specs.Going.{is_able, is_stocked, keeps_all};
-ghost use Rattle.cw_progress.specs.Over.{ComesTo, is_delivery, is_delivery_or_timeout};
+ghost use Rattle.cw_progress.specs.Fresh.{IsFresh, IsKept};
+ghost use Rattle.cw_progress.specs.Going.{helps, is_able, is_stocked, keeps_all};
+ghost use Rattle.cw_progress.specs.Over.{ComesTo, ComesToClash, IsBase};
+ghost use Rattle.cw_progress.specs.Over.{KnowsNoLater, is_delivery, is_delivery_or_timeout};
 ghost use Rattle.cw_progress.specs.Over.{is_honest_line};
 ghost use Rattle.cw_progress.specs.Sent.{IsSent};
 ghost use Rattle.cw_progress.specs.Tops.{final_top};
-ghost use Rattle.cw_progress.specs.Views.{CanFinalize, IsVoter};
+ghost use Rattle.cw_progress.specs.Views.{CanFinalize, ComeToOneView, ComeToView, IsVoter};
 
 /// What a live member has sent to all, whatever was lost, repeated or cut. A member that is stopped
 /// may still owe what the last frame of its notes gives; its start sends that.
@@ -93,7 +95,7 @@ pub fn final_laws()
         → IsCluster r script → Reaches r script w
         → (i : ℕ) (m : Member) → member_at w i ≡ Some m
         → (h : ℕ) → In (Note.Floor h) (member_notes m) → h ≤ final_top r (member_notes m) }
-    // nor one below which blocks are let go
+    // nor one below which blocks are hidden
     ensures let_go { (r : Rules) (script : List Line) (w : World)
         → IsCluster r script → Reaches r script w
         → (i : ℕ) (m : Member) → member_at w i ≡ Some m
@@ -120,6 +122,26 @@ pub fn held_laws()
         → held r (member_notes m) p.payload ≡ Some b) }
 {}
 
+/// Each honest member can be started again.
+pub fn fresh_law()
+    // by lines that help and bring no clash. Then each is live, with the notes that it had, and
+    // nothing has come to it
+    ensures { (r : Rules) (w : World) (payload : List ℕ)
+        → (lines : List Line) × AllByRecursion (λ line. IsTrue (helps w payload line)) lines
+        × (outcome r w lines ≡ Ends (run r w lines))
+        × ((i : ℕ) (m : Member) → member_at w i ≡ Some m
+        → IsFresh (run r w lines) i (member_notes m)) }
+{}
+
+/// What deliveries leave of whoever is live.
+pub fn delivery_law()
+    // all that it has, whatever is delivered to whom
+    ensures { (r : Rules) (w : World) (lines : List Line)
+        → AllByRecursion (λ line. IsTrue (is_delivery line)) lines
+        → (i : ℕ) (m : Member) → member_at w i ≡ Some m → IsTrue m.live
+        → IsKept (run r w lines) i m }
+{}
+
 /// What goes over from one live member to another by deliveries alone.
 pub fn over_laws()
     // a noted certificate: whoever is live can be brought to note one of its vote
@@ -142,6 +164,51 @@ pub fn over_laws()
         ⊎ ((a : Block) × In (Whole a) n.came.parts × (a ≢ b) × (commit r a ≡ c)) }
 {}
 
+/// A member that lags comes to where another is, by lines that help. Where a is the last block that
+/// the other knows to be final, the one that lags gave up no height above it. Else a clash turns up.
+pub fn catch_up_laws()
+    // it certifies each proposal that the other certified above that block
+    ensures certified { (r : Rules) (script : List Line) (w : World)
+        → IsCluster r script → ReachesClear r script w → (payload : List ℕ)
+        → (i j : ℕ) (m n : Member) → member_at w i ≡ Some m → member_at w j ≡ Some n
+        → (epoch view : ℕ) (a : Block)
+        → IsBase r (member_notes m) (member_notes n) epoch view a
+        → KnowsNoLater r (member_notes m) epoch view a.height
+        → max (greatest_floor (member_notes n)) (greatest_prune (member_notes n)) ≤ a.height
+        → (p : Proposal) → In (Note.Certified p) (member_notes m) → p.epoch ≡ epoch → view < p.view
+        → ComesTo r w j (helps w payload) (λ notes. has_certified notes p)
+        ⊎ ComesToClash r w (helps w payload) }
+    // it comes to a view that is no lower
+    ensures view { (r : Rules) (script : List Line) (w : World)
+        → IsCluster r script → ReachesClear r script w → (payload : List ℕ)
+        → (i j : ℕ) (m n : Member) → member_at w i ≡ Some m → member_at w j ≡ Some n
+        → (epoch view : ℕ) (a : Block)
+        → IsBase r (member_notes m) (member_notes n) epoch view a
+        → KnowsNoLater r (member_notes m) epoch view a.height
+        → max (greatest_floor (member_notes n)) (greatest_prune (member_notes n)) ≤ a.height
+        → ComesTo r w j (helps w payload)
+        (λ notes. nat_le (view_of (member_notes m) epoch) (view_of notes epoch))
+        ⊎ ComesToClash r w (helps w payload) }
+{}
+
+/// In one epoch without end all honest members come to one view, by lines that help, whatever each of
+/// them knows, gave up or lacks. Else a clash turns up.
+pub fn one_view_law()
+    ensures { (r : Rules) (script : List Line) (w : World) → r.epochs.span ≡ None
+        → IsCluster r script → ReachesClear r script w → (payload : List ℕ)
+        → ComeToOneView r w (helps w payload) ⊎ ComesToClash r w (helps w payload) }
+{}
+
+/// In one epoch without end all honest members come to any view above all of theirs, and none of them
+/// has voted in it: so to one that an honest member leads. Else a clash turns up.
+pub fn new_view_law()
+    ensures { (r : Rules) (script : List Line) (w : World) → r.epochs.span ≡ None
+        → IsCluster r script → ReachesClear r script w → (payload : List ℕ) (view : ℕ)
+        → view < 2 ^ 64 - 1
+        → ((i : ℕ) (m : Member) → member_at w i ≡ Some m → view_of (member_notes m) 0 < view)
+        → ComeToView r w (helps w payload) view ⊎ ComesToClash r w (helps w payload) }
+{}
+
 /// When a cluster has what it needs to go on.
 pub fn able_laws()
     // always, where the script let no block go and gave up no height
@@ -155,11 +222,17 @@ pub fn able_laws()
 
 /// A world that lines of honest members lead to is one that a script reaches too, with no other
 /// faulty members. So each law here holds there again.
-pub fn further_law()
-    ensures { (r : Rules) (script : List Line) (w : World) (more : List Line)
+pub fn further_laws()
+    // wherever they lead
+    ensures reached { (r : Rules) (script : List Line) (w : World) (more : List Line)
         → IsCluster r script → Reaches r script w
         → AllByRecursion (λ line. IsTrue (is_honest_line line)) more
         → (longer : List Line) × IsCluster r longer × Reaches r longer (run r w more) }
+    // without a clash, where they bring none
+    ensures clear { (r : Rules) (script : List Line) (w u : World) (more : List Line)
+        → IsCluster r script → ReachesClear r script w
+        → AllByRecursion (λ line. IsTrue (is_honest_line line)) more → outcome r w more ≡ Ends u
+        → (longer : List Line) × IsCluster r longer × ReachesClear r longer u }
 {}
 
 /// What a quorum of the members of an epoch brings about.

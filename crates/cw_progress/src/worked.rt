@@ -1,13 +1,18 @@
 //! Worked runs, computed from the definitions: a cluster that goes on, and one that can't.
 #![tactic(auto, unfolding(cw_types::specs::Same::same_commitment, cw_types::specs::Same::same_context, cw_types::specs::Same::same_proposal, cw_types::specs::Same::same_vote, cw_types::specs::Same::same_cert, cw_types::specs::Same::same_block))]
 
-ghost use Rattle.std.specs.Prelude.{[], ℕ, List, false, true, ◌∷◌, ◌≡◌};
+ghost use Rattle.std.specs.Prelude.{[], ℕ, List, Some, false, option_map, true, ◌∷◌, ◌≡◌};
 ghost use Rattle.std.specs.List.{list_all};
-ghost use Rattle.cw_rules.specs.World.{world_of};
+ghost use Rattle.cw_rules.specs.Notes.{view_of};
+ghost use Rattle.cw_rules.specs.Step.{member_notes};
+ghost use Rattle.cw_rules.specs.World.{member_at, run, world_of};
 ghost use Rattle.cw_progress.specs.Going.{goes_on, helps, is_able, is_stocked, shows_twins};
+ghost use Rattle.cw_progress.specs.Over.{is_delivery};
 ghost use Rattle.cw_progress.specs.Scenes.{endless_rules, floor_at_the_end, floor_within};
+ghost use Rattle.cw_progress.specs.Scenes.{one_certified, one_certified_lines, one_view_lines};
 ghost use Rattle.cw_progress.specs.Scenes.{split_view, split_view_lines, two_epochs_without_one};
 ghost use Rattle.cw_progress.specs.Scenes.{two_heights_rules};
+ghost use Rattle.cw_progress.specs.Views.{views_of};
 
 /// Two members vote for a block and two to end its view, one of which was stopped before it sent
 /// its vote. Lines that help lead on.
@@ -24,6 +29,29 @@ pub fn a_split_view_goes_on()
         split_view_lines ≡ false }
     // no lines at all lead nowhere
     ensures nothing { goes_on endless_rules (world_of endless_rules split_view) [] ≡ false }
+{}
+
+/// What one member certified goes over to another, which had nothing.
+pub fn what_is_certified_goes_over()
+    // that one is in the first view
+    ensures before { option_map (λ m. view_of (member_notes m) 0)
+        (member_at (world_of endless_rules one_certified) 3) ≡ Some 1 }
+    // by deliveries alone
+    ensures delivers { list_all is_delivery one_certified_lines ≡ true }
+    // that view ends for it, since it certifies the block too
+    ensures after { option_map (λ m. view_of (member_notes m) 0)
+        (member_at (run endless_rules (world_of endless_rules one_certified) one_certified_lines) 3)
+        ≡ Some 2 }
+{}
+
+/// One member has ended the view that all were in. By lines that help all come to the next.
+pub fn all_come_to_one_view()
+    ensures before { views_of (world_of endless_rules one_certified) ≡ 1 ∷ 2 ∷ 1 ∷ 1 ∷ [] }
+    // each line helps
+    ensures helps { list_all (helps (world_of endless_rules one_certified) (62 ∷ []))
+        one_view_lines ≡ true }
+    ensures after { views_of (run endless_rules (world_of endless_rules one_certified)
+        one_view_lines) ≡ 2 ∷ 2 ∷ 2 ∷ 2 ∷ [] }
 {}
 
 /// A member that lags raises a floor within an epoch that it hasn't entered. Then it can't enter
