@@ -233,6 +233,6 @@ fn stores_answer_by_the_tables(rt: HostRuntime) -> Result<(), Fail> {
         let (name, table) = head_and_rest(part)?;
         assert_eq!(rt; first_wrong(&rt, alloc, table)?, None, "{name}");
     }
-    assert_eq!(rt; count_of(STORES), 21);
+    assert_eq!(rt; count_of(STORES), 25);
     Ok(())
 }

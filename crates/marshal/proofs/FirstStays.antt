@@ -19,7 +19,7 @@ use Rattle.marshal.specs.Promises.{AgreeAt, IsUnpruned}
 use Rattle.marshal.specs.declared.identifier.Identifier.{Identifier}
 use Rattle.marshal.proofs.Growing.{filter_map_both, first_in, first_same, held_stays, reaches_itself}
 
-in_filter : {X Y : Type 0} (f : X → Option Y) (x : X) (y : Y) (xs : List X) → In x xs → f x ≡ Some y
+pub in_filter : {X Y : Type 0} (f : X → Option Y) (x : X) (y : Y) (xs : List X) → In x xs → f x ≡ Some y
     → In y (filter_map f xs)
 in_filter f x y [] i e = absurd i
 in_filter {X} {Y} f x y (w ∷ ws) i e = go (f w) refl i (in_filter f x y ws)

@@ -298,7 +298,7 @@ module _ (r : Rules) where
     high : (b : Block) → h ≤ b.height → IsUnpruned (notes ++ more) b.height
     high b le = inr (omega (arith, is))
 
-    reached_stays : (steps : ℕ) (c : Commitment) (b : Block) (d : Commitment)
+    pub reached_stays : (steps : ℕ) (c : Commitment) (b : Block) (d : Commitment)
         → reached r notes steps h c b ≡ Some d → reached r (notes ++ more) steps h c b ≡ Some d
     reached_stays zero c b d e = e
     reached_stays (suc steps) c b d e =

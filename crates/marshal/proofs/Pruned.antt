@@ -9,14 +9,13 @@ use Rattle.cw_types.specs.Same.{same_commitment}
 use Rattle.cw_types.specs.declared.commitment.Commitment.{Commitment}
 use Rattle.cw_types.specs.declared.note.Note.{Note}
 use Rattle.cw_types.specs.declared.vote.Cert.{Cert}
-use Rattle.cw_types.specs.declared.vote.Proposal.{Proposal}
 use Rattle.cw_rules.specs.Accepted.{first_some}
 use Rattle.cw_rules.specs.Held.{at_height, finalization_of, greatest_prune, held, noted_block_of, reached}
 use Rattle.cw_rules.specs.Rules.{Rules, genesis, genesis_commitment}
 use Rattle.cw_rules.specs.Sends.{finalization_at}
 use Rattle.cw_rules.proofs.Lists.{and_then_some}
 use Rattle.marshal.specs.Bare.{reached_by}
-use Rattle.marshal.proofs.FirstStays.{Finalizes, final_is}
+use Rattle.marshal.proofs.FirstStays.{final_is}
 use Rattle.marshal.proofs.Growing.{Down, first_in, held_cases, is_gone, parent_is, reached_cases, reached_now, unless_gone}
 
 module _ (r : Rules) (notes : List Note) where

@@ -69,12 +69,10 @@ module _ (r : Rules) (notes : List Note) (h k : ℕ)
           → option_and_then (reached_by r notes h) (finalization_of note) ≡ None
       none note l = go (finalization_of note) l
 
-  pub skip_finalized : first_some (finalization_at r notes h) (drop k notes)
-      ≡ first_some (finalization_at r notes h) notes
-  skip_finalized =
-      skip (finalization_at r notes h) k notes
-      (all_so (λ note. IfSome (final_block r notes note) (λ b. b.height < h))
-      (λ note. finalization_at r notes h note ≡ None) none (take k notes) low)
+  pub low_finalized : AllByRecursion (λ note. finalization_at r notes h note ≡ None) (take k notes)
+  low_finalized =
+      all_so (λ note. IfSome (final_block r notes note) (λ b. b.height < h))
+      (λ note. finalization_at r notes h note ≡ None) none (take k notes) low
     where
       other : (s : Cert) (o : Option Block) → IfSome o (λ b. b.height < h)
           → option_and_then (λ (b : Block). if b.height == h then Some s else None) o ≡ None

@@ -31,7 +31,7 @@ module _ {K : Type 0} (same : K → K → Bool) where
 abbrev pub HasPlaces : List (Commitment × ℕ) → List Note → Type 0
 HasPlaces = HasFirsts same_commitment is_block
 
--- notes with the places of their first Block notes, and the height below which blocks are let go
+-- notes with the places of their first Block notes, and the height below which blocks are hidden
 pub record AreFound (places : List (Commitment × ℕ)) (prune : ℕ) (notes : List Note) : Type 0 where
   pub placed : HasPlaces places notes
   pub pruned : prune ≡ greatest_prune notes

@@ -10,7 +10,7 @@ use Rattle.cw_rules.specs.Reached.{In}
 use Rattle.cw_rules.specs.Rules.{Rules}
 use Rattle.marshal.specs.Bare.{reached_by}
 
--- blocks of that height aren't let go: it is 0, or no Prune note is above it
+-- blocks of that height aren't hidden: it is 0, or no Prune note is above it
 abbrev pub IsUnpruned : List Note → ℕ → Type 0
 IsUnpruned notes height = (height ≡ 0) ⊎ (greatest_prune notes ≤ height)
 

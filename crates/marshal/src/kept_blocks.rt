@@ -1,4 +1,4 @@
-//! The noted blocks that aren't let go, by a look-up each.
+//! The noted blocks that aren't hidden, by a look-up each.
 
 ghost use Rattle.std.specs.Prelude.{◌≡◌, ◌&&◌, None, Some, if◌then◌else◌, nat_lt};
 ghost use Rattle.std.specs.Prelude.{option_and_then, option_map, slice_get};
@@ -10,7 +10,7 @@ use note_scans::noted_block_of;
 use std::collections::BTreeMap;
 use std::marker::Model;
 
-/// Notes with the places of their blocks and the height below which blocks are let go. Contracts
+/// Notes with the places of their blocks and the height below which blocks are hidden. Contracts
 /// see them as the list of notes.
 #[derive(Drop)]
 pub(crate) struct KeptBlocks<'a> {

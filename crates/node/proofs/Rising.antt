@@ -291,3 +291,29 @@ since_up r id frames turns =
     let m = (start r id frames).member in
     let s : State = record { notes = first; came = m.came; given = [] } in
     (turns_up r id first m turns (up_handed r first (most_delivered r s) s (up_started first))).up
+
+-- ---- what was handed out stays in front
+
+turns_both : (r : Rules) (id : ℕ) (m : Member) (turns more : List Turn)
+    → after_turns r id m (turns ++ more) ≡ after_turns r id (after_turns r id m turns) more
+turns_both r id m [] more = refl
+turns_both r id m (turn ∷ turns) more =
+    turns_both r id (step r id turn.signed m turn.event).member turns more
+
+turns_stay : (r : Rules) (id : ℕ) (m : Member) (turns : List Turn)
+    → (later : List ℕ) × ((after_turns r id m turns).given ≡ m.given ++ later)
+turns_stay r id m [] = ([], sym (append-nil m.given))
+turns_stay r id m (turn ∷ turns) =
+    let s = step r id turn.signed m turn.event in
+    let new = map (λ h. h.height) s.handed in
+    let later = turns_stay r id s.member turns in
+    (new ++ later.0, later.1 ∙ append_assoc m.given new later.0)
+
+pub since_stays : (r : Rules) (id : ℕ) (frames : List (List Note)) (turns more : List Turn)
+    → (later : List ℕ)
+    × ((since_start r id frames (turns ++ more)).given
+    ≡ (since_start r id frames turns).given ++ later)
+since_stays r id frames turns more =
+    let m = (start r id frames).member in
+    let later = turns_stay r id (after_turns r id m turns) more in
+    (later.0, ap (λ (x : Member). x.given) (turns_both r id m turns more) ∙ later.1)

@@ -1,5 +1,5 @@
 -- A node that isn't refused is at work.
-use Rattle.std.proofs.Common.{◌≡◌, ◌∙◌, ◌++◌, ◌∷◌, ap, length, take, Bool, false, true, inr, ⊎_elim, List, [], map, ℕ, refl, subst, sym}
+use Rattle.std.proofs.Common.{◌≡◌, ◌∙◌, ◌++◌, ◌∷◌, ap, Bool, false, true, inr, ⊎_elim, List, [], map, ℕ, refl, subst, sym}
 use Rattle.cw_base.specs.declared.hash.Digest32.{Digest32}
 use Rattle.cw_types.specs.Block.{Block}
 use Rattle.cw_types.specs.declared.commitment.Commitment.{Commitment}
@@ -70,8 +70,3 @@ awake_logged hash accepts false old new entries log armed same awake =
           };
       led = awake.led;
     })
-
--- what stands in front
-pub front_of : (xs ys : List Note) → take (length xs) (xs ++ ys) ≡ xs
-front_of [] ys = refl
-front_of (x ∷ xs) ys = ap (λ (l : List Note). x ∷ l) (front_of xs ys)

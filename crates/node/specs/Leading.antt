@@ -41,7 +41,7 @@ led_to entries c = unwrap_or (lookup (same_commitment c) entries) no_lead
 abbrev pub is_led : List (Commitment × Led) → ℕ → Commitment → Bool
 is_led entries height c = is_above height (led_to entries c)
 
--- The map stands for the notes: at each height, but for those below which blocks were let go, it
+-- The map stands for the notes: at each height, but for those below which blocks are hidden, it
 -- tells to what they lead.
 abbrev pub IsLedBy : Rules → List Note → List (Commitment × Led) → Type 0
 IsLedBy r notes entries =
@@ -49,7 +49,7 @@ IsLedBy r notes entries =
     → is_led entries height c
     ≡ list_any (same_commitment c) (filter_map (leads r notes height) notes)
 
--- the height above which blocks lead to their parents: all at or below it are handed out or let go
+-- the height above which blocks lead to their parents: all at or below it are handed out or hidden
 abbrev pub lead_height : State → ℕ
 lead_height s = max (next s) (greatest_prune s.notes - 1)
 

@@ -267,7 +267,7 @@ impl<H: Hasher<Digest = Digest32>, D: Disk, A: Application> Holding<H, D, A> {
         }
     }
 
-    // Whether blocks below that height may be let go: it is acknowledged, and above those noted.
+    // Whether blocks below that height may be hidden: it is acknowledged, and above those noted.
     fn may_prune(&self, height: u64) -> bool
         ensures bound { IsTrue result → height < 2 ^ 64 - 1 }
         ensures value { result ≡ (option_map_or (λ a. nat_le height a)

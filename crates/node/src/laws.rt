@@ -1,6 +1,6 @@
 //! Laws of a member over its steps and its starts, which take no work.
 
-ghost use Rattle.std.specs.Prelude.{IsTrue, List, ℕ};
+ghost use Rattle.std.specs.Prelude.{◌≡◌, ◌++◌, IsTrue, List, ℕ};
 ghost use Rattle.std.specs.List.{AllByRecursion};
 ghost use Rattle.std.specs.List.Sorted.{IsStrictlyIncreasing};
 ghost use Rattle.cw_types.specs.declared.note.Note.{Note};
@@ -37,6 +37,11 @@ pub fn life_laws()
     ensures handed { (r : Rules) (id : ℕ) (frames : List (List Note)) (turns : List Turn)
         → GoUp (member_notes (since_start r id frames turns)) (resume (join_frames frames))
         (since_start r id frames turns).given }
+    // and what was handed out by then stays in front, so a jump is over a floor that was noted before
+    // the hand-out
+    ensures stays { (r : Rules) (id : ℕ) (frames : List (List Note)) (turns more : List Turn)
+        → (later : List ℕ) × ((since_start r id frames (turns ++ more)).given
+        ≡ (since_start r id frames turns).given ++ later) }
     // so no height is handed out twice
     ensures once { (r : Rules) (id : ℕ) (frames : List (List Note)) (turns : List Turn)
         → IsStrictlyIncreasing (since_start r id frames turns).given }

@@ -10,6 +10,7 @@ mod came;
 mod direct;
 mod fits;
 mod holding;
+mod host;
 mod laws;
 mod leads;
 mod member;

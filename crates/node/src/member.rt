@@ -1,7 +1,7 @@
 //! A member, which acts by the rules.
 
 ghost use Rattle.std.specs.Prelude.{◌≡◌, ℕ, ◌<◌, ◌≤◌, IfErr, IfOk, IsErrOf, OnErr, OnOk, false};
-ghost use Rattle.std.specs.Prelude.{length, take, true};
+ghost use Rattle.std.specs.Prelude.{true};
 ghost use Rattle.cw_rules.specs.Notes.{epoch_of, view_of};
 ghost use Rattle.cw_rules.specs.Step as rule;
 ghost use Rattle.marshal.specs.Stored.{marshal_log};
@@ -42,7 +42,7 @@ pub type NodeError = StoreError;
 /// ```
 #[derive(Drop)]
 pub struct Member<H: Hasher<Digest = Digest32>, D: Disk, A: Application + Drop, W: Way> {
-    holding: Holding<H, D, A>,
+    pub(crate) holding: Holding<H, D, A>,
     // What its notes lead to.
     leads: LeadMap,
     // A step was refused, by the disk or for memory.
@@ -235,33 +235,39 @@ impl<H: Hasher<Digest = Digest32>, D: Disk, A: Application + Drop, W: Way> Membe
         self.holding.marshal()
     }
 
-    /// Its notes, in order. Of a node that is out they begin with those of its frames, behind which
-    /// some of the refused step's may be staged.
-    #[tactic(auto, using(crate::proofs::Working::front_of))]
+    /// Its notes, in order: those of its frames.
     pub fn notes(&self) -> &[Note]
-        ensures value { self.now.member.live ≡ true → result.now
-            ≡ rule.member_notes self.now.member }
-        ensures begin { take (length (rule.member_notes self.now.member)) result.now
-            ≡ rule.member_notes self.now.member }
+        ensures { result.now ≡ rule.member_notes self.now.member }
     {
-        self.holding.store.notes()
+        self.holding.store.noted()
     }
 
-    /// The epoch that the member is in. Of a node that is out nothing is said.
+    /// The epoch that the member is in. Of a node that is out it is 0.
     pub fn epoch(&self) -> u64
-        ensures { self.now.member.live ≡ true → result
+        ensures place { self.now.member.live ≡ true → result
             ≡ epoch_of (rule.member_notes self.now.member) }
+        ensures out { self.now.member.live ≡ false → result ≡ 0 }
     {
-        self.holding.tally.epoch()
+        if self.failed {
+            0
+        } else {
+            self.holding.tally.epoch()
+        }
     }
 
-    /// The view of this epoch that the member is in. Of a node that is out nothing is said.
+    /// The view of this epoch that the member is in. Of a node that is out it is 0, which no view
+    /// is.
     pub fn view(&self) -> u64
-        ensures { self.now.member.live ≡ true
+        ensures place { self.now.member.live ≡ true
             → result ≡ view_of (rule.member_notes self.now.member)
             (epoch_of (rule.member_notes self.now.member)) }
+        ensures out { self.now.member.live ≡ false → result ≡ 0 }
     {
-        self.holding.tally.view(self.holding.tally.epoch())
+        if self.failed {
+            0
+        } else {
+            self.holding.tally.view(self.holding.tally.epoch())
+        }
     }
 
     /// Its disk, as it stands.

@@ -213,9 +213,11 @@ impl<H: Hasher<Digest = Digest32>, D: Disk, A: Application> Holding<H, D, A> {
             (own_state self.now) }
         ensures storable { IfSome result (λ note. IsTrue (is_storable note)) }
     {
-        let top = self.top_height();
         match self.span() {
-            Some(span) => self.reached_epoch(span, top / span),
+            Some(span) => {
+                let top = self.top_height();
+                self.reached_epoch(span, top / span)
+            }
             None => None,
         }
     }

@@ -20,7 +20,7 @@ ghost use Rattle.node_disk.specs.Log.{HasSettled};
 ghost use Rattle.note_scans.specs.Heights.{greatest_of};
 ghost use Rattle.marshal.specs.Finding.{final_blocks, highest_block};
 ghost use Rattle.marshal.specs.Frames.{FindsAllOrNone, ReadBack, frame_bytes};
-ghost use Rattle.marshal.specs.Stored.{marshal_log};
+ghost use Rattle.marshal.specs.Stored.{join_frames, marshal_log};
 ghost use Rattle.node.specs.Disks.{HasFound, HasTried, WasRefused};
 ghost use Rattle.node.specs.Store.{store_of, stored_notes, stored_rules, stored_state, with_staged};
 
@@ -97,6 +97,13 @@ impl<H: Hasher<Digest = Digest32>, D: Disk> Store<H, D> {
         ensures storable { IsTrue (list_all is_storable result.now) }
     {
         self.marshal.notes()
+    }
+
+    /// The notes on the disk.
+    pub(crate) fn noted(&self) -> &[Note]
+        ensures { result.now ≡ join_frames (store_of self.now.marshal).frames }
+    {
+        self.marshal.noted()
     }
 
     /// The notes of the last frame on the disk.
@@ -203,7 +210,7 @@ impl<H: Hasher<Digest = Digest32>, D: Disk> Store<H, D> {
         }
     }
 
-    /// The greatest height below which blocks are let go, where one is noted.
+    /// The greatest height below which blocks are hidden, where one is noted.
     pub(crate) fn greatest_prune(&self) -> Option<u64>
         ensures { result ≡ greatest_of
             (filter_map rule.pruned_height (stored_notes (store_of self.now.marshal))) }

@@ -317,4 +317,79 @@ verify 1: true
 places: [(1, 0)]
 restart: None
 places: [(1, 0)]
+== a_hole_is_filled_late
+9 chain 1 5
+verify 2: true
+verify 3: true
+verify 4: true
+report 4 4: true
+at 1: None
+at 2: Some(2)
+at 5: None
+finalization 2: None
+finalization 4: Some(4)
+deliver: [0]
+report 5 5: true
+finalization 5: None
+verify 5: true
+at 5: Some(5)
+finalization 5: Some(5)
+verify 1: true
+at 1: Some(1)
+finalization 1: None
+deliver: [1, 2, 3, 4, 5]
+restart: None
+at 1: Some(1)
+final: 2
+== two_finalizations_reach_one_height
+9 chain 1 3
+verify_to 3: 3
+report 3 3: true
+at 2: Some(2)
+finalization 2: None
+report 2 2: true
+report 2 4: true
+at 2: Some(2)
+finalization 2: Some(2)
+finalization 1: None
+final: 2
+== the_first_of_two_that_disagree_is_told
+9 rivals
+verify 2: true
+report 1 1: true
+at 1: None
+report 2 2: true
+at 1: Some(2)
+finalization 1: Some(2)
+verify 1: true
+at 1: Some(1)
+finalization 1: Some(1)
+restart: None
+at 1: Some(1)
+finalization 1: Some(1)
+== a_prune_above_a_hole
+9 chain 1 5
+verify 1: true
+verify 3: true
+verify 4: true
+report 1 1: true
+report 4 4: true
+process: 2
+at 2: None
+set_floor 3 3: true
+process: 2
+prune 3: true
+at 1: None
+finalization 1: None
+at 2: None
+at 3: Some(3)
+finalization 4: Some(4)
+verify 5: true
+report 5 5: true
+at 5: Some(5)
+at 1: None
+restart: Some(4)
+at 1: None
+finalization 1: None
+at 3: Some(3)
 ";

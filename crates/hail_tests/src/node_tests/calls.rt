@@ -16,7 +16,7 @@ pub(crate) fn event_of<W: Way>(alloc: Global, scene: &Scene<W>, call: Call) -> R
         "timeout" => Ok(Event::Timeout(first)),
         // The least pending height is acknowledged.
         "ack" => Ok(Event::Ack),
-        // Blocks below a height are to be let go.
+        // Blocks below a height are to be hidden.
         "prune" => Ok(Event::Prune(first)),
         // The finalized block of a height is wanted.
         "hint" => Ok(Event::Hint(first)),

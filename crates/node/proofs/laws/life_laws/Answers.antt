@@ -1,7 +1,7 @@
 use Rattle.marshal.specs.Stored.{join_frames}
 use Rattle.cw_rules.specs.Held.{resume}
 use Rattle.cw_rules.specs.Step.{member_notes}
-use Rattle.node.proofs.Rising.{increasing, since_up}
+use Rattle.node.proofs.Rising.{increasing, since_stays, since_up}
 use Rattle.node.proofs.Sent.{sent_stays}
 use Rattle.node.proofs.Votes.{along, anything, lives_once}
 use Rattle.node.specs.Lives.{since_start}
@@ -16,6 +16,9 @@ returns-clause-own_votes c id frames lives rising once =
 
 pub returns-clause-handed : goal.returns-clause-handed
 returns-clause-handed c r id frames turns = since_up r id frames turns
+
+pub returns-clause-stays : goal.returns-clause-stays
+returns-clause-stays c r id frames turns more = since_stays r id frames turns more
 
 pub returns-clause-once : goal.returns-clause-once
 returns-clause-once c r id frames turns =

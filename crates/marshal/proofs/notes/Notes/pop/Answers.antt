@@ -1,5 +1,6 @@
 use Rattle.std.proofs.Common.{◌≡◌, ◌∙◌, ◌++◌, ◌∷◌, [], List, None, Option, ap, length, map, rules, subst, sym}
 use Rattle.std.specs.List.{AllByRecursion}
+use Rattle.std.proofs.lemmas.Bool.{false≢true}
 use Rattle.std.proofs.lemmas.List.{length-map}
 use Rattle.cw_base.specs.declared.hash.Digest32.{Digest32}
 use Rattle.cw_types.specs.Values.{IsNote}
@@ -51,6 +52,7 @@ invariant_of-self g c =
           c.self.inside.reach.items c.truncate.new.self.items c.self.invariant.reaching split at
           c.truncate.ensures.items;
       topped = search rules;
+      known = λ yes. absurd (false≢true (sym c.unknown.ensures ∙ yes));
       first_block = c.self.invariant.first_block;
       first_commitment = c.self.invariant.first_commitment;
     }

@@ -1,4 +1,5 @@
 use Rattle.std.proofs.Common.{◌≡◌, ◌≤◌, ◌∙◌, ◌++◌, ◌∷◌, [], ap, arith, length, map, rules, sym, unwrap_or}
+use Rattle.std.proofs.lemmas.Bool.{false≢true}
 use Rattle.std.proofs.lemmas.List.{length-map, map-append}
 use Rattle.cw_types.specs.Values.{IsNote}
 use Rattle.cw_rules.proofs.Lists.{all_both}
@@ -6,7 +7,7 @@ use Rattle.marshal.specs.Indexed.{IsIndexOf}
 use Rattle.marshal.specs.Kept.{note_digest}
 use Rattle.marshal.specs.Reach.{BoundsHeights, final_height}
 use Rattle.marshal.proofs.Reaching.{reaches_on}
-use Rattle.marshal.proofs.notes.Notes.push.Goals as goal
+use Rattle.marshal.proofs.notes.Notes.append.Goals as goal
 
 pub invariant_of-self-2 : goal.invariant_of-self-2
 invariant_of-self-2 g c =
@@ -47,6 +48,7 @@ invariant_of-self-2 g c =
       indexed = rw (all, put) indexed;
       reaching = rw all reaching;
       topped = search rules;
+      known = λ yes. absurd (false≢true (sym c.unknown.ensures ∙ yes));
       first_block = c.self.invariant.first_block;
       first_commitment = c.self.invariant.first_commitment;
     }
