@@ -1,3 +1,4 @@
 pub mod Claims
 pub mod HostLines
 pub mod Answers
+pub mod Ahead

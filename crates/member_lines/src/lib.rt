@@ -5,6 +5,7 @@
 mod answer;
 mod claim;
 mod fields;
+mod input;
 mod line;
 mod refusal;
 
@@ -13,5 +14,6 @@ pub use answer::{
     put_ticket, put_write,
 };
 pub use claim::Claim;
+pub use input::{Input, LONGEST, Next};
 pub use line::{HostLine, Question};
 pub use refusal::Refusal;

@@ -1,0 +1,12 @@
+pub mod Taking
+pub mod Behind
+pub mod Begun
+pub mod Given
+pub mod Streams
+pub mod Lines
+pub mod Answering
+pub mod Served
+pub mod Headed
+pub mod Turning
+pub mod Asked
+pub mod Lined

@@ -1,0 +1,4 @@
+pub mod Serving
+pub mod Told
+pub mod Talk
+pub mod Programs
