@@ -1,11 +1,11 @@
 -- The picture of the run of a script.
-use Rattle.std.specs.Prelude.{◌≡◌, ◌++◌, ℕ, List, [], ◌∷◌, Ok, codes, map}
+use Rattle.std.specs.Prelude.{◌≡◌, ◌++◌, ℕ, List, [], ◌∷◌, codes, map}
 use Rattle.cw_base.specs.declared.hash.Digest32.{Digest32}
 use Rattle.cw_types.specs.Encoding.{block_bytes}
 use Rattle.cw_rules.specs.Report.{Entry, Report as Reported}
 use Rattle.cw_rules.specs.World.{Line}
 use Rattle.cw_rules.specs.declared.travel.Travel.TheVariants as travel
-use Rattle.hail_script.specs.Grammar.{faulty_marks, script_of}
+use Rattle.hail_script.specs.Grammar.{faulty_marks}
 use Rattle.hail_script.specs.Scenario.{Scenario}
 use Rattle.run_picture.specs.Picture.{picture}
 use Rattle.run_picture.specs.Steps.{Step}
@@ -37,13 +37,11 @@ picture_of_report hash s r =
     picture (faulty_marks s.lines s.committees.total) (steps_of s.lines r.steps)
     (map (λ b. hash (block_bytes b)) r.chain)
 
--- the text spells a script, this is the report of its run, and its picture is due
+-- this is the report of the run of the text's script, and the picture of it is due
 pub record IsDrawn {H : Type 0} (hash : List ℕ → Digest32) (text : List ℕ)
     (report : Report H Chunked) (due : List ℕ) : Type 0 where
   pub reported : IsReport travel.Chunked hash text report
-  pub script : Scenario
-  pub in_grammar : script_of text ≡ Ok script
-  pub drawn : due ≡ picture_of_report hash script (shown_report report)
+  pub drawn : due ≡ picture_of_report hash reported.script (shown_report report)
 
 -- the answer to words
 abbrev pub usage_line : List ℕ

@@ -1,15 +1,19 @@
 //! The program: from the bytes of a script to the picture of its run.
 
-ghost use Rattle.std.specs.Prelude.{◌≡◌, ◌≢◌, List, Some, length, ℕ};
+ghost use Rattle.std.specs.Prelude.{◌≡◌, ◌≢◌, length};
+ghost use Rattle.cw_base.specs.Causes.{Rose};
 ghost use Rattle.cw_rules.specs.declared.travel.Travel.TheVariants as travel;
-ghost use Rattle.hail_report.specs.Exits.{HasFault, HasRun, IsSilent, UsageOf};
-ghost use Rattle.hail_world.specs.Programs.{AnswersBy, IsMade};
+ghost use Rattle.hail_report.specs.Answers.{AnswersSource};
+ghost use Rattle.hail_report.specs.Exits.{Finishes, IfDone};
+ghost use Rattle.hail_world.specs.Headline.{TellsRun};
+ghost use Rattle.hail_world.specs.OneChain.{IsOneChain};
+ghost use Rattle.hail_world.specs.Programs.{IsMade};
 ghost use Rattle.hail_picture.specs.Drawing.{IsDrawn, usage_line};
 
 use crate::drawing::picture_of;
 use cw_base::{Digest32, Hasher, NoMemory, Sink, Source, Strategy};
-use hail_report::{Early, Exit};
-use hail_world::{Made, Report, end_made, end_usage, run_source};
+use hail_report::{Early, Exit, finish};
+use hail_world::{Made, Report, end_made, run_source};
 use node::Chunked;
 use std::alloc::Global;
 use std::thread::Threads;
@@ -33,34 +37,29 @@ pub fn picture_program<
     output: &mut O,
     strategy: &S,
 ) -> Exit<Report<H, Chunked>>
+    // All that the report's honest members hand out lies on one chain.
+    ensures one_chain { IfDone result (λ report. IsOneChain H.digest_of report) }
+
     // With words nothing is read, and the usage is written.
     ensures usage { length words.now ≢ 0
         → (input.new ≡ input.old)
-        × UsageOf usage_line (O.held output.old) (O.held output.new) result }
+        × Finishes (O.held output.old) (O.held output.new) (O.faults output.old)
+        (O.faults output.new) usage_line Exit.Usage result }
 
-    // Without words each answer has its meaning for the bytes that the source had left.
-    ensures answer { (text : List ℕ) → length words.now ≡ 0 → I.left input.old ≡ Some text
-        → AnswersBy travel.Chunked H.digest_of (IsDrawn H.digest_of) text (I.left input.new)
-        (O.held output.old) (O.held output.new) result }
-
-    // Whether or not the source tells its bytes: the usage is the answer to words alone.
-    ensures usage_only { result ≡ Exit.Usage → length words.now ≢ 0 }
-
-    // Whether or not the source tells its bytes: done is told with the report of some text's run,
-    // whose picture was written.
-    ensures run { length words.now ≡ 0
-        → HasRun (IsDrawn H.digest_of) (O.held output.old) (O.held output.new) result }
+    // Without words each answer is that of the bytes that were read, and the text that is due for
+    // it was written.
+    ensures answer { length words.now ≡ 0
+        → AnswersSource (TellsRun travel.Chunked H.digest_of (IsDrawn H.digest_of))
+        (I.left input.old) (I.left input.new) (O.held output.old) (O.held output.new) result }
 
     // A fault is told only where the source or the sink has failed in this call.
-    ensures fault { HasFault (I.faults input.old) (I.faults input.new) (O.faults output.old)
-        (O.faults output.new) result }
-
-    // Where the source failed, or memory is short, nothing is written, whether or not the source
-    // tells its bytes.
-    ensures silent { IsSilent (O.held output.old) (O.held output.new) result }
+    ensures read_fault { result ≡ Exit.ReadFault
+        → Rose (I.faults input.old) (I.faults input.new) }
+    ensures write_fault { result ≡ Exit.WriteFault
+        → Rose (O.faults output.old) (O.faults output.new) }
 {
     if !words.is_empty() {
-        return end_usage(output, USAGE);
+        return finish(output, USAGE, Exit::Usage);
     }
     let made = made_of_source::<H, R, I, S>(rt, alloc, input, strategy);
     end_made(alloc, output, made)

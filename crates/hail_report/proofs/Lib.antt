@@ -5,3 +5,4 @@ pub mod Numbered
 pub mod Voted
 pub mod StormWords
 pub mod StormLines
+pub mod Answering

@@ -5,3 +5,4 @@ pub mod Reading
 pub mod Writing
 pub mod Text
 pub mod Exits
+pub mod Answers

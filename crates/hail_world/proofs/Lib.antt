@@ -23,4 +23,4 @@ pub mod Links
 pub mod Seating
 pub mod Turned
 pub mod Clusters
-pub mod Answering
+pub mod OneChain

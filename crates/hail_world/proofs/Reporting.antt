@@ -44,13 +44,15 @@ pub reported : {H W : Type 0} (travel : Travel) (hash : List ℕ → Digest32) (
     (s : Scenario)
     (report : Report H W)
     → script_by travel text ≡ Ok s → (h : IsRun hash s report)
+    → IsCluster (script_rules hash s) s.lines
     → IsReported (script_rules hash s) h.world (handed_in (script_rules hash s) s.lines)
     (report_of (script_rules hash s) s.lines h.world).chain
     → IsReport travel hash text report
-reported travel hash text s report spells h law = record {
+reported travel hash text s report spells h cluster law = record {
   script = s;
   in_grammar = spells;
   run = h;
+  cluster = cluster;
   opened =
       ap (λ (r : Reported). map (λ (e : Entry). e.member) r.opening) h.told
       ∙ openers (script_rules hash s) s.lines (range_with_len 0 s.committees.total);

@@ -1,3 +1,4 @@
+pub mod OneChain
 pub mod MemoryNodes
 pub mod Places
 pub mod Offers

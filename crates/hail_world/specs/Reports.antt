@@ -4,7 +4,7 @@ use Rattle.std.specs.List.{enumerate_from, range_with_len}
 use Rattle.cw_base.specs.declared.hash.Digest32.{Digest32}
 use Rattle.cw_types.specs.Block.{Block}
 use Rattle.cw_rules.specs.Chains.{Clashes, Ends, outcome}
-use Rattle.cw_rules.specs.Reached.{IsClash, IsReported, Reaches}
+use Rattle.cw_rules.specs.Reached.{IsClash, IsCluster, IsReported, Reaches}
 use Rattle.cw_rules.specs.Report.{Entry, Report as Reported, handed_in, report_of}
 use Rattle.cw_rules.specs.Rules.{Rules}
 use Rattle.cw_rules.specs.Step.{Member}
@@ -84,15 +84,20 @@ abbrev pub honest_numbers : Scenario → List ℕ
 honest_numbers s = filter (λ i. not (is_faulty_in s.lines i)) (range_with_len 0 s.committees.total)
 
 -- The text spells a script that is run, of blocks that travel so, and this is the report of its
--- run: an entry for each honest member and for each event line, and each block that is handed out
--- is the link of its height in one chain from genesis.
+-- run. These are the first three fields. The others follow from them, by the laws of scripts and of
+-- runs, and are said so that a reader needn't derive them.
 pub record IsReport {H W : Type 0} (travel : Travel) (hash : List ℕ → Digest32) (text : List ℕ)
     (report : Report H W) : Type 0 where
   pub script : Scenario
   pub in_grammar : script_by travel text ≡ Ok script
   pub run : IsRun hash script report
+  -- the script makes at most f of the n members of each epoch faulty, n above 3f
+  pub cluster : IsCluster (script_rules hash script) script.lines
+  -- there is an entry for each honest member, by number, and one for each event line
   pub opened : map (λ e. e.member) report.opening ≡ map Some (honest_numbers script)
   pub stepped : length report.steps ≡ length script.lines
+  -- the links are one chain of certified blocks, each block that is handed out is the link of its
+  -- height, and no link is higher than all of these
   pub chain : IsReported (script_rules hash script) run.world
       (handed_in (script_rules hash script) script.lines) report.chain
 

@@ -20,7 +20,7 @@ mod turn;
 mod world;
 
 pub use cluster::Cluster;
-pub use frame::{Made, end_made, end_usage, run_source};
+pub use frame::{Made, end_made, run_source};
 pub use live_node::{LiveNode, MemoryNode};
 pub use program::run_input;
 pub use report::{Ran, Report, report_text};

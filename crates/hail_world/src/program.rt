@@ -1,10 +1,13 @@
 //! The program without words: from the bytes that come in to the bytes that go out.
 
-ghost use Rattle.std.specs.Prelude.{◌≡◌, List, ℕ, Some};
-ghost use Rattle.hail_world.specs.Headline.{IsRunOf, Means};
-ghost use Rattle.hail_world.specs.Programs.{IsMade};
-ghost use Rattle.hail_report.specs.Exits.{HasFault, HasRun, IsSilent};
+ghost use Rattle.std.specs.Prelude.{◌≡◌};
+ghost use Rattle.cw_base.specs.Causes.{Rose};
+ghost use Rattle.hail_report.specs.Answers.{AnswersSource};
+ghost use Rattle.hail_report.specs.Exits.{IfDone};
 ghost use Rattle.hail_report.specs.Text as spec;
+ghost use Rattle.hail_world.specs.Headline.{IsRunOf, TellsReport};
+ghost use Rattle.hail_world.specs.OneChain.{IsOneChain};
+ghost use Rattle.hail_world.specs.Programs.{IsMade};
 
 use crate::frame::{Made, end_made, run_source};
 use crate::report::{Report, report_text};
@@ -24,23 +27,19 @@ pub fn run_input<
     O: Sink,
     S: Strategy,
 >(rt: &R, alloc: Global, input: &mut I, output: &mut O, strategy: &S) -> Exit<Report<H, W>>
-    // Each answer has its meaning for the bytes that the source had left.
-    ensures answer { (text : List ℕ) → I.left input.old ≡ Some text
-        → Means W.travel H.digest_of text (I.left input.new) (O.held output.old)
-        (O.held output.new) result }
+    // All that the report's honest members hand out lies on one chain.
+    ensures one_chain { IfDone result (λ report. IsOneChain H.digest_of report) }
 
-    // Whether or not the source tells its bytes: done is told with the report of some text's run,
-    // whose text was written.
-    ensures run { HasRun (IsRunOf W.travel (spec.report_text H.digest_of) H.digest_of)
-        (O.held output.old) (O.held output.new) result }
+    // Each answer is that of the bytes that were read, and the text that is due for it was written.
+    ensures answer { AnswersSource
+        (TellsReport W.travel H.digest_of (spec.report_text H.digest_of)) (I.left input.old)
+        (I.left input.new) (O.held output.old) (O.held output.new) result }
 
     // A fault is told only where the source or the sink has failed in this call.
-    ensures fault { HasFault (I.faults input.old) (I.faults input.new) (O.faults output.old)
-        (O.faults output.new) result }
-
-    // Where the source failed, or memory is short, nothing is written, whether or not the source
-    // tells its bytes.
-    ensures silent { IsSilent (O.held output.old) (O.held output.new) result }
+    ensures read_fault { result ≡ Exit.ReadFault
+        → Rose (I.faults input.old) (I.faults input.new) }
+    ensures write_fault { result ≡ Exit.WriteFault
+        → Rose (O.faults output.old) (O.faults output.new) }
 {
     let made = made_of_source::<H, W, R, I, S>(rt, alloc, input, strategy);
     end_made(alloc, output, made)
@@ -54,7 +53,7 @@ fn made_of_source<H: Hasher<Digest = Digest32>, W: Way, R: Threads + Sync, I: So
     strategy: &S,
 ) -> Result<Made<Report<H, W>>, Early>
     ensures { IsMade W.travel H.digest_of
-        (IsRunOf W.travel (spec.report_text H.digest_of) H.digest_of) (I.left input.old)
+        (IsRunOf W.travel H.digest_of (spec.report_text H.digest_of)) (I.left input.old)
         (I.left input.new) (I.faults input.old) (I.faults input.new) result }
 {
     match run_source::<H, W, R, I, S>(rt, alloc, input, strategy) {

@@ -8,6 +8,7 @@ ghost use Rattle.cw_rules.specs.Report.{acked_at, opening_entries, opening_entry
 ghost use Rattle.cw_rules.specs.Rules.{Rules};
 ghost use Rattle.cw_rules.specs.Step.{Member};
 ghost use Rattle.hail_world.specs.Offers.{some_of};
+ghost use Rattle.hail_world.specs.OneChain.{IsOneChain};
 ghost use Rattle.cw_rules.specs.World.{World as RulesWorld};
 ghost use Rattle.hail_script.specs.Grammar.{faulty_marks, first_event, script_by};
 ghost use Rattle.hail_world.specs.Places.{SitAs, WorkBy, SitsAs, WorksBy};
@@ -44,6 +45,10 @@ pub fn run_text<H: Hasher<Digest = Digest32>, W: Way, R: Threads + Sync, S: Stra
     text: &[u8],
     strategy: &S,
 ) -> Result<Ran<H, W>, RunError>
+    // All that its honest members hand out lies on one chain.
+    ensures one_chain { IfOk result (λ ran. IsOneChain H.digest_of ran.report) }
+
+    // The text spells this script, and this is the report of its run.
     ensures spells { IfOk result (λ ran. script_by W.travel text.now ≡ Ok ran.script) }
     ensures run { IfOk result (λ ran. IsRun H.digest_of ran.script ran.report) }
     ensures report { IfOk result (λ ran. IsReport W.travel H.digest_of text.now ran.report) }

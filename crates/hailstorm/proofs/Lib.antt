@@ -5,4 +5,4 @@ pub mod Prefixed
 pub mod LanesMeaning
 pub mod Shared
 pub mod Between
-pub mod Answering
+pub mod LanesChain

@@ -68,7 +68,7 @@ as_plain x report =
 
 -- The text spells a script with lanes, each lane has a turn for each of its lines, and the report
 -- is that of the plain script of the lines in that order; but each step is told under the number of
--- its line in the text.
+-- its line in the text. The last three fields follow from the others, by the laws of runs.
 pub record IsLanesReport {H : Type 0} (hash : List ℕ → Digest32) (text : List ℕ) (order : List ℕ)
     (report : Report H) : Type 0 where
   pub laned : Laned

@@ -1,15 +1,14 @@
 //! The lanes program: from the bytes that come in to the bytes that go out.
 
-ghost use Rattle.std.specs.Prelude.{◌≡◌, ◌≢◌, ◌++◌, [], List, ℕ, Some, IfOk, OnOk, flat_map, codes};
+ghost use Rattle.std.specs.Prelude.{◌≡◌, ◌≢◌, ◌++◌, [], List, ℕ, IfOk, OnOk, flat_map};
 ghost use Rattle.std.specs.Prelude.{string_bytes};
-ghost use Rattle.std.specs.Fmt.{decimal};
-ghost use Rattle.hail_script.specs.declared.error.RunError.TheVariants as error;
-ghost use Rattle.hail_script.specs.Lanes.{laned_of};
-ghost use Rattle.hailstorm.specs.Lanes.{IsLanesCause, IsLanesReport};
+ghost use Rattle.cw_base.specs.Causes.{Rose};
+ghost use Rattle.hail_report.specs.Answers.{Answers, AnswersSource};
+ghost use Rattle.hail_report.specs.Exits.{Finishes, IfDone};
+ghost use Rattle.hail_world.specs.OneChain.{IsOneChain};
+ghost use Rattle.hailstorm.specs.Lanes.{IsLanesCause};
 ghost use Rattle.hailstorm.specs.LanesProgram as spec;
-ghost use Rattle.hailstorm.specs.LanesProgram.{IsRunInLanes, LanesMeans};
-ghost use Rattle.hail_report.specs.Exits.{EndsEarly, Finishes, HasFault, HasRun, IsSilent};
-ghost use Rattle.hail_report.specs.Exits.{UsageOf};
+ghost use Rattle.hailstorm.specs.LanesProgram.{TellsLanes};
 
 use crate::text::report_text;
 use crate::world::{Report, World};
@@ -41,31 +40,26 @@ pub fn lanes_program<
     strategy: &S,
     gate: &G,
 ) -> Exit<(Items<u64>, Report<H>)>
+    // All that the report's honest members hand out lies on one chain.
+    ensures one_chain { IfDone result (λ done. IsOneChain H.digest_of done.1) }
+
     // With words nothing is read, and the usage is written.
     ensures usage { words.now ≢ []
         → (input.new ≡ input.old)
-        × UsageOf spec.lanes_usage_line (O.held output.old) (O.held output.new) result }
+        × Finishes (O.held output.old) (O.held output.new) (O.faults output.old)
+        (O.faults output.new) spec.lanes_usage_line Exit.Usage result }
 
-    // Without words each answer has its meaning for the bytes that the source had left.
-    ensures answer { (text : List ℕ) → words.now ≡ [] → I.left input.old ≡ Some text
-        → LanesMeans H.digest_of text (I.left input.new) (O.held output.old)
-        (O.held output.new) result }
-
-    // Whether or not the source tells its bytes: the usage is the answer to words alone.
-    ensures usage_only { result ≡ Exit.Usage → words.now ≢ [] }
-
-    // Whether or not the source tells its bytes: done is told with the report of some text's run,
-    // whose order and text were written.
-    ensures run { words.now ≡ []
-        → HasRun (IsRunInLanes H.digest_of) (O.held output.old) (O.held output.new) result }
+    // Without words each answer is that of the bytes that were read, and the text that is due for
+    // it was written.
+    ensures answer { words.now ≡ []
+        → AnswersSource (TellsLanes H.digest_of) (I.left input.old) (I.left input.new)
+        (O.held output.old) (O.held output.new) result }
 
     // A fault is told only where the source or the sink has failed in this call.
-    ensures fault { HasFault (I.faults input.old) (I.faults input.new) (O.faults output.old)
-        (O.faults output.new) result }
-
-    // Where the source failed, or memory is short, nothing is written, whether or not the source
-    // tells its bytes.
-    ensures silent { IsSilent (O.held output.old) (O.held output.new) result }
+    ensures read_fault { result ≡ Exit.ReadFault
+        → Rose (I.faults input.old) (I.faults input.new) }
+    ensures write_fault { result ≡ Exit.WriteFault
+        → Rose (O.faults output.old) (O.faults output.new) }
 {
     if !words.is_empty() {
         return finish(output, USAGE, Exit::Usage);
@@ -87,27 +81,33 @@ fn run_whole<H: Hasher<Digest = Digest32>, R: Threads + Wait + Sync, O: Sink, S:
     strategy: &S,
     gate: &G,
 ) -> Exit<(Items<u64>, Report<H>)>
-    ensures answer { spec.LanesAnswers H.digest_of text.now (O.held output.old) (O.held output.new)
-        (O.faults output.old) (O.faults output.new) result }
+    ensures answer { Answers (TellsLanes H.digest_of text.now) (O.held output.old)
+        (O.held output.new) result }
+    ensures read_fault { result ≢ Exit.ReadFault }
+    ensures write_fault { result ≡ Exit.WriteFault
+        → Rose (O.faults output.old) (O.faults output.new) }
 {
     match World::run_lanes::<H, R, S, G>(rt, alloc, text, strategy, gate) {
         Ok((order, report)) => match lanes_text::<H>(alloc, order.as_slice(), &report) {
             Ok(text) => finish(output, &text, Exit::Done((order, report))),
             Err(NoMemory) => Exit::NoMemory,
         },
-        Err((order, error)) => end_with(alloc, output, order.as_slice(), error),
+        Err((order, error)) => end_with::<H, O>(alloc, output, order.as_slice(), error),
     }
 }
 
 // Writes why there is no report, and ends so.
-fn end_with<X: Drop, O: Sink>(
+fn end_with<H: Hasher<Digest = Digest32>, O: Sink>(
     alloc: Global,
     output: &mut O,
     order: &[u64],
     error: RunError,
-) -> Exit<X>
-    ensures { spec.EndsLanes (O.held output.old) (O.held output.new) (O.faults output.old)
-        (O.faults output.new) order.now error result }
+) -> Exit<(Items<u64>, Report<H>)>
+    ensures answer { (text : List ℕ) → IsLanesCause H.digest_of text order.now error
+        → Answers (TellsLanes H.digest_of text) (O.held output.old) (O.held output.new) result }
+    ensures read_fault { result ≢ Exit.ReadFault }
+    ensures write_fault { result ≡ Exit.WriteFault
+        → Rose (O.faults output.old) (O.faults output.new) }
 {
     match error {
         RunError::HashClash(earlier, later) => {

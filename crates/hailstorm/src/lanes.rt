@@ -2,6 +2,7 @@
 
 ghost use Rattle.std.specs.Prelude.{◌≡◌, ◌-◌, ◌^◌, [], ℕ, List, Ok, Some, IfOk, IfErr, IfSome};
 ghost use Rattle.hail_script.specs.Lanes.{laned_of};
+ghost use Rattle.hail_world.specs.OneChain.{IsOneChain};
 ghost use Rattle.hailstorm.specs.Lanes.{IsLanesCause, IsLanesReport};
 ghost use Rattle.hailstorm.specs.Turns.{IsTurnOf};
 
@@ -50,6 +51,10 @@ impl World {
         strategy: &S,
         gate: &G,
     ) -> Result<(Items<u64>, Report<H>), (Items<u64>, RunError)>
+        // All that its honest members hand out lies on one chain.
+        ensures one_chain { IfOk result (λ done. IsOneChain H.digest_of done.1) }
+
+        // The report is that of the script's lines in this order.
         ensures ok { IfOk result (λ done. IsLanesReport H.digest_of script.now done.0 done.1) }
         ensures err { IfErr result (λ done. IsLanesCause H.digest_of script.now done.0 done.1) }
     {

@@ -1,13 +1,17 @@
 //! The program: from the bytes that come in to the bytes that go out.
 
-ghost use Rattle.std.specs.Prelude.{◌≡◌, ◌≢◌, List, ℕ, None, Some, IfOk, map, string_bytes};
-ghost use Rattle.std.specs.Prelude.{Option, option_map};
-ghost use Rattle.hailstorm.specs.Headline as headline;
-ghost use Rattle.hailstorm.specs.Headline.{Means, MeansUsage, Answers, IsRunOf, text_of};
-ghost use Rattle.hail_world.specs.Headline.{EndsWith};
-ghost use Rattle.hail_report.specs.Exits.{HasFault, HasRun, IsSilent, RunsOn};
-ghost use Rattle.hailstorm.specs.Reports.{shown_report};
+ghost use Rattle.std.specs.Prelude.{◌≡◌, ◌≢◌, ℕ, None, Some, IfOk, map, string_bytes};
+ghost use Rattle.cw_base.specs.Causes.{Rose};
+ghost use Rattle.cw_rules.specs.declared.travel.Travel.TheVariants as travel;
+ghost use Rattle.hail_script.specs.declared.error.RunError.{RunError as Cause};
+ghost use Rattle.hail_report.specs.Answers.{Answers, AnswersSource};
+ghost use Rattle.hail_report.specs.Exits.{Finishes, IfDone};
 ghost use Rattle.hail_report.specs.Storm as spec;
+ghost use Rattle.hail_report.specs.Text.{report_text, summary_text as summary_by};
+ghost use Rattle.hail_world.specs.Headline.{TellsReport};
+ghost use Rattle.hail_world.specs.OneChain.{IsOneChain};
+ghost use Rattle.hailstorm.specs.Headline as headline;
+ghost use Rattle.hailstorm.specs.Reports.{shown_report};
 
 use crate::world::{Report, World};
 use cw_base::{Digest32, Hasher, NoMemory, Sink, Source, Strategy};
@@ -37,45 +41,41 @@ pub fn run_program<
     output: &mut O,
     strategy: &S,
 ) -> Exit<Report<H>>
+    // All that the report's honest members hand out lies on one chain.
+    ensures one_chain { IfDone result (λ report. IsOneChain H.digest_of report) }
+
     // With other words nothing is read, and the usage is written.
     ensures usage { headline.words_ask (map string_bytes words.now) ≡ None
-        → (input.new ≡ input.old) × MeansUsage (O.held output.old) (O.held output.new) result }
+        → (input.new ≡ input.old)
+        × Finishes (O.held output.old) (O.held output.new) (O.faults output.old)
+        (O.faults output.new) headline.usage_line Exit.Usage result }
 
-    // Under `storm N` nothing is read, and each answer has its meaning for the storm's script.
+    // Without words each answer is that of the bytes that were read, and the text that is due for
+    // it was written.
+    ensures answer { headline.words_ask (map string_bytes words.now) ≡ Some None
+        → AnswersSource (TellsReport travel.Chunked H.digest_of (report_text H.digest_of))
+        (I.left input.old) (I.left input.new) (O.held output.old) (O.held output.new) result }
+
+    // Under `storm N` nothing is read. Each answer is that of the storm's script, and the summary
+    // or the line that is due for it was written.
     ensures storm { (number : ℕ)
         → headline.words_ask (map string_bytes words.now) ≡ Some (Some number)
         → (input.new ≡ input.old)
-        × Answers H.digest_of (Some number) (spec.storm_script number) (O.held output.old)
-        (O.held output.new) result }
-
-    // Without words each answer has its meaning for the bytes that the source had left.
-    ensures answer { (text : List ℕ) → headline.words_ask (map string_bytes words.now) ≡ Some None
-        → I.left input.old ≡ Some text
-        → Means H.digest_of text (I.left input.new) (O.held output.old) (O.held output.new) result }
-
-    // Whether or not the source tells its bytes: the usage is the answer to other words alone.
-    ensures usage_only { result ≡ Exit.Usage
-        → headline.words_ask (map string_bytes words.now) ≡ None }
-
-    // Whether or not the source tells its bytes: done is told with the report of some text's run,
-    // whose text was written; under `storm N` of that storm's.
-    ensures run { (storm : Option ℕ)
-        → headline.words_ask (map string_bytes words.now) ≡ Some storm
-        → HasRun (IsRunOf H.digest_of storm) (O.held output.old) (O.held output.new) result }
+        × Answers (TellsReport travel.Chunked H.digest_of (summary_by H.digest_of number)
+        (spec.storm_script number)) (O.held output.old) (O.held output.new) result }
 
     // Under `storm N` the run is done or ends in a clash, unless the sink fails or memory is short.
     ensures storm_runs { (number : ℕ)
         → headline.words_ask (map string_bytes words.now) ≡ Some (Some number)
-        → RunsOn result }
+        → (result ≢ Exit.ReadFault) × ((cause : Cause) → result ≢ Exit.Refused cause) }
 
     // A fault is told only where the source or the sink has failed in this call.
-    ensures fault { HasFault (I.faults input.old) (I.faults input.new) (O.faults output.old)
-        (O.faults output.new) result }
-
-    // Where the source failed, or memory is short, nothing is written, whether or not the source
-    // tells its bytes.
-    ensures silent { IsSilent (O.held output.old) (O.held output.new) result }
+    ensures read_fault { result ≡ Exit.ReadFault
+        → Rose (I.faults input.old) (I.faults input.new) }
+    ensures write_fault { result ≡ Exit.WriteFault
+        → Rose (O.faults output.old) (O.faults output.new) }
 {
+    storm_laws();
     match asked_of(words) {
         None => finish(output, USAGE, Exit::Usage),
         Some(None) => run_input::<H, Chunked, R, I, O, S>(rt, alloc, input, output, strategy),
@@ -112,37 +112,22 @@ fn run_storm<H: Hasher<Digest = Digest32>, R: Threads + Sync, O: Sink, S: Strate
     output: &mut O,
     strategy: &S,
 ) -> Exit<Report<H>>
-    ensures answer { Answers H.digest_of (Some number) (spec.storm_script number)
-        (O.held output.old) (O.held output.new) result }
-    ensures run { HasRun (IsRunOf H.digest_of (Some number)) (O.held output.old)
+    ensures answer { Answers (TellsReport travel.Chunked H.digest_of
+        (summary_by H.digest_of number) (spec.storm_script number)) (O.held output.old)
         (O.held output.new) result }
-    ensures runs { RunsOn result }
-    ensures fault { HasFault 0 0 (O.faults output.old) (O.faults output.new) result }
-    ensures silent { IsSilent (O.held output.old) (O.held output.new) result }
+    ensures read_fault { result ≢ Exit.ReadFault }
+    ensures write_fault { result ≡ Exit.WriteFault
+        → Rose (O.faults output.old) (O.faults output.new) }
 {
-    storm_laws();
     let Ok(script) = storm_script(alloc, number) else {
         return Exit::NoMemory;
     };
     match World::run::<H, R, S>(rt, alloc, &script, strategy) {
-        Ok(report) => end_with::<H, O>(alloc, number, output, report),
+        Ok(report) => match summary_text::<H>(alloc, number, &report) {
+            Ok(text) => finish(output, &text, Exit::Done(report)),
+            Err(NoMemory) => Exit::NoMemory,
+        },
         Err(error) => end_early(alloc, output, early_of(error)),
-    }
-}
-
-// Writes the summary of a report, and ends so.
-fn end_with<H: Hasher<Digest = Digest32>, O: Sink>(
-    alloc: Global,
-    number: u64,
-    output: &mut O,
-    report: Report<H>,
-) -> Exit<Report<H>>
-    ensures { EndsWith (text_of H.digest_of (Some number)) (O.held output.old)
-        (O.held output.new) (O.faults output.old) (O.faults output.new) report result }
-{
-    match summary_text::<H>(alloc, number, &report) {
-        Ok(text) => finish(output, &text, Exit::Done(report)),
-        Err(_) => Exit::NoMemory,
     }
 }
 
@@ -153,7 +138,7 @@ fn summary_text<H: Hasher<Digest = Digest32>>(
     report: &Report<H>,
 ) -> Result<Vec<u8>, NoMemory>
     ensures { IfOk result
-        (λ text. text.items ≡ text_of H.digest_of (Some number) (shown_report report.now)) }
+        (λ text. text.items ≡ summary_by H.digest_of number (shown_report report.now)) }
 {
     summary_of_parts::<H>(
         alloc,

@@ -1,6 +1,7 @@
 //! The cluster that a script runs, whose blocks travel in chunks.
 
 ghost use Rattle.std.specs.Prelude.{IfOk, IfErr};
+ghost use Rattle.hail_world.specs.OneChain.{IsOneChain};
 ghost use Rattle.hailstorm.specs.Reports.{IsCause, IsReport};
 
 use cw_base::{Digest32, Hasher, Strategy};
@@ -32,6 +33,10 @@ impl World {
         script: &[u8],
         strategy: &S,
     ) -> Result<Report<H>, RunError>
+        // All that its honest members hand out lies on one chain.
+        ensures one_chain { IfOk result (λ report. IsOneChain H.digest_of report) }
+
+        // This is the report of the script's run.
         ensures ok { IfOk result (λ report. IsReport H.digest_of script.now report) }
         ensures err { IfErr result (λ e. IsCause H.digest_of script.now e) }
     {

@@ -1,5 +1,5 @@
 -- What the program asks, and what it writes.
-use Rattle.std.specs.Prelude.{[], ℕ, ◌++◌, ◌∷◌, ◌≡◌, Bool, List, None, Ok, Option, codes, drop, false, if◌then◌else◌}
+use Rattle.std.specs.Prelude.{[], ℕ, ◌++◌, ◌∷◌, ◌≡◌, Bool, List, None, Option, codes, drop, false, if◌then◌else◌}
 use Rattle.std.specs.Fmt.{decimal}
 use Rattle.std.specs.List.{flat_map, fold}
 use Rattle.std.specs.Option.{option_map_or}
@@ -14,10 +14,8 @@ use Rattle.cw_rules.specs.Report.{Entry, Report as Reported}
 use Rattle.cw_rules.specs.Rules.{commit}
 use Rattle.cw_rules.specs.World.{Sent}
 use Rattle.cw_rules.specs.declared.travel.Travel.TheVariants as travel
-use Rattle.hail_script.specs.Grammar.{script_of}
 use Rattle.hail_script.specs.Pieces.{number}
-use Rattle.hail_script.specs.Scenario.{Scenario}
-use Rattle.hail_world.specs.Reports.{IsReport, IsRun, shown_report}
+use Rattle.hail_world.specs.Reports.{IsReport, shown_report}
 use Rattle.hail_report.specs.Text.{line}
 use Rattle.node.specs.declared.way.Chunked.{Chunked}
 use Rattle.hail_world.specs.declared.report.Report.{Report}
@@ -80,9 +78,6 @@ usage_line = line (codes "usage: hail_archive")
 -- that its messages fill, and the lines of what that archive gives back.
 pub record IsDone {H : Type 0} (hash : List ℕ → Digest32) (limit : ℕ) (text : List ℕ)
     (done : Report H Chunked × Archived) (due : List ℕ) : Type 0 where
-  pub script : Scenario
-  pub spells : script_of text ≡ Ok script
-  pub run : IsRun hash script done.0
   pub report : IsReport travel.Chunked hash text done.0
   pub archive : done.1 ≡ filled hash limit (shown_report done.0)
-  pub lines : due ≡ archive_text hash script.committees done.1 done.0.chain
+  pub lines : due ≡ archive_text hash report.script.committees done.1 done.0.chain

@@ -1,10 +1,14 @@
 //! The program: from the bytes that come in to the bytes that go out.
 
-ghost use Rattle.std.specs.Prelude.{◌≡◌, IfOk, List, None, Some, map, string_bytes, ℕ};
+ghost use Rattle.std.specs.Prelude.{◌≡◌, ℕ, None, Some, IfOk, map, string_bytes};
+ghost use Rattle.cw_base.specs.Causes.{Rose};
 ghost use Rattle.cw_rules.specs.declared.travel.Travel.TheVariants as travel;
+ghost use Rattle.hail_report.specs.Answers.{AnswersSource};
+ghost use Rattle.hail_report.specs.Exits.{Finishes, IfDone};
+ghost use Rattle.hail_world.specs.Headline.{TellsRun};
+ghost use Rattle.hail_world.specs.OneChain.{IsOneChain};
+ghost use Rattle.hail_world.specs.Programs.{IsMade};
 ghost use Rattle.hail_world.specs.Reports.{shown_report};
-ghost use Rattle.hail_report.specs.Exits.{HasFault, HasRun, IsSilent, UsageOf};
-ghost use Rattle.hail_world.specs.Programs.{AnswersBy, IsMade};
 ghost use Rattle.run_archive.specs.Program as spec;
 ghost use Rattle.run_archive.specs.Program.{IsDone, usage_line};
 
@@ -12,9 +16,9 @@ use crate::filling::filled;
 use crate::text::archive_text;
 use cw_archive::Archive;
 use cw_base::{Digest32, Hasher, NoMemory, Sink, Source, Strategy};
-use hail_report::{Early, Exit};
+use hail_report::{Early, Exit, finish};
 use hail_script::number_of;
-use hail_world::{Made, Ran, Report, end_made, end_usage, run_source};
+use hail_world::{Made, Ran, Report, end_made, run_source};
 use node::Chunked;
 use std::alloc::Global;
 use std::thread::Threads;
@@ -39,35 +43,29 @@ pub fn archive_program<
     output: &mut O,
     strategy: &S,
 ) -> Exit<(Report<H, Chunked>, Archive<H>)>
+    // All that the report's honest members hand out lies on one chain.
+    ensures one_chain { IfDone result (λ done. IsOneChain H.digest_of done.0) }
+
     // With other words than one number nothing is read, and the usage is written.
     ensures usage { spec.limit_of (map string_bytes words.now) ≡ None
         → (input.new ≡ input.old)
-        × UsageOf usage_line (O.held output.old) (O.held output.new) result }
+        × Finishes (O.held output.old) (O.held output.new) (O.faults output.old)
+        (O.faults output.new) usage_line Exit.Usage result }
 
-    // With a limit each answer has its meaning for the bytes that the source had left.
-    ensures answer { (limit : ℕ) (text : List ℕ)
-        → spec.limit_of (map string_bytes words.now) ≡ Some limit → I.left input.old ≡ Some text
-        → AnswersBy travel.Chunked H.digest_of (IsDone H.digest_of limit) text (I.left input.new)
-        (O.held output.old) (O.held output.new) result }
-
-    // Whether or not the source tells its bytes: the usage is the answer to other words alone.
-    ensures usage_only { result ≡ Exit.Usage → spec.limit_of (map string_bytes words.now) ≡ None }
-
-    // Whether or not the source tells its bytes: done is told with what some text's run gives,
-    // whose text was written.
-    ensures run { (limit : ℕ) → spec.limit_of (map string_bytes words.now) ≡ Some limit
-        → HasRun (IsDone H.digest_of limit) (O.held output.old) (O.held output.new) result }
+    // With a limit each answer is that of the bytes that were read, and the text that is due for it
+    // was written.
+    ensures answer { (limit : ℕ) → spec.limit_of (map string_bytes words.now) ≡ Some limit
+        → AnswersSource (TellsRun travel.Chunked H.digest_of (IsDone H.digest_of limit))
+        (I.left input.old) (I.left input.new) (O.held output.old) (O.held output.new) result }
 
     // A fault is told only where the source or the sink has failed in this call.
-    ensures fault { HasFault (I.faults input.old) (I.faults input.new)
-        (O.faults output.old) (O.faults output.new) result }
-
-    // Where the source failed, or memory is short, nothing is written, whether or not the source
-    // tells its bytes.
-    ensures silent { IsSilent (O.held output.old) (O.held output.new) result }
+    ensures read_fault { result ≡ Exit.ReadFault
+        → Rose (I.faults input.old) (I.faults input.new) }
+    ensures write_fault { result ≡ Exit.WriteFault
+        → Rose (O.faults output.old) (O.faults output.new) }
 {
     let Some(limit) = limit_of(words) else {
-        return end_usage(output, USAGE);
+        return finish(output, USAGE, Exit::Usage);
     };
     let made = made_of_source::<H, R, I, S>(rt, alloc, limit, input, strategy);
     end_made(alloc, output, made)

@@ -1,20 +1,24 @@
 //! The program: from the bytes of a script to the line of what is shown.
 
-ghost use Rattle.std.specs.Prelude.{◌≡◌, List, ℕ, None, Some, IfOk, map, string_bytes};
+ghost use Rattle.std.specs.Prelude.{◌≡◌, ℕ, None, Some, IfOk, map, string_bytes};
+ghost use Rattle.cw_base.specs.Causes.{Rose};
 ghost use Rattle.cw_rules.specs.declared.travel.Travel.TheVariants as travel;
-ghost use Rattle.hail_report.specs.Exits.{HasFault, HasRun, IsSilent, UsageOf};
-ghost use Rattle.hail_world.specs.Programs.{AnswersBy, IsMade};
+ghost use Rattle.hail_report.specs.Answers.{AnswersSource};
+ghost use Rattle.hail_report.specs.Exits.{Finishes, IfDone};
+ghost use Rattle.hail_world.specs.Headline.{TellsRun};
+ghost use Rattle.hail_world.specs.OneChain.{IsOneChain};
+ghost use Rattle.hail_world.specs.Programs.{IsMade};
 ghost use Rattle.hail_world.specs.Reports.{IsRun};
-ghost use Rattle.run_light.specs.Telling.{IsToldRun, asked_height, TellsOf, usage_line};
+ghost use Rattle.run_light.specs.Telling.{IsToldRun, TellsOf, asked_height, usage_line};
 
 use crate::search::found_in;
 use crate::table::Table;
 use crate::text::{none_text, yes_text};
 use crate::told::told_of;
 use cw_base::{Digest32, Hasher, NoMemory, Sink, Source, Strategy};
-use hail_report::{Early, Exit};
+use hail_report::{Early, Exit, finish};
 use hail_script::{Script, number_of, script_laws};
-use hail_world::{Made, Ran, Report, end_made, end_usage, run_source};
+use hail_world::{Made, Ran, Report, end_made, run_source};
 use node::Chunked;
 use std::alloc::Global;
 use std::thread::Threads;
@@ -42,35 +46,29 @@ pub fn light_program<
     output: &mut O,
     strategy: &S,
 ) -> Exit<Report<H, Chunked>>
+    // All that the report's honest members hand out lies on one chain.
+    ensures one_chain { IfDone result (λ report. IsOneChain H.digest_of report) }
+
     // With other words nothing is read, and the usage is written.
     ensures usage { asked_height (map string_bytes words.now) ≡ None
         → (input.new ≡ input.old)
-        × UsageOf usage_line (O.held output.old) (O.held output.new) result }
+        × Finishes (O.held output.old) (O.held output.new) (O.faults output.old)
+        (O.faults output.new) usage_line Exit.Usage result }
 
-    // With a height each answer has its meaning for the bytes that the source had left.
-    ensures answer { (text : List ℕ) (height : ℕ)
-        → asked_height (map string_bytes words.now) ≡ Some height → I.left input.old ≡ Some text
-        → AnswersBy travel.Chunked H.digest_of (IsToldRun H.digest_of height) text
-        (I.left input.new) (O.held output.old) (O.held output.new) result }
-
-    // Whether or not the source tells its bytes: the usage is the answer to other words alone.
-    ensures usage_only { result ≡ Exit.Usage → asked_height (map string_bytes words.now) ≡ None }
-
-    // Whether or not the source tells its bytes: done is told with the report of some text's run,
-    // whose line was written.
-    ensures run { (height : ℕ) → asked_height (map string_bytes words.now) ≡ Some height
-        → HasRun (IsToldRun H.digest_of height) (O.held output.old) (O.held output.new) result }
+    // With a height each answer is that of the bytes that were read, and the text that is due for
+    // it was written.
+    ensures answer { (height : ℕ) → asked_height (map string_bytes words.now) ≡ Some height
+        → AnswersSource (TellsRun travel.Chunked H.digest_of (IsToldRun H.digest_of height))
+        (I.left input.old) (I.left input.new) (O.held output.old) (O.held output.new) result }
 
     // A fault is told only where the source or the sink has failed in this call.
-    ensures fault { HasFault (I.faults input.old) (I.faults input.new)
-        (O.faults output.old) (O.faults output.new) result }
-
-    // Where the source failed, or memory is short, nothing is written, whether or not the source
-    // tells its bytes.
-    ensures silent { IsSilent (O.held output.old) (O.held output.new) result }
+    ensures read_fault { result ≡ Exit.ReadFault
+        → Rose (I.faults input.old) (I.faults input.new) }
+    ensures write_fault { result ≡ Exit.WriteFault
+        → Rose (O.faults output.old) (O.faults output.new) }
 {
     let Some(height) = height_of(words) else {
-        return end_usage(output, USAGE);
+        return finish(output, USAGE, Exit::Usage);
     };
     let made = made_of_source::<H, R, I, S>(rt, alloc, height, input, strategy);
     end_made(alloc, output, made)

@@ -1,16 +1,19 @@
 //! The program: from the bytes that come in to the bytes that go out.
 
-ghost use Rattle.std.specs.Prelude.{◌≡◌, ◌≢◌, [], List, ℕ, Some};
+ghost use Rattle.std.specs.Prelude.{◌≡◌, ◌≢◌, []};
+ghost use Rattle.cw_base.specs.Causes.{Rose};
 ghost use Rattle.cw_rules.specs.declared.travel.Travel.TheVariants as travel;
-ghost use Rattle.hail_report.specs.Exits.{HasFault, HasRun, IsSilent, UsageOf};
+ghost use Rattle.hail_report.specs.Answers.{AnswersSource};
+ghost use Rattle.hail_report.specs.Exits.{Finishes, IfDone};
 ghost use Rattle.hail_report.specs.Text.{report_text};
-ghost use Rattle.hail_world.specs.Headline.{IsRunOf, Means};
+ghost use Rattle.hail_world.specs.Headline.{TellsReport};
+ghost use Rattle.hail_world.specs.OneChain.{IsOneChain};
 ghost use Rattle.whole_world.specs.Usage.{whole_usage_line};
 
 use crate::run::Report;
 use cw_base::{Digest32, Hasher, Sink, Source, Strategy};
-use hail_report::Exit;
-use hail_world::{end_usage, run_input};
+use hail_report::{Exit, finish};
+use hail_world::run_input;
 use node::Uncut;
 use std::alloc::Global;
 use std::thread::Threads;
@@ -34,35 +37,29 @@ pub fn whole_program<
     output: &mut O,
     strategy: &S,
 ) -> Exit<Report<H>>
+    // All that the report's honest members hand out lies on one chain.
+    ensures one_chain { IfDone result (λ report. IsOneChain H.digest_of report) }
+
     // With words nothing is read, and the usage is written.
     ensures usage { words.now ≢ []
         → (input.new ≡ input.old)
-        × UsageOf whole_usage_line (O.held output.old) (O.held output.new) result }
+        × Finishes (O.held output.old) (O.held output.new) (O.faults output.old)
+        (O.faults output.new) whole_usage_line Exit.Usage result }
 
-    // Without words each answer has its meaning for the bytes that the source had left.
-    ensures answer { (text : List ℕ) → words.now ≡ [] → I.left input.old ≡ Some text
-        → Means travel.Uncut H.digest_of text (I.left input.new) (O.held output.old)
-        (O.held output.new) result }
-
-    // Whether or not the source tells its bytes: the usage is the answer to words alone.
-    ensures usage_only { result ≡ Exit.Usage → words.now ≢ [] }
-
-    // Whether or not the source tells its bytes: done is told with the report of some text's run,
-    // whose text was written.
-    ensures run { words.now ≡ []
-        → HasRun (IsRunOf travel.Uncut (report_text H.digest_of) H.digest_of)
-        (O.held output.old) (O.held output.new) result }
+    // Without words each answer is that of the bytes that were read, and the text that is due for
+    // it was written.
+    ensures answer { words.now ≡ []
+        → AnswersSource (TellsReport travel.Uncut H.digest_of (report_text H.digest_of))
+        (I.left input.old) (I.left input.new) (O.held output.old) (O.held output.new) result }
 
     // A fault is told only where the source or the sink has failed in this call.
-    ensures fault { HasFault (I.faults input.old) (I.faults input.new) (O.faults output.old)
-        (O.faults output.new) result }
-
-    // Where the source failed, or memory is short, nothing is written, whether or not the source
-    // tells its bytes.
-    ensures silent { IsSilent (O.held output.old) (O.held output.new) result }
+    ensures read_fault { result ≡ Exit.ReadFault
+        → Rose (I.faults input.old) (I.faults input.new) }
+    ensures write_fault { result ≡ Exit.WriteFault
+        → Rose (O.faults output.old) (O.faults output.new) }
 {
     if !words.is_empty() {
-        return end_usage(output, USAGE);
+        return finish(output, USAGE, Exit::Usage);
     }
     run_input::<H, Uncut, R, I, O, S>(rt, alloc, input, output, strategy)
 }

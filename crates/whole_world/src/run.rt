@@ -2,6 +2,7 @@
 
 ghost use Rattle.std.specs.Prelude.{IfOk, IfErr};
 ghost use Rattle.cw_rules.specs.declared.travel.Travel.TheVariants as travel;
+ghost use Rattle.hail_world.specs.OneChain.{IsOneChain};
 ghost use Rattle.hail_world.specs.Reports.{IsCause, IsReport};
 
 use cw_base::{Digest32, Hasher, Strategy};
@@ -30,6 +31,10 @@ pub fn whole_run<H: Hasher<Digest = Digest32>, R: Threads + Sync, S: Strategy>(
     script: &[u8],
     strategy: &S,
 ) -> Result<Report<H>, RunError>
+    // All that its honest members hand out lies on one chain.
+    ensures one_chain { IfOk result (λ report. IsOneChain H.digest_of report) }
+
+    // This is the report of the script's run.
     ensures ok { IfOk result (λ report. IsReport travel.Uncut H.digest_of script.now report) }
     ensures err { IfErr result (λ e. IsCause travel.Uncut H.digest_of script.now e) }
 {

@@ -1,13 +1,23 @@
-use Rattle.hail_world.proofs.Framing.{made_answers, made_run}
+use Rattle.cw_rules.specs.declared.travel.Travel.TheVariants as travel
+use Rattle.hail_picture.specs.Drawing.{IsDrawn}
+use Rattle.hail_world.specs.OneChain.{IsOneChain}
+use Rattle.hail_world.proofs.Framing.{made_answers, made_read, made_write, source_done}
+use Rattle.hail_world.proofs.OneChain.{report_one_chain}
 use Rattle.hail_picture.proofs.program.picture_program.Goals as goal
 
 pub returns-clause-answer : goal.returns-clause-answer
-returns-clause-answer g c = λ text none left.
-    made_answers c.made_of_source-made.ensures c.end_made.ensures.ends text left
+returns-clause-answer g c = λ none. made_answers c.made_of_source-made.ensures c.end_made.ensures
 
-pub returns-clause-run : goal.returns-clause-run
-returns-clause-run g c = λ none. made_run c.made_of_source-made.ensures c.end_made.ensures.ends
+pub returns-clause-one_chain : goal.returns-clause-one_chain
+returns-clause-one_chain g c =
+    source_done travel.Chunked g.H.Hasher.digest_of
+    (IsDrawn g.H.Hasher.digest_of)
+    (λ report. IsOneChain g.H.Hasher.digest_of report)
+    (λ text report due is. report_one_chain travel.Chunked g.H.Hasher.digest_of text report is.reported)
+    (made_answers c.made_of_source-made.ensures c.end_made.ensures)
 
-pub returns-then-not-is_empty-clause-fault : goal.returns-then-not-is_empty-clause-fault
-returns-then-not-is_empty-clause-fault g c =
-    c.end_usage.ensures.fault (g.I.Source.faults c.args.input.now)
+pub returns-clause-read_fault : goal.returns-clause-read_fault
+returns-clause-read_fault g c = made_read c.made_of_source-made.ensures c.end_made.ensures
+
+pub returns-clause-write_fault : goal.returns-clause-write_fault
+returns-clause-write_fault g c = made_write c.end_made.ensures

@@ -6,6 +6,7 @@ use Rattle.hail_world.specs.Reports.{IsRun}
 use Rattle.hail_world.proofs.Known.{few_members}
 use Rattle.hail_world.proofs.Refusals.{refused}
 use Rattle.hail_world.proofs.Reporting.{caused, reported}
+use Rattle.hail_world.proofs.OneChain.{report_one_chain}
 use Rattle.hail_world.proofs.world.run_text.Goals as goal
 
 pub returns-in-Err-clause-err : goal.returns-in-Err-clause-err
@@ -33,6 +34,7 @@ returns-in-Ok-run_script-clause-report g c =
     omega (arith, c.backlog-backlog.ensures.bound, c.backlog-backlog.ensures.value) in
     reported g.W.Way.travel hash c.args.text.now s c.in-Ok-run_script.ran.report
     (rw c.travel.ensures at c.in-Ok.ensures.ok) h
+    (c.is_cluster.ensures (script_rules hash s) refl)
     (c.report_laws.ensures (script_rules hash s) s.lines h.world
     (c.is_cluster.ensures (script_rules hash s) refl) some h.ends)
 
@@ -51,3 +53,17 @@ returns-in-Err-run_script-clause-err g c =
     (c.is_cluster.ensures r refl)
     (c.script_laws.ensures.fits g.W.Way.travel c.args.text.now s spells))
     c.in-Err-run_script.ensures.err
+
+pub returns-in-Ok-run_script-clause-one_chain : goal.returns-in-Ok-run_script-clause-one_chain
+returns-in-Ok-run_script-clause-one_chain g c =
+    let hash = g.H.Hasher.digest_of in
+    let s = c.in-Ok.script in
+    let h = c.in-Ok-run_script.ensures.ok in
+    let some : 0 < (script_rules hash s).backlog =
+    omega (arith, c.backlog-backlog.ensures.bound, c.backlog-backlog.ensures.value) in
+    report_one_chain g.W.Way.travel hash c.args.text.now c.in-Ok-run_script.ran.report
+    (reported g.W.Way.travel hash c.args.text.now s c.in-Ok-run_script.ran.report
+    (rw c.travel.ensures at c.in-Ok.ensures.ok) h
+    (c.is_cluster.ensures (script_rules hash s) refl)
+    (c.report_laws.ensures (script_rules hash s) s.lines h.world
+    (c.is_cluster.ensures (script_rules hash s) refl) some h.ends))

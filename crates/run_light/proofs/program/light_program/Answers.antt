@@ -1,17 +1,27 @@
 use Rattle.std.proofs.Common.{◌∙◌}
 use Rattle.std.proofs.lemmas.Option.{same_Some}
-use Rattle.hail_world.proofs.Framing.{made_answers, made_run}
+use Rattle.cw_rules.specs.declared.travel.Travel.TheVariants as travel
+use Rattle.run_light.specs.Telling.{IsToldRun}
+use Rattle.hail_world.specs.OneChain.{IsOneChain}
+use Rattle.hail_world.proofs.Framing.{made_answers, made_read, made_write, source_done}
+use Rattle.hail_world.proofs.OneChain.{report_one_chain}
 use Rattle.run_light.proofs.program.light_program.Goals as goal
 
 pub returns-clause-answer : goal.returns-clause-answer
-returns-clause-answer g c = λ text height asked left.
+returns-clause-answer g c = λ height asked.
     rw (same_Some c.in-Some.height height (c.in-Some.ensures ∙ asked)) at
-    (made_answers c.made_of_source-made.ensures c.end_made.ensures.ends text left)
+    (made_answers c.made_of_source-made.ensures c.end_made.ensures)
 
-pub returns-clause-run : goal.returns-clause-run
-returns-clause-run g c = λ height asked.
-    rw (same_Some c.in-Some.height height (c.in-Some.ensures ∙ asked)) at
-    (made_run c.made_of_source-made.ensures c.end_made.ensures.ends)
+pub returns-clause-one_chain : goal.returns-clause-one_chain
+returns-clause-one_chain g c =
+    source_done travel.Chunked g.H.Hasher.digest_of
+    (IsToldRun g.H.Hasher.digest_of c.in-Some.height)
+    (λ report. IsOneChain g.H.Hasher.digest_of report)
+    (λ text report due is. report_one_chain travel.Chunked g.H.Hasher.digest_of text report is.reported)
+    (made_answers c.made_of_source-made.ensures c.end_made.ensures)
 
-pub returns-in_default-clause-fault : goal.returns-in_default-clause-fault
-returns-in_default-clause-fault g c = c.end_usage.ensures.fault (g.I.Source.faults c.args.input.now)
+pub returns-clause-read_fault : goal.returns-clause-read_fault
+returns-clause-read_fault g c = made_read c.made_of_source-made.ensures c.end_made.ensures
+
+pub returns-clause-write_fault : goal.returns-clause-write_fault
+returns-clause-write_fault g c = made_write c.end_made.ensures
