@@ -62,31 +62,30 @@ fn gives<R: Threads + Sync>(
     Ok(archive.get(rt, alloc, commitment, &Sequential)? == Some(block))
 }
 
-// what an archive of that limit answers to the last of them, the bytes and the chunks that it has
-// then, and whether it gives the block
-fn filled<R: Threads + Sync>(
-    rt: &R,
-    alloc: Global,
-    limit: u64,
-) -> Result<(Option<Put>, u64, usize, bool), Fail> {
+// what an archive of that limit answers to each of them, the bytes and the chunks that it has then,
+// and whether it gives the block
+fn filled<R: Threads + Sync>(rt: &R, alloc: Global, limit: u64) -> Result<String, Fail> {
     let (commitment, chunks) = cut(rt, alloc)?;
     let mut archive = Archive::<Sha256>::new(alloc, limit)?;
     let answers = put_all(rt, alloc, &mut archive, &commitment, &chunks)?;
     let found = gives(rt, alloc, &archive, &commitment)?;
-    let last = answers.last().copied();
-    Ok((last, archive.used(), archive.count(&commitment), found))
+    let (used, count) = (archive.used(), archive.count(&commitment));
+    Ok(format!(in alloc; "{answers:?} {used} {count} {found}")?)
 }
 
 #[test]
 fn the_oldest_leave(rt: HostRuntime) -> Result<(), Fail> {
-    for (limit, last, used, count, found) in [
-        (87, Put::TooLarge, 0, 0, false),
-        (100, Put::Kept, 88, 1, false),
-        (200, Put::Kept, 176, 2, true),
-        (1000, Put::Known, 352, 4, true),
+    for (limit, want) in [
+        (
+            87,
+            "[TooLarge, TooLarge, TooLarge, TooLarge, TooLarge] 0 0 false",
+        ),
+        (100, "[Kept, Kept, Kept, Kept, Kept] 88 1 false"),
+        (200, "[Kept, Kept, Kept, Kept, Kept] 176 2 true"),
+        (1000, "[Kept, Kept, Kept, Kept, Known] 352 4 true"),
     ] {
         let said = filled(&rt, rt.alloc(), limit)?;
-        assert_eq!(rt; said, (Some(last), used, count, found), "limit {limit}");
+        assert_eq!(rt; said.as_str(), want, "limit {limit}");
     }
     Ok(())
 }

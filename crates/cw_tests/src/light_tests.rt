@@ -1,10 +1,11 @@
-//! A finalization of the block "hi" of height 1 among four members, and paths down from it.
+//! Tests of the light client's check: a finalization among four members, paths down from it, and
+//! what is told of each.
 
 use cw_base::{Digest32, Hasher, Items, Sequential, Sha256};
 use cw_light::{Answer, light_check};
 use cw_types::{
-    Cert, ChainBlock, Committees, Context, Payload, Proposal, Verifier, Vote, commit, genesis,
-    genesis_commitment,
+    Cert, ChainBlock, Commitment, Committees, Context, Payload, Proposal, Verifier, Vote, commit,
+    genesis, genesis_commitment,
 };
 use std::alloc::Global;
 use std::test::Fail;
@@ -27,52 +28,95 @@ fn first(alloc: Global) -> ChainBlock {
     genesis::<Sha256>(alloc)
 }
 
-// The block that member 1 proposes in view 1.
-fn second(alloc: Global) -> Result<ChainBlock, Fail> {
-    let parent = genesis_commitment::<Sha256>();
+// A block over another, in the view of its height and proposed by its leader.
+fn over(
+    alloc: Global,
+    height: u64,
+    below: &Commitment,
+    payload: &[u8],
+) -> Result<ChainBlock, Fail> {
     let context = Context {
         epoch: 0,
-        view: 1,
-        leader: 1,
-        parent_view: 0,
-        parent,
+        view: height,
+        leader: (height % 4) as u16,
+        parent_view: height.saturating_sub(1),
+        parent: *below,
     };
-    match Payload::new(Vec::from_slice(alloc, b"hi")?) {
-        Ok(payload) => Ok(ChainBlock::new(context, parent.block, 1, payload)),
-        Err(_) => Err("a short payload".into()),
+    match Payload::new(Vec::from_slice(alloc, payload)?) {
+        Ok(payload) if height < u64::MAX => {
+            Ok(ChainBlock::new(context, below.block, height, payload))
+        }
+        _ => Err("a low block of a short payload".into()),
     }
 }
 
-// What is told about a certificate of these signers, and the blocks that are named, by height.
-fn told<R: Threads + Sync>(
+fn second(alloc: Global) -> Result<ChainBlock, Fail> {
+    over(alloc, 1, &genesis_commitment::<Sha256>(), b"hi")
+}
+
+// What names a block.
+fn named<R: Threads + Sync>(rt: &R, alloc: Global, block: &ChainBlock) -> Result<Commitment, Fail> {
+    Ok(commit::<Sha256, R, _>(rt, alloc, 4, block, &Sequential)?)
+}
+
+// The block that is told of: by its height the first, the second or the third, and in tens another
+// of that height.
+fn block_of<R: Threads + Sync>(rt: &R, alloc: Global, place: u8) -> Result<ChainBlock, Fail> {
+    match place {
+        0 => Ok(first(alloc)),
+        1 => second(alloc),
+        2 => over(alloc, 2, &named(rt, alloc, &second(alloc)?)?, b"hi"),
+        10 => over(alloc, 0, &genesis_commitment::<Sha256>(), b"hi"),
+        11 => over(alloc, 1, &genesis_commitment::<Sha256>(), b"ho"),
+        _ => Err("a block of the tests".into()),
+    }
+}
+
+// The blocks of a path.
+fn path_of<R: Threads + Sync>(
+    rt: &R,
+    alloc: Global,
+    places: &[u8],
+) -> Result<Vec<ChainBlock>, Fail> {
+    let mut path = Vec::new(alloc);
+    for place in places {
+        path.push(block_of(rt, alloc, *place)?)?;
+    }
+    Ok(path)
+}
+
+// A vote for the block of that height.
+fn vote_for<R: Threads + Sync>(
     rt: &R,
     alloc: Global,
     is_final: bool,
-    signers: &[u16],
-    heights: &[u8],
-) -> Result<Answer, Fail> {
-    let committees = Committees::single(alloc, 4)?;
-    let payload = commit::<Sha256, R, _>(rt, alloc, 4, &second(alloc)?, &Sequential)?;
+    height: u8,
+) -> Result<Vote, Fail> {
+    let view = u64::from(height);
     let proposal = Proposal {
         epoch: 0,
-        view: 1,
-        parent: 0,
-        payload,
+        view,
+        parent: view.saturating_sub(1),
+        payload: named(rt, alloc, &block_of(rt, alloc, height)?)?,
     };
-    let vote = if is_final {
-        Vote::Finalize(proposal)
+    if is_final {
+        Ok(Vote::Finalize(proposal))
     } else {
-        Vote::Notarize(proposal)
-    };
-    let signers = Items::from_vec(Vec::from_slice(alloc, signers)?);
-    let mut path = Vec::new(alloc);
-    for height in heights {
-        path.push(if *height == 0 {
-            first(alloc)
-        } else {
-            second(alloc)?
-        })?;
+        Ok(Vote::Notarize(proposal))
     }
+}
+
+// What is told about a certificate of these signers, and a path of these blocks.
+fn told<R: Threads + Sync>(
+    rt: &R,
+    alloc: Global,
+    vote: Vote,
+    signers: &[u16],
+    places: &[u8],
+) -> Result<Answer, Fail> {
+    let committees = Committees::single(alloc, 4)?;
+    let signers = Items::from_vec(Vec::from_slice(alloc, signers)?);
+    let path = path_of(rt, alloc, places)?;
     let cert = Cert { vote, signers };
     Ok(light_check::<Sha256, R, _, _>(rt, alloc, &committees, &cert, &path, &LowSign, &Sequential)?)
 }
@@ -120,7 +164,34 @@ fn each_answer_is_told(rt: HostRuntime) -> Result<(), Fail> {
         ),
         (true, all, &[1, 0, 0], Answer::Broken(2)),
     ] {
-        assert!(rt; told(&rt, alloc, is_final, signers, heights)? == want);
+        let vote = vote_for(&rt, alloc, is_final, 1)?;
+        assert!(rt; told(&rt, alloc, vote, signers, heights)? == want);
     }
     Ok(())
+}
+
+// A finalization of the third block, and paths in which a block of the right height isn't the
+// parent that the one above it names.
+#[test]
+fn a_path_goes_from_parent_to_parent(rt: HostRuntime) -> Result<(), Fail> {
+    let alloc = rt.alloc();
+    for (places, want) in [
+        ([2, 1, 0].as_slice(), None),
+        (&[2, 11], Some(1)),
+        (&[2, 1, 10], Some(2)),
+        (&[2, 0], Some(1)),
+        (&[11], Some(0)),
+    ] {
+        let vote = vote_for(&rt, alloc, true, 2)?;
+        assert_eq!(rt; broken(told(&rt, alloc, vote, &[0, 1, 2], places)?), want);
+    }
+    Ok(())
+}
+
+// The place where a path is told to be broken.
+fn broken(answer: Answer) -> Option<u64> {
+    match answer {
+        Answer::Broken(place) => Some(place),
+        _ => None,
+    }
 }

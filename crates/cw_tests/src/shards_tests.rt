@@ -1,3 +1,5 @@
+//! Tests of chunks that come: which are kept, which hold their block, and what shows none.
+
 ghost use Rattle.std.specs.Prelude.{◌≡◌, IfOk, length};
 
 use bytes::Bytes;

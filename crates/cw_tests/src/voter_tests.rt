@@ -1,3 +1,5 @@
+//! Tests of a tally: what a member owes, what is settled, and over what it proposes.
+
 ghost use Rattle.std.specs.Prelude.{◌≡◌, ◌<◌, ◌-◌, ◌^◌, IfOk, IsTrue, OnOk};
 ghost use Rattle.cw_types.specs.Epochs.{single};
 ghost use Rattle.cw_types.specs.declared.vote.Vote.TheVariants.{Nullify};
