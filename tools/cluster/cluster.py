@@ -1,7 +1,9 @@
 #!/usr/bin/env python3
 """Runs hosts of members on this machine, gives them payloads, kills some by SIGKILL and starts
-them again, and looks whether what they handed out is one chain. Only loopback is used, and it ends
-by itself.
+them again, and looks whether what they handed out is one chain. Behind the run all have a minute to
+come to the same, without kills and losses. Then it tells of each member its height (top), its
+epoch, view and leader (place), its lines and syncs, and what it refused. It ends with 0 only where
+there is one chain, which has all payloads. Only loopback is used, and it ends by itself.
 HAIL_MEMBER is another command of a member's program than the built one (docs/HOSTING.md)."""
 import argparse
 import os
@@ -218,15 +220,13 @@ class Run:
 
 
 def tell(run: Run) -> bool:
-    """Tells what came of a run, and whether it is one chain."""
+    """Tells what came of a run, whether it is one chain, and whether it has all payloads."""
     cluster, kept = run.cluster, run.cluster.kept()
-    lost = chain.missing(kept, run.client.given)
+    late = chain.missing(kept, run.client.given)
     found = chain.faults(kept)
-    if lost:
-        found.append("%d payloads were lost" % len(lost))
-    print("%.0f s, %d starts, %d killed; heights %s; %d payloads given, %d lost, %d twice" % (
+    print("%.0f s, %d starts, %d killed; heights %s; %d payloads given, %d not yet, %d twice" % (
         run.seconds(), cluster.starts, cluster.kills, cluster.tops(), len(run.client.given),
-        len(lost), chain.repeated(kept[0])))
+        len(late), chain.repeated(kept[0])))
     for one in kept:
         told = one.figures
         print("member %d: %s" % (one.member, " ".join(
@@ -235,13 +235,16 @@ def tell(run: Run) -> bool:
     for fault in found:
         print("FAULT " + fault)
     print("one chain" if not found else "NOT one chain")
-    return not found
+    if late:
+        print("SLOW: %d payloads weren't handed out within a minute behind the run" % len(late))
+    return not found and not late
 
 
 def read_words() -> argparse.Namespace:
-    words = argparse.ArgumentParser(description=__doc__)
+    words = argparse.ArgumentParser(
+        description=__doc__, formatter_class=argparse.ArgumentDefaultsHelpFormatter)
     add = words.add_argument
-    add("--members", type=int, default=4)
+    add("--members", type=int, default=4, help="4 to %d" % MOST_MEMBERS)
     add("--seconds", type=float, default=20, help="at most 600")
     add("--until", type=int, help="ends at this height of all")
     add("--rate", type=float, default=5, help="payloads a second")
@@ -251,16 +254,16 @@ def read_words() -> argparse.Namespace:
     add("--loss", type=float, default=0, help="chance that a packet is lost")
     add("--repeat", type=float, default=0, help="chance that it is sent twice")
     add("--delay", type=float, default=0, help="up to so many seconds")
-    add("--faulty", type=int, help="this member's host is faulty.py")
+    add("--faulty", type=int, help="the member whose host is faulty.py")
     add("--span", type=int, default=0, help="heights of an epoch; 0 is one without end")
-    add("--backlog", type=int, default=8)
-    add("--timeout", type=float, default=1.0, help="of a view, in seconds")
+    add("--backlog", type=int, default=8, help="blocks handed out and not acknowledged")
+    add("--timeout", type=float, default=1.0, help="of a view at first, in seconds")
     add("--whole", action="store_true", help="blocks travel whole")
     add("--alone", action="store_true", help="each answer has its own syncs")
     add("--gather", type=float, default=0.0, help="seconds for which lines wait for others")
-    add("--no-fsync", action="store_true")
+    add("--no-fsync", action="store_true", help="syncs are left out: no run to trust after a crash")
     add("--folder", help="where the hosts keep their files; else one that is removed")
-    add("--seed", type=int, default=1)
+    add("--seed", type=int, default=1, help="of what is killed, and when")
     return words.parse_args()
 
 

@@ -17,11 +17,11 @@ def program() -> str:
     """The command of a member's program."""
     if not is_given():
         raise SystemExit("no program of a member: `rt run` in crates/hail_member builds it")
-    return os.environ.get("HAIL_MEMBER", shlex.quote(BUILT))
+    return os.environ.get("HAIL_MEMBER") or shlex.quote(BUILT)
 
 
 def is_given() -> bool:
-    return "HAIL_MEMBER" in os.environ or os.path.exists(BUILT)
+    return bool(os.environ.get("HAIL_MEMBER")) or os.path.exists(BUILT)
 
 
 def model() -> str:
