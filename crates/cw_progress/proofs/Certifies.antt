@@ -284,7 +284,7 @@ module _ (r : Rules) (script : List Line) (w : World) (cluster : IsCluster r scr
 -- ---- what a step comes to
 
 -- a member that has a certificate to notarize a proposal, and a block that fits, has certified it
-step_certifies : (r : Rules) (id : ℕ) (sign : ℕ → Vote → Bool) (n : Member) (e : Event)
+pub step_certifies : (r : Rules) (id : ℕ) (sign : ℕ → Vote → Bool) (n : Member) (e : Event)
     (p : Proposal)
     → has_cert (member_notes (step r id sign n e).member) (Notarize p) ≡ true
     → block_fits r (member_notes (step r id sign n e).member) p ≡ true

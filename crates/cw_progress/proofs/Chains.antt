@@ -633,7 +633,7 @@ module _ (r : Rules) (script : List Line) (w : World) (cluster : IsCluster r scr
     final_lands differ = final_told differ (both_start differ)
 
     -- what is certified above goes over
-    chain_lands : (differ : i ≡ j → ⊥) (p : Proposal) → In (Note.Certified p) (member_notes m)
+    pub chain_lands : (differ : i ≡ j → ⊥) (p : Proposal) → In (Note.Certified p) (member_notes m)
         → p.epoch ≡ epoch → view < p.view → Lands differ (λ notes. has_certified notes p)
     chain_lands differ p said of above = by_start (starts differ (both_start differ))
       where

@@ -28,3 +28,7 @@ pub mod Rounds
 pub mod NewView
 pub mod Fresh
 pub mod Deliveries
+pub mod Settling
+pub mod SettlingVotes
+pub mod SettlingCertified
+pub mod SettlingFinal

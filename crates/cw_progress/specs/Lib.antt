@@ -5,4 +5,5 @@ pub mod Over
 pub mod Going
 pub mod Views
 pub mod Fresh
+pub mod Settling
 pub mod Scenes

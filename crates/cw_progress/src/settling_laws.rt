@@ -1,0 +1,38 @@
+//! Laws on the way from votes for a proposal to a block that each honest member knows to be final, in
+//! one epoch without end.
+
+ghost use Rattle.std.specs.Prelude.{IsTrue, List, None, Some, ℕ, ◌≡◌, ◌⊎◌};
+ghost use Rattle.cw_types.specs.declared.vote.Proposal.{Proposal};
+ghost use Rattle.cw_types.specs.Block.{Block};
+ghost use Rattle.cw_rules.specs.Fits.{block_fits};
+ghost use Rattle.cw_rules.specs.Reached.{IsCluster, ReachesClear};
+ghost use Rattle.cw_rules.specs.Rules.{Rules};
+ghost use Rattle.cw_rules.specs.Step.{Member, member_notes};
+ghost use Rattle.cw_rules.specs.World.{Line, World, member_at};
+ghost use Rattle.cw_progress.specs.Going.{helps};
+ghost use Rattle.cw_progress.specs.Over.{ComesToClash};
+ghost use Rattle.cw_progress.specs.Settling.{ComeToCertified, ComeToFinal, HasCertified, IsBacker};
+
+/// In one epoch without end, where each honest member of the epoch has voted for a proposal, none has
+/// voted to nullify its view, and one honest member holds a block that is one for it, all honest
+/// members come to certify it, by lines that help, however blocks travel. Then those of the epoch
+/// have voted to finalize it. Else a clash turns up.
+pub fn certify_law()
+    ensures { (r : Rules) (script : List Line) (w : World) → r.epochs.span ≡ None
+        → IsCluster r script → ReachesClear r script w → (payload : List ℕ)
+        → (p : Proposal) → p.epoch ≡ 0
+        → ((i : ℕ) (m : Member) → member_at w i ≡ Some m → IsBacker r w p i)
+        → (i : ℕ) (m : Member) → member_at w i ≡ Some m
+        → IsTrue (block_fits r (member_notes m) p)
+        → ComeToCertified r w (helps w payload) p ⊎ ComesToClash r w (helps w payload) }
+{}
+
+/// From there all honest members come to know the block to be final, by lines that help. Else a clash
+/// turns up.
+pub fn finalize_law()
+    ensures { (r : Rules) (script : List Line) (w : World) → r.epochs.span ≡ None
+        → IsCluster r script → ReachesClear r script w → (payload : List ℕ)
+        → (p : Proposal) (b : Block)
+        → ((i : ℕ) (m : Member) → member_at w i ≡ Some m → HasCertified r w p b i)
+        → ComeToFinal r w (helps w payload) p b ⊎ ComesToClash r w (helps w payload) }
+{}
