@@ -62,7 +62,7 @@ finalizing_note (Note.Floor x) p h = cc h
 finalizing_note (Note.Prune x) p h = cc h
 finalizing_note (Note.Epoch epoch c) p h = cc h
 
-final_noted : (notes : List Note) (p : Proposal) → In p (filter_map finalization_of notes)
+pub final_noted : (notes : List Note) (p : Proposal) → In p (filter_map finalization_of notes)
     → has_cert notes (Finalize p) ≡ true
 final_noted notes p h =
     let (n, at, e) = mapped_from finalization_of notes p h in

@@ -441,137 +441,132 @@ module _ (r : Rules) (none : r.epochs.span ≡ None) (payload : List ℕ) (p : P
 
       -- what is then so
       module _ (u : World) (way : Way r w payload (IsThat (Notarize p)) u)
-          (done : AreCertified (numbers w) u) where
-        rests : IsCluster r way.path.script
-        rests = way.path.cluster
+          (done : AreCertified (numbers w) u) (fitted : Fitting r (member_notes m) p)
+        where
+          certifies_it : (k : ℕ) (y : Member) → member_at u k ≡ Some y
+              → has_certified (member_notes y) p ≡ true
+          certifies_it k y there =
+              let (x, before) = way.back k y there in done k (numbered w k x before) y there
 
-        certifies_it : (k : ℕ) (y : Member) → member_at u k ≡ Some y
-            → has_certified (member_notes y) p ≡ true
-        certifies_it k y there =
-            let (x, before) = way.back k y there in done k (numbered w k x before) y there
+          unclosed : (k : ℕ) (y : Member) → member_at u k ≡ Some y
+              → has_vote (member_notes y) (Nullify p.epoch p.view) ≡ true → ⊥
+          unclosed k y there h = by_source (way.votes k y there (Nullify p.epoch p.view) h)
+            where
+              by_source : HasVote w (Nullify p.epoch p.view)
+                  ⊎ (IsFinal (Nullify p.epoch p.view)
+                  ⊎ IsThat (Notarize p) (Nullify p.epoch p.view))
+                  → ⊥
+              by_source (inr (inl f)) = f
+              by_source (inr (inr e)) = cc e
+              by_source (inl s) =
+                  let b = each s.number s.member s.there in
+                  false≢true
+                  (sym b.unclosed
+                  ∙ subst (λ (q : Member). has_vote (member_notes q) (Nullify 0 p.view) ≡ true)
+                  (same_Some s.member b.in_view.member (sym s.there ∙ b.in_view.there))
+                  (subst (λ e. has_vote (member_notes s.member) (Nullify e p.view) ≡ true) first
+                  s.voted))
 
-        unclosed : (k : ℕ) (y : Member) → member_at u k ≡ Some y
-            → has_vote (member_notes y) (Nullify p.epoch p.view) ≡ true → ⊥
-        unclosed k y there h = by_source (way.votes k y there (Nullify p.epoch p.view) h)
-          where
-            by_source : HasVote w (Nullify p.epoch p.view)
-                ⊎ (IsFinal (Nullify p.epoch p.view)
-                ⊎ IsThat (Notarize p) (Nullify p.epoch p.view))
-                → ⊥
-            by_source (inr (inl f)) = f
-            by_source (inr (inr e)) = cc e
-            by_source (inl s) =
-                let b = each s.number s.member s.there in
-                false≢true
-                (sym b.unclosed
-                ∙ subst (λ (q : Member). has_vote (member_notes q) (Nullify 0 p.view) ≡ true)
-                (same_Some s.member b.in_view.member (sym s.there ∙ b.in_view.there))
-                (subst (λ e. has_vote (member_notes s.member) (Nullify e p.view) ≡ true) first
-                s.voted))
+          votes_it : (k : ℕ) (y : Member) → member_at u k ≡ Some y
+              → is_member r.epochs p.epoch k ≡ true
+              → has_vote (member_notes y) (Finalize p) ≡ true
+          votes_it k y there is =
+              has_voted_for_it r way.path.script u way.path.cluster way.path.clear k y there p
+              (certifies_it k y there) is (unclosed k y there)
 
-        votes_it : (k : ℕ) (y : Member) → member_at u k ≡ Some y
-            → is_member r.epochs p.epoch k ≡ true
-            → has_vote (member_notes y) (Finalize p) ≡ true
-        votes_it k y there is =
-            has_voted_for_it r way.path.script u way.path.cluster way.path.clear k y there p
-            (certifies_it k y there) is (unclosed k y there)
+          stands_final : Stands r.epochs (members_of u) (Finalize p)
+          stands_final =
+              all_stands r way.path.script u way.path.cluster way.path.clear (Finalize p) votes_it
 
-        stands_final : Stands r.epochs (members_of u) (Finalize p)
-        stands_final =
-            all_stands r way.path.script u way.path.cluster way.path.clear (Finalize p) votes_it
+          under : block_under r u p.payload ≡ Some fitted.block
+          under = by_kept (way.kept i m at)
+            where
+              by_kept : ((y : Member) × (member_at u i ≡ Some y)
+                  × Later (member_notes m) (member_notes y))
+                  → block_under r u p.payload ≡ Some fitted.block
+              by_kept (y, there, later) =
+                  held_is r way.path.script u way.path.cluster way.path.clear i y there
+                  (member_notes m) later.more later.joined p.payload fitted.block fitted.holds
 
-        fitted : Fitting r (member_notes m) p
-        fitted = fitting r (member_notes m) p holds
+          -- its block is above all that anybody knows to be final
+          higher : (k : ℕ) (y : Member) → member_at u k ≡ Some y
+              → final_top r (member_notes y) < fitted.block.height
+          higher k y there = go (cases_lt 0 (final_top r (member_notes y)))
+            where
+              go : (0 < final_top r (member_notes y)) ⊎ (final_top r (member_notes y) ≤ 0)
+                  → final_top r (member_notes y) < fitted.block.height
+              go (inr le) =
+                  omega (
+                    arith,
+                    le,
+                    fit_positive r cluster.spans p fitted.block fitted.over fitted.parent fitted.fit,
+                  )
+              go (inl pos) =
+                  let (q, c, inside, held_there, same) = top_at r (member_notes y) pos in
+                  let cert = final_noted (member_notes y) q inside in
+                  let final =
+                  cert_stands r none way.path.script u way.path.cluster way.path.clear k y there
+                  (Finalize q) cert in
+                  let of = final_first r none way.path.script u way.path.cluster way.path.clear q final
+                  in
+                  omega (
+                    arith,
+                    same,
+                    rises_more r way.path.script u way.path.cluster way.path.clear none q p final
+                        stands_final (of ∙ sym first)
+                        (final_before u way q
+                        (record { number = k; member = y; there = there; noted = cert }) of)
+                        c fitted.block
+                        (held_is r way.path.script u way.path.cluster way.path.clear k y there
+                        (member_notes y) [] (sym (append-nil (member_notes y))) q.payload c
+                        held_there)
+                        under,
+                  )
 
-        b : Block
-        b = fitted.block
+          holds_it : (k : ℕ) (y : Member) → member_at u k ≡ Some y
+              → held r (member_notes y) p.payload ≡ Some fitted.block
+          holds_it k y there =
+              let (c, noted, kept) =
+              certified_held r way.path.script u way.path.cluster
+              (clear_reaches r way.path.script u way.path.clear) k y there p
+              (certified_in_notes p (member_notes y) (certifies_it k y there)) in
+              let same : c ≡ fitted.block =
+              same_Some c fitted.block
+              (sym
+              (noted_is r way.path.script u way.path.cluster way.path.clear k y there p.payload c
+              noted)
+              ∙ under) in
+              let high = ap (λ (z : Block). z.height) same in
+              kept (omega (arith, high, higher k y there)) ∙ ap Some same
 
-        under : block_under r u p.payload ≡ Some b
-        under = by_kept (way.kept i m at)
-          where
-            by_kept : ((y : Member) × (member_at u i ≡ Some y)
-                × Later (member_notes m) (member_notes y))
-                → block_under r u p.payload ≡ Some b
-            by_kept (y, there, later) =
-                held_is r way.path.script u way.path.cluster way.path.clear i y there
-                (member_notes m) later.more later.joined p.payload b fitted.holds
+          -- so it was above what was known before
+          higher_before : (k : ℕ) (x : Member) → member_at w k ≡ Some x
+              → final_top r (member_notes x) < fitted.block.height
+          higher_before k x there = by_kept (way.kept k x there)
+            where
+              by_kept : ((y : Member) × (member_at u k ≡ Some y)
+                  × Later (member_notes x) (member_notes y))
+                  → final_top r (member_notes x) < fitted.block.height
+              by_kept (y, still, later) =
+                  omega (arith, higher k y still, top_grows r (member_notes x) (member_notes y) later)
 
-        -- its block is above all that anybody knows to be final
-        higher : (k : ℕ) (y : Member) → member_at u k ≡ Some y
-            → final_top r (member_notes y) < b.height
-        higher k y there = go (cases_lt 0 (final_top r (member_notes y)))
-          where
-            go : (0 < final_top r (member_notes y)) ⊎ (final_top r (member_notes y) ≤ 0)
-                → final_top r (member_notes y) < b.height
-            go (inr le) =
-                omega (
-                  arith,
-                  le,
-                  fit_positive r cluster.spans p b fitted.over fitted.parent fitted.fit,
-                )
-            go (inl pos) =
-                let (q, c, inside, held_there, same) = top_at r (member_notes y) pos in
-                let cert = final_noted (member_notes y) q inside in
-                let final =
-                cert_stands r none way.path.script u way.path.cluster way.path.clear k y there
-                (Finalize q) cert in
-                let of = final_first r none way.path.script u way.path.cluster way.path.clear q final
-                in
-                omega (
-                  arith,
-                  same,
-                  rises_more r way.path.script u way.path.cluster way.path.clear none q p final
-                      stands_final (of ∙ sym first)
-                      (final_before u way q
-                      (record { number = k; member = y; there = there; noted = cert }) of)
-                      c b
-                      (held_is r way.path.script u way.path.cluster way.path.clear k y there
-                      (member_notes y) [] (sym (append-nil (member_notes y))) q.payload c
-                      held_there)
-                      under,
-                )
-
-        holds_it : (k : ℕ) (y : Member) → member_at u k ≡ Some y
-            → held r (member_notes y) p.payload ≡ Some b
-        holds_it k y there =
-            let (c, noted, kept) =
-            certified_held r way.path.script u way.path.cluster
-            (clear_reaches r way.path.script u way.path.clear) k y there p
-            (certified_in_notes p (member_notes y) (certifies_it k y there)) in
-            let same : c ≡ b =
-            same_Some c b
-            (sym
-            (noted_is r way.path.script u way.path.cluster way.path.clear k y there p.payload c
-            noted)
-            ∙ under) in
-            let high = ap (λ (z : Block). z.height) same in
-            kept (omega (arith, high, higher k y there)) ∙ ap Some same
-
-        -- so it was above what was known before
-        higher_before : (k : ℕ) (x : Member) → member_at w k ≡ Some x
-            → final_top r (member_notes x) < b.height
-        higher_before k x there = by_kept (way.kept k x there)
-          where
-            by_kept : ((y : Member) × (member_at u k ≡ Some y)
-                × Later (member_notes x) (member_notes y))
-                → final_top r (member_notes x) < b.height
-            by_kept (y, still, later) =
-                omega (arith, higher k y still, top_grows r (member_notes x) (member_notes y) later)
-
-        has_cert_it : (k : ℕ) (y : Member) → member_at u k ≡ Some y
-            → has_cert (member_notes y) (Notarize p) ≡ true
-        has_cert_it k y there =
-            let c =
-            certifies r way.path.script u way.path.cluster way.path.clear k y there p
-            (certified_in_notes p (member_notes y) (certifies_it k y there)) in
-            subst (λ v. has_cert (member_notes y) v ≡ true) c.votes
-            (cert_has c.cert (member_notes y)
-            (subst (In (Note.Cert c.cert)) (sym c.joined)
-            (in_left (Note.Cert c.cert) c.before c.rest c.noted)))
+          has_cert_it : (k : ℕ) (y : Member) → member_at u k ≡ Some y
+              → has_cert (member_notes y) (Notarize p) ≡ true
+          has_cert_it k y there =
+              let c =
+              certifies r way.path.script u way.path.cluster way.path.clear k y there p
+              (certified_in_notes p (member_notes y) (certifies_it k y there)) in
+              subst (λ v. has_cert (member_notes y) v ≡ true) c.votes
+              (cert_has c.cert (member_notes y)
+              (subst (In (Note.Cert c.cert)) (sym c.joined)
+              (in_left (Note.Cert c.cert) c.before c.rest c.noted)))
 
       come_certified : ComeToCertified r w (helps w payload) p ⊎ ComesToClash r w (helps w payload)
       come_certified = go certified
         where
+          fitted : Fitting r (member_notes m) p
+          fitted = fitting r (member_notes m) p holds
+
           go : To w (AreCertified (numbers w))
               → ComeToCertified r w (helps w payload) p ⊎ ComesToClash r w (helps w payload)
           go (inr clash) = inr clash
@@ -594,16 +589,16 @@ module _ (r : Rules) (none : r.epochs.span ≡ None) (payload : List ℕ) (p : P
                         (helps_before w g.world payload g.way.more g.way.pool) lines are);
                     after = run r g.world lines;
                     ends = outcome_both r w g.world g.way.path.lines lines g.way.path.ends ∙ ends;
-                    block = b g.world g.way g.holds;
-                    higher = higher_before g.world g.way g.holds;
-                    each = λ k x there. by_kept k (g.way.kept k x there);
+                    block = fitted.block;
+                    higher = higher_before g.world g.way g.holds fitted;
+                    each = λ k x there. by_kept x k (g.way.kept k x there);
                   })
                 where
-                  by_kept : {x : Member} (k : ℕ)
+                  by_kept : (x : Member) (k : ℕ)
                       → ((y : Member) × (member_at g.world k ≡ Some y)
                       × Later (member_notes x) (member_notes y))
-                      → HasCertified r (run r g.world lines) p (b g.world g.way g.holds) k
-                  by_kept {x} k (y, there, later) =
+                      → HasCertified r (run r g.world lines) p fitted.block k
+                  by_kept x k (y, there, later) =
                       let f = fresh k y there in
                       record {
                         member = f.member;
@@ -611,16 +606,16 @@ module _ (r : Rules) (none : r.epochs.span ≡ None) (payload : List ℕ) (p : P
                         live = f.live;
                         notarized =
                             subst (λ ns. has_cert ns (Notarize p) ≡ true) (sym f.same)
-                            (has_cert_it g.world g.way g.holds k y there);
+                            (has_cert_it g.world g.way g.holds fitted k y there);
                         certified =
                             subst (λ ns. has_certified ns p ≡ true) (sym f.same)
-                            (certifies_it g.world g.way g.holds k y there);
+                            (certifies_it g.world g.way g.holds fitted k y there);
                         holds =
-                            subst (λ ns. held r ns p.payload ≡ Some (b g.world g.way g.holds))
-                            (sym f.same) (holds_it g.world g.way g.holds k y there);
+                            subst (λ ns. held r ns p.payload ≡ Some fitted.block)
+                            (sym f.same) (holds_it g.world g.way g.holds fitted k y there);
                         voted =
                             λ is. subst (λ ns. has_vote ns (Finalize p) ≡ true) (sym f.same)
-                            (votes_it g.world g.way g.holds k y there is);
+                            (votes_it g.world g.way g.holds fitted k y there is);
                       }
 
 -- all honest members come to certify what they voted for
