@@ -1,9 +1,9 @@
 -- What each honest member has done with what it has: it has certified what it can, and has closed each
 -- view in which it certified.
-use Rattle.std.proofs.Common.{◌≡◌, ℕ, ◌<◌, ◌≤◌, Bool, true, false, ◌&&◌, ◌==◌, not, count_by, List, [], ◌∷◌, ◌++◌, Option, Some, None, filter_map, length, option_map, slice_get, refl, sym, ◌∙◌, ap, subst, inl, inr, ◌⊎◌, arith, eq-eqb, eqb-true, IsTrue}
+use Rattle.std.proofs.Common.{◌≡◌, ℕ, ◌<◌, ◌≤◌, Bool, true, false, ◌&&◌, ◌==◌, not, List, [], ◌∷◌, Option, Some, None, filter_map, length, option_map, slice_get, refl, sym, ◌∙◌, ap, subst, inl, inr, arith, eq-eqb, eqb-true, IsTrue}
 use Rattle.std.specs.List.{AllByRecursion}
 use Rattle.std.specs.Option.{option_map_or}
-use Rattle.std.proofs.lemmas.Bool.{and_from, and_parts, cases_Bool, false≢true}
+use Rattle.std.proofs.lemmas.Bool.{and_from, and_parts, false≢true}
 use Rattle.std.proofs.lemmas.Option.{same_Some}
 use Rattle.cw_types.specs.declared.event.Event.{Event}
 use Rattle.cw_types.specs.declared.note.Note.{Note}
@@ -11,8 +11,7 @@ use Rattle.cw_types.specs.declared.vote.Proposal.{Proposal}
 use Rattle.cw_types.specs.declared.vote.Vote.{Vote}
 use Rattle.cw_types.specs.declared.vote.Vote.TheVariants.{Finalize, Notarize, Nullify}
 use Rattle.cw_types.specs.Block.{Block}
-use Rattle.cw_types.specs.Epochs.{is_member, members_in, size}
-use Rattle.cw_types.specs.Numbers.{quorum}
+use Rattle.cw_types.specs.Epochs.{is_member, members_in}
 use Rattle.cw_types.specs.Votes.{proposal_of, vote_epoch, vote_view}
 use Rattle.cw_types.proofs.Same.{same_vote_self}
 use Rattle.cw_rules.specs.Accepted.{State, first_some}
@@ -25,7 +24,7 @@ use Rattle.cw_rules.specs.Rules.{Rules}
 use Rattle.cw_rules.specs.Stands.{AreKept, Descends, LeadsTo, Stands, backs, backs_at}
 use Rattle.cw_rules.specs.Step.{Member, member_notes, state_of, step, step_notes, taken, with_notes}
 use Rattle.cw_rules.specs.World.{Line, World, member_at, signed}
-use Rattle.cw_rules.proofs.Certified.{ancestors_in, finalized_in}
+use Rattle.cw_rules.proofs.Certified.{finalized_in}
 use Rattle.cw_rules.proofs.Chain.{certified_rests, finalized_certified, finalized_descent, finalized_notarized, one_notarized}
 use Rattle.cw_rules.proofs.Fits.{last_is}
 use Rattle.cw_rules.proofs.Grows.{count_signers}

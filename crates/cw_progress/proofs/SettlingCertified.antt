@@ -1,19 +1,18 @@
 -- In one epoch without end, what the honest members voted for and one of them holds a block for comes
 -- to be certified by all of them.
-use Rattle.std.proofs.Common.{◌≡◌, ℕ, ◌+◌, ◌<◌, ◌≤◌, max, true, false, List, [], ◌∷◌, ◌++◌, Option, Some, None, filter_map, refl, sym, ◌∙◌, ap, subst, inl, inr, ◌⊎◌, arith, append-nil}
+use Rattle.std.proofs.Common.{◌≡◌, ℕ, ◌<◌, ◌≤◌, true, List, [], ◌∷◌, ◌++◌, Option, Some, None, filter_map, refl, sym, ◌∙◌, ap, subst, inl, inr, ◌⊎◌, arith, append-nil}
 use Rattle.std.specs.List.{AllByRecursion}
-use Rattle.std.proofs.lemmas.Bool.{cases_Bool, cases_eq, cases_lt, false≢true}
+use Rattle.std.proofs.lemmas.Bool.{cases_eq, cases_lt, false≢true}
 use Rattle.std.proofs.lemmas.List.Elements.{filter_map-append}
 use Rattle.std.proofs.lemmas.Option.{same_Some}
 use Rattle.cw_types.specs.declared.message.Message.{Message}
 use Rattle.cw_types.specs.declared.note.Note.{Note}
-use Rattle.cw_types.specs.declared.vote.Cert.{Cert}
 use Rattle.cw_types.specs.declared.vote.Proposal.{Proposal}
 use Rattle.cw_types.specs.declared.vote.Vote.{Vote}
 use Rattle.cw_types.specs.declared.vote.Vote.TheVariants.{Finalize, Notarize, Nullify}
 use Rattle.cw_types.specs.Block.{Block}
 use Rattle.cw_types.specs.Epochs.{is_member}
-use Rattle.cw_types.specs.Votes.{vote_epoch, well_formed}
+use Rattle.cw_types.specs.Votes.{well_formed}
 use Rattle.cw_rules.specs.Chains.{Ends, block_under, outcome}
 use Rattle.cw_rules.specs.Fits.{block_fits}
 use Rattle.cw_rules.specs.Held.{finalization_of, greatest_prune, held}
@@ -25,7 +24,6 @@ use Rattle.cw_rules.specs.Stands.{Stands}
 use Rattle.cw_rules.specs.Step.{Member, member_notes}
 use Rattle.cw_rules.specs.World.{Line, World, member_at, run}
 use Rattle.cw_rules.proofs.Certified.{Fitting, fitting}
-use Rattle.cw_rules.proofs.Chain.{certified_rests, one_notarized}
 use Rattle.cw_rules.proofs.Fits.{fit_positive}
 use Rattle.cw_rules.proofs.Lists.{all_both, in_left}
 use Rattle.cw_rules.proofs.NoteLemmas.{any_front}
@@ -53,7 +51,7 @@ use Rattle.cw_progress.proofs.Stages.{Arrives, Later, later_held, later_in}
 use Rattle.cw_progress.proofs.Tops.{in_greatest, in_top, top_at}
 use Rattle.cw_progress.proofs.Chains.{chain_lands}
 use Rattle.cw_progress.proofs.Valid.{cert_has, stands_formed, vote_in}
-use Rattle.cw_progress.proofs.Ways.{Goes, HasSome, HasVote, NoVote, Way, all_so, goes_then, goes_weaker, helps_before, stage_way, way_on}
+use Rattle.cw_progress.proofs.Ways.{HasSome, HasVote, NoVote, Way, all_so, goes_then, goes_weaker, helps_before, stage_way, way_on}
 
 -- a noted certificate stays
 pub cert_later : (v : Vote) (xs ys : List Note) → Later xs ys → has_cert xs v ≡ true

@@ -14,7 +14,6 @@ use Rattle.cw_rules.specs.Held.{held}
 use Rattle.cw_rules.specs.Notes.{has_cert, has_vote}
 use Rattle.cw_rules.specs.Reached.{In, IsCluster, ReachesClear, members_of}
 use Rattle.cw_rules.specs.Rules.{Rules}
-use Rattle.cw_rules.specs.Sends.{to_all}
 use Rattle.cw_rules.specs.Stands.{Stands}
 use Rattle.cw_rules.specs.Step.{Member, member_notes}
 use Rattle.cw_rules.specs.World.{Line, World, member_at, run}
@@ -22,7 +21,6 @@ use Rattle.cw_rules.proofs.Lists.{all_both}
 use Rattle.cw_progress.specs.Fresh.{IsFresh}
 use Rattle.cw_progress.specs.Going.{helps}
 use Rattle.cw_progress.specs.Over.{ComesToClash}
-use Rattle.cw_progress.specs.Sent.{IsSent}
 use Rattle.cw_progress.specs.Settling.{ComeToFinal, HasCertified, KnowsFinal}
 use Rattle.cw_progress.proofs.Certifies.{keeps, lawful}
 use Rattle.cw_progress.proofs.Fresh.{all_fresh}

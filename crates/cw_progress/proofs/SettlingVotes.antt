@@ -1,6 +1,6 @@
 -- Where each honest member of the first epoch has sent a vote, a member comes to a certificate of it,
 -- by lines that help.
-use Rattle.std.proofs.Common.{◌≡◌, ℕ, ◌≤◌, Bool, true, false, ◌&&◌, ◌==◌, nat_le, List, [], ◌∷◌, ◌++◌, Option, Some, None, filter, length, slice_get, refl, sym, ◌∙◌, ap, subst, inl, inr, ◌⊎◌, arith, eq-eqb}
+use Rattle.std.proofs.Common.{◌≡◌, ℕ, ◌≤◌, Bool, true, false, ◌&&◌, ◌==◌, nat_le, List, [], ◌∷◌, Some, None, length, slice_get, refl, sym, ◌∙◌, ap, subst, inl, inr, ◌⊎◌, arith, eq-eqb}
 use Rattle.std.specs.List.{list_any}
 use Rattle.std.specs.Option.{option_map_or}
 use Rattle.std.proofs.lemmas.Bool.{and_from, and_parts, false≢true, or_right}
@@ -42,7 +42,7 @@ use Rattle.cw_progress.proofs.Taken.{ballots_stay}
 use Rattle.cw_progress.proofs.Turns.{Idles, restart_way, sent_on, single_way}
 use Rattle.cw_progress.proofs.Valid.{sent_signs, vote_in}
 use Rattle.cw_progress.proofs.Voting.{other_same}
-use Rattle.cw_progress.proofs.Ways.{Goes, NoVote, Way, goes_then, goes_weaker, way_here}
+use Rattle.cw_progress.proofs.Ways.{NoVote, Way, goes_then, goes_weaker, way_here}
 
 -- the ballot is the vote of some signer
 abbrev pub IsVoteOf : Vote → Ballot → Type 0
