@@ -32,3 +32,4 @@ pub mod Settling
 pub mod SettlingVotes
 pub mod SettlingCertified
 pub mod SettlingFinal
+pub mod SettlingStocked

@@ -614,6 +614,16 @@ module _ (r : Rules) (none : r.epochs.span ≡ None) (payload : List ℕ) (p : P
                         voted =
                             λ is. subst (λ ns. has_vote ns (Finalize p) ≡ true) (sym f.same)
                             (votes_it g.world g.way g.holds fitted k y there is);
+                        latest =
+                            λ q h of.
+                            final_before g.world g.way q
+                            (record {
+                              number = k;
+                              member = y;
+                              there = there;
+                              noted = subst (λ ns. has_cert ns (Finalize q) ≡ true) f.same h;
+                            })
+                            (of ∙ first);
                       }
 
 -- all honest members come to certify what they voted for

@@ -1,5 +1,5 @@
 -- In one epoch without end, what all honest members certified comes to be known as final by all of them.
-use Rattle.std.proofs.Common.{◌≡◌, ℕ, true, List, [], ◌∷◌, ◌++◌, Option, Some, None, refl, sym, ◌∙◌, ap, subst, inl, inr, ◌⊎◌}
+use Rattle.std.proofs.Common.{◌≡◌, ℕ, ◌≤◌, true, List, [], ◌∷◌, ◌++◌, Option, Some, None, refl, sym, ◌∙◌, ap, subst, inl, inr, ◌⊎◌, arith}
 use Rattle.std.specs.List.{AllByRecursion}
 use Rattle.std.proofs.lemmas.Option.{same_Some}
 use Rattle.cw_types.specs.declared.message.Message.{Message}
@@ -8,7 +8,7 @@ use Rattle.cw_types.specs.declared.vote.Proposal.{Proposal}
 use Rattle.cw_types.specs.declared.vote.Vote.TheVariants.{Finalize}
 use Rattle.cw_types.specs.Block.{Block}
 use Rattle.cw_types.specs.Epochs.{is_member}
-use Rattle.cw_types.specs.Votes.{well_formed}
+use Rattle.cw_types.specs.Votes.{vote_view, well_formed}
 use Rattle.cw_rules.specs.Chains.{Ends, outcome}
 use Rattle.cw_rules.specs.Held.{held}
 use Rattle.cw_rules.specs.Notes.{has_cert, has_vote}
@@ -34,7 +34,7 @@ use Rattle.cw_progress.proofs.SettlingCertified.{cert_later}
 use Rattle.cw_progress.proofs.SettlingVotes.{AreSent, HasIt, IsThat, Leads, one_told, sent_later}
 use Rattle.cw_progress.proofs.Stages.{Later, later_held}
 use Rattle.cw_progress.proofs.Valid.{stands_formed, vote_in}
-use Rattle.cw_progress.proofs.Ways.{Way, all_so, goes_then, helps_before}
+use Rattle.cw_progress.proofs.Ways.{HasSome, Way, all_so, goes_then, helps_before}
 
 -- ---- all are told
 
@@ -161,6 +161,20 @@ module _ (r : Rules) (script : List Line) (w : World) (none : r.epochs.span ≡ 
       (vote_in (Finalize p) (member_notes m)
       (voted i m at (subst (λ e. is_member r.epochs e i ≡ true) (sym first) is)))
 
+  -- nobody knows of a later finalization, nor comes to one
+  latest : (q : Proposal) → q.epoch ≡ p.epoch
+      → HasSome w (Finalize q) ⊎ IsThat (Finalize p) (Finalize q) → q.view ≤ p.view
+  latest q of (inr e) = let one = ap vote_view e in omega (arith, one)
+  latest q of (inl s) =
+      let k = each s.number s.member s.there in
+      omega (
+        arith,
+        k.latest q
+            (subst (λ (x : Member). has_cert (member_notes x) (Finalize q) ≡ true)
+            (same_Some s.member k.member (sym s.there ∙ k.there)) s.noted)
+            of,
+      )
+
   abbrev IsFinalFor : Type 0
   IsFinalFor =
       ComeToFinal r w (helps w payload) p b ⊎ ComesToClash r w (helps w payload)
@@ -211,6 +225,11 @@ module _ (r : Rules) (script : List Line) (w : World) (none : r.epochs.span ≡ 
                         subst (λ ns. held r ns p.payload ≡ Some b) (sym f.same)
                         (later_held r (member_notes m) (member_notes y) later p.payload b
                         (holds i m at));
+                    latest =
+                        λ q h of.
+                        latest q of
+                        (g.way.certs i y there (Finalize q)
+                        (subst (λ ns. has_cert ns (Finalize q) ≡ true) f.same h));
                   }
 
 -- all honest members come to know that what they certified is final

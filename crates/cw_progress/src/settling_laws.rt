@@ -2,14 +2,15 @@
 //! one epoch without end.
 
 ghost use Rattle.std.specs.Prelude.{IsTrue, List, None, Some, ℕ, ◌≡◌, ◌⊎◌};
+ghost use Rattle.std.specs.List.{AllByRecursion};
 ghost use Rattle.cw_types.specs.declared.vote.Proposal.{Proposal};
 ghost use Rattle.cw_types.specs.Block.{Block};
 ghost use Rattle.cw_rules.specs.Fits.{block_fits};
-ghost use Rattle.cw_rules.specs.Reached.{IsCluster, ReachesClear};
+ghost use Rattle.cw_rules.specs.Reached.{IsCluster, Reaches, ReachesClear};
 ghost use Rattle.cw_rules.specs.Rules.{Rules};
 ghost use Rattle.cw_rules.specs.Step.{Member, member_notes};
-ghost use Rattle.cw_rules.specs.World.{Line, World, member_at};
-ghost use Rattle.cw_progress.specs.Going.{helps};
+ghost use Rattle.cw_rules.specs.World.{Line, World, member_at, run};
+ghost use Rattle.cw_progress.specs.Going.{helps, is_stocked};
 ghost use Rattle.cw_progress.specs.Over.{ComesToClash};
 ghost use Rattle.cw_progress.specs.Settling.{ComeToCertified, ComeToFinal, HasCertified, IsBacker};
 
@@ -35,4 +36,13 @@ pub fn finalize_law()
         → (p : Proposal) (b : Block)
         → ((i : ℕ) (m : Member) → member_at w i ≡ Some m → HasCertified r w p b i)
         → ComeToFinal r w (helps w payload) p b ⊎ ComesToClash r w (helps w payload) }
+{}
+
+/// Lines that help let no block go: where none is gone that is still to be handed out, none is after
+/// them.
+pub fn stocked_law()
+    ensures { (r : Rules) (script : List Line) (w : World) → IsCluster r script → Reaches r script w
+        → (payload : List ℕ) → IsTrue (is_stocked w) → (lines : List Line)
+        → AllByRecursion (λ line. IsTrue (helps w payload line)) lines
+        → IsTrue (is_stocked (run r w lines)) }
 {}
