@@ -33,3 +33,5 @@ pub mod SettlingVotes
 pub mod SettlingCertified
 pub mod SettlingFinal
 pub mod SettlingStocked
+pub mod SettlingDown
+pub mod SettlingHeld

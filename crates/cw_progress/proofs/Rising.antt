@@ -32,7 +32,7 @@ use Rattle.cw_progress.proofs.Tops.{first_held, held_first, prune_final}
 -- ---- heights
 
 -- a way with one proposal more
-way_on : (r : Rules) (w : World) (done : List Proposal) (q x y : Proposal)
+pub way_on : (r : Rules) (w : World) (done : List Proposal) (q x y : Proposal)
     → LeadsTo r.epochs (members_of w) q done x → Stands r.epochs (members_of w) (Notarize y)
     → y.epoch ≡ x.epoch → y.view ≡ x.parent
     → LeadsTo r.epochs (members_of w) q (done ++ y ∷ []) y

@@ -12,7 +12,7 @@ pub use laws::{
     able_laws, catch_up_laws, delivery_law, ended_laws, final_laws, fresh_law, further_laws,
     held_laws, new_view_law, one_view_law, over_laws, quorum_laws, sent_laws,
 };
-pub use settling_laws::{certify_law, finalize_law, stocked_law};
+pub use settling_laws::{certify_law, finalize_law, hold_law, stocked_law};
 pub use worked::{
     a_floor_within_an_epoch_keeps_its_member_out, a_split_view_goes_on, all_come_to_one_view,
     what_is_certified_goes_over,

@@ -12,7 +12,8 @@ ghost use Rattle.cw_rules.specs.Step.{Member, member_notes};
 ghost use Rattle.cw_rules.specs.World.{Line, World, member_at, run};
 ghost use Rattle.cw_progress.specs.Going.{helps, is_stocked};
 ghost use Rattle.cw_progress.specs.Over.{ComesToClash};
-ghost use Rattle.cw_progress.specs.Settling.{ComeToCertified, ComeToFinal, HasCertified, IsBacker};
+ghost use Rattle.cw_progress.specs.Settling.{ComeToCertified, ComeToFinal, ComeToHold, HasCertified};
+ghost use Rattle.cw_progress.specs.Settling.{IsBacker, KnowsFinal};
 
 /// In one epoch without end, where each honest member of the epoch has voted for a proposal, none has
 /// voted to nullify its view, and one honest member holds a block that is one for it, all honest
@@ -36,6 +37,16 @@ pub fn finalize_law()
         → (p : Proposal) (b : Block)
         → ((i : ℕ) (m : Member) → member_at w i ≡ Some m → HasCertified r w p b i)
         → ComeToFinal r w (helps w payload) p b ⊎ ComesToClash r w (helps w payload) }
+{}
+
+/// From there, where no block is gone that is still to be handed out, all honest members come to hold
+/// what they still have to hand out up to that block, by lines that help. Else a clash turns up.
+pub fn hold_law()
+    ensures { (r : Rules) (script : List Line) (w : World) → r.epochs.span ≡ None
+        → IsCluster r script → ReachesClear r script w → (payload : List ℕ)
+        → IsTrue (is_stocked w) → (p : Proposal) (b : Block)
+        → ((i : ℕ) (m : Member) → member_at w i ≡ Some m → KnowsFinal r w p b i)
+        → ComeToHold r w (helps w payload) b.height ⊎ ComesToClash r w (helps w payload) }
 {}
 
 /// Lines that help let no block go: where none is gone that is still to be handed out, none is after
