@@ -1,6 +1,6 @@
 -- In one epoch without end, where no block is gone that is still to be handed out, what all know to be
 -- final and all that is below it comes to each that still has to hand it out.
-use Rattle.std.proofs.Common.{◌≡◌, ℕ, zero, suc, ◌+◌, ◌<◌, ◌≤◌, Bool, true, false, ◌==◌, max, List, [], ◌∷◌, ◌++◌, Option, Some, None, is_some, option_map, slice_get, refl, sym, ◌∙◌, ap, subst, inl, inr, ◌⊎◌, arith, append_assoc, append-nil, eqb-true}
+use Rattle.std.proofs.Common.{◌≡◌, ℕ, zero, suc, ◌+◌, ◌<◌, ◌≤◌, true, false, ◌==◌, max, List, [], ◌∷◌, ◌++◌, Option, Some, None, is_some, option_map, slice_get, refl, sym, ◌∙◌, ap, subst, inl, inr, ◌⊎◌, arith, append_assoc, append-nil}
 use Rattle.std.specs.Prelude.{IsSome}
 use Rattle.std.specs.List.{AllByRecursion}
 use Rattle.std.proofs.lemmas.Bool.{cases_Bool, cases_eq, cases_lt, cond-true, cond-false}
@@ -12,16 +12,15 @@ use Rattle.cw_types.specs.declared.note.Note.{Note}
 use Rattle.cw_types.specs.declared.vote.Proposal.{Proposal}
 use Rattle.cw_types.specs.declared.vote.Vote.TheVariants.{Finalize, Notarize}
 use Rattle.cw_types.specs.Block.{Block}
-use Rattle.cw_types.specs.Same.{same_commitment}
 use Rattle.cw_rules.specs.Chains.{Ends, block_under, outcome}
 use Rattle.cw_rules.specs.Fits.{block_fits}
-use Rattle.cw_rules.specs.Held.{at_height, greatest_floor, greatest_prune, held, next, resume}
+use Rattle.cw_rules.specs.Held.{at_height, greatest_floor, greatest_prune, held, resume}
 use Rattle.cw_rules.specs.Keeps.{IsCertifiedIn}
 use Rattle.cw_rules.specs.Notes.{epoch_parent, has_cert, has_certified, settler}
 use Rattle.cw_rules.specs.Reached.{In, IsCluster, ReachesClear, members_of}
 use Rattle.cw_rules.specs.Rules.{Rules, genesis, genesis_commitment}
 use Rattle.cw_rules.specs.Stands.{AreKept, AreLawful, LeadsTo, Stands}
-use Rattle.cw_rules.specs.Step.{Member, member_notes, state_of, step}
+use Rattle.cw_rules.specs.Step.{Member, member_notes, step}
 use Rattle.cw_rules.specs.World.{Line, World, member_at, run, signed, with_done}
 use Rattle.cw_rules.proofs.Blocks.{under_commit}
 use Rattle.cw_rules.proofs.Certified.{Fitting, ancestors_in}
@@ -35,7 +34,7 @@ use Rattle.cw_progress.specs.Going.{helps, is_stocked}
 use Rattle.cw_progress.specs.Over.{ComesToClash}
 use Rattle.cw_progress.specs.Settling.{ComeToHold, HoldsUpTo, KnowsFinal}
 use Rattle.cw_progress.proofs.Certifies.{Certifies, HasBlock, block_goes, certifies, fitted_other, held_is, keeps, lawful, notes_at, one_each}
-use Rattle.cw_progress.proofs.Ends.{certified_in_notes, has_noted, member_is, member_with}
+use Rattle.cw_progress.proofs.Ends.{certified_in_notes, member_is, member_with}
 use Rattle.cw_progress.proofs.Fresh.{all_fresh}
 use Rattle.cw_progress.proofs.Latest.{Known, Ready, cert_stands, final_first, gave_up_low, notarized_first}
 use Rattle.cw_progress.proofs.OneView.{numbered, numbers}
@@ -45,7 +44,7 @@ use Rattle.cw_progress.proofs.Rounds.{Brings, here_way}
 use Rattle.cw_progress.proofs.SettlingCertified.{cert_later}
 use Rattle.cw_progress.proofs.SettlingDown.{HoldsDown, at_down, down_here, down_later}
 use Rattle.cw_progress.proofs.SettlingStocked.{IsStocked, resume_grows, stocked_tells}
-use Rattle.cw_progress.proofs.Stages.{Begins, Later, Stage, begins, cert_goes, later_both, later_held, later_in}
+use Rattle.cw_progress.proofs.Stages.{Begins, Later, Stage, begins, cert_goes, later_held, later_in}
 use Rattle.cw_progress.proofs.Tops.{held_stays}
 use Rattle.cw_progress.proofs.Ways.{HasSome, NoVote, Way, all_so, goes_then, helps_before, stage_way}
 

@@ -7,7 +7,6 @@ use Rattle.std.proofs.lemmas.Bool.{and_parts, cases_eq, false≢true}
 use Rattle.std.proofs.lemmas.List.Elements.{filter_map-append}
 use Rattle.std.proofs.lemmas.Option.{same_Some}
 use Rattle.cw_types.specs.declared.event.Event.{Event}
-use Rattle.cw_types.specs.declared.message.Message.{Message}
 use Rattle.cw_types.specs.declared.note.Note.{Note}
 use Rattle.cw_types.specs.declared.vote.Vote.{Vote}
 use Rattle.cw_rules.specs.Held.{acked_height, greatest_floor, greatest_prune, is_pending, last_ack, pending, resume}
@@ -22,7 +21,7 @@ use Rattle.cw_rules.proofs.Worlds.{member_there}
 use Rattle.cw_progress.specs.Going.{helps, is_stocked, numbered_members}
 use Rattle.cw_progress.specs.Over.{is_honest_line}
 use Rattle.cw_progress.proofs.Able.{all_pass, is_there}
-use Rattle.cw_progress.proofs.Carries.{AnyLine, Turning, Writes, any_lines, part_cut, reached_all, whole_cut, writes_carry}
+use Rattle.cw_progress.proofs.Carries.{AnyLine, Writes, any_lines, part_cut, reached_all, whole_cut, writes_carry}
 use Rattle.cw_progress.proofs.Ends.{member_is}
 use Rattle.cw_progress.proofs.Further.{reaches_on}
 use Rattle.cw_progress.proofs.Outs.{filter_from, mapped_in}
