@@ -29,6 +29,7 @@ pub mod NewView
 pub mod Fresh
 pub mod Deliveries
 pub mod Settling
+pub mod SettlingVoters
 pub mod SettlingVotes
 pub mod SettlingCertified
 pub mod SettlingFinal

@@ -414,7 +414,7 @@ module _ (R : List Note → Note → Type 0) (r : Rules) (id : ℕ) (s : State) 
           subst (R ns) (when_some _ (Note.Block c b) note u).1 (k.of_block ns c b)
       one (inr x) = two x.0 (or_split a2 r2 note x.1)
 
-  settle_each : (steps : ℕ) (ns : List Note) → EachAfter R ns (settle r id steps (noted_as s ns))
+  pub settle_each : (steps : ℕ) (ns : List Note) → EachAfter R ns (settle r id steps (noted_as s ns))
   settle_each zero ns = tt
   settle_each (suc steps) ns =
       go (owed r id (noted_as s ns)) refl (λ note. settle_each steps (ns ++ note ∷ []))

@@ -46,6 +46,7 @@ use Rattle.cw_progress.proofs.Quiet.{IsFinal}
 use Rattle.cw_progress.proofs.Rising.{certified_held}
 use Rattle.cw_progress.proofs.Rounds.{Brings, here_way}
 use Rattle.cw_progress.proofs.Settling.{all_stands, has_certified_it, has_voted_for_it, rises_more}
+use Rattle.cw_progress.proofs.SettlingVoters.{nullifier_belongs}
 use Rattle.cw_progress.proofs.SettlingVotes.{HasIt, IsThat, one_told, sent_later}
 use Rattle.cw_progress.proofs.Stages.{Arrives, Later, later_held, later_in}
 use Rattle.cw_progress.proofs.Tops.{in_greatest, in_top, top_at}
@@ -458,12 +459,16 @@ module _ (r : Rules) (none : r.epochs.span ≡ None) (payload : List ℕ) (p : P
               by_source (inr (inr e)) = cc e
               by_source (inl s) =
                   let b = each s.number s.member s.there in
+                  let own =
+                  subst (λ e. has_vote (member_notes s.member) (Nullify e p.view) ≡ true) first
+                  s.voted in
                   false≢true
-                  (sym b.unclosed
+                  (sym
+                  (b.unclosed
+                  (nullifier_belongs r script w cluster (clear_reaches r script w clear) s.number
+                  s.member s.there 0 p.view own))
                   ∙ subst (λ (q : Member). has_vote (member_notes q) (Nullify 0 p.view) ≡ true)
-                  (same_Some s.member b.in_view.member (sym s.there ∙ b.in_view.there))
-                  (subst (λ e. has_vote (member_notes s.member) (Nullify e p.view) ≡ true) first
-                  s.voted))
+                  (same_Some s.member b.in_view.member (sym s.there ∙ b.in_view.there)) own)
 
           votes_it : (k : ℕ) (y : Member) → member_at u k ≡ Some y
               → is_member r.epochs p.epoch k ≡ true

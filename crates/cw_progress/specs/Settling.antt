@@ -14,13 +14,14 @@ use Rattle.cw_rules.specs.World.{Line, World, member_at}
 use Rattle.cw_progress.specs.Tops.{final_top}
 use Rattle.cw_progress.specs.Views.{IsInView}
 
--- the honest member is live, in the proposal's view of the first epoch, and has not voted to nullify
--- that view. If it is one of the epoch's, it has voted to notarize the proposal
+-- the honest member is live and in the proposal's view of the first epoch. If it is one of the
+-- epoch's, it has voted to notarize the proposal, and hasn't voted to nullify that view
 pub record IsBacker (r : Rules) (w : World) (p : Proposal) (i : ℕ) : Type 0 where
   pub in_view : IsInView w i p.view
-  pub unclosed : IsFalse (has_vote (member_notes in_view.member) (Nullify 0 p.view))
   pub voted : IsTrue (is_member r.epochs 0 i)
       → IsTrue (has_vote (member_notes in_view.member) (Notarize p))
+  pub unclosed : IsTrue (is_member r.epochs 0 i)
+      → IsFalse (has_vote (member_notes in_view.member) (Nullify 0 p.view))
 
 -- the honest member is live, has certified the proposal, which it knows to be notarized, and holds
 -- its block. If it is one of the epoch's, it has voted to finalize the proposal

@@ -15,10 +15,10 @@ ghost use Rattle.cw_progress.specs.Over.{ComesToClash};
 ghost use Rattle.cw_progress.specs.Settling.{ComeToCertified, ComeToFinal, ComeToHold, HasCertified};
 ghost use Rattle.cw_progress.specs.Settling.{IsBacker, KnowsFinal};
 
-/// In one epoch without end, where each honest member of the epoch has voted for a proposal, none has
-/// voted to nullify its view, and one honest member holds a block that is one for it, all honest
-/// members come to certify it, by lines that help, however blocks travel. Then those of the epoch
-/// have voted to finalize it. Else a clash turns up.
+/// In one epoch without end, where all honest members are in the view of a proposal, those of the
+/// epoch have voted for it and not to nullify that view, and one of them all holds a block that is
+/// one for it, all come to certify it, by lines that help, however blocks travel. Then those of the
+/// epoch have voted to finalize it. Else a clash turns up.
 pub fn certify_law()
     ensures { (r : Rules) (script : List Line) (w : World) → r.epochs.span ≡ None
         → IsCluster r script → ReachesClear r script w → (payload : List ℕ)
