@@ -82,7 +82,7 @@ module _ (r : Rules) where
       own : List Block
       own = blocks_of (take 1 (drop i w.members))
 
-  quiet_ends : (w u : World) (line : Line) → happens r w line ≡ u
+  pub quiet_ends : (w u : World) (line : Line) → happens r w line ≡ u
       → blocks_of (take 1 (drop (line_member line) u.members))
       ≡ blocks_of (take 1 (drop (line_member line) w.members))
       → outcome r w (line ∷ []) ≡ Ends u

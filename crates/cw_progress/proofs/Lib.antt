@@ -7,6 +7,10 @@ pub mod Passed
 pub mod Valid
 pub mod Ends
 pub mod Tops
+pub mod HandingNotes
+pub mod HandingTurns
+pub mod HandingOne
+pub mod HandingAll
 pub mod Rising
 pub mod Over
 pub mod Able

@@ -61,7 +61,7 @@ or_none None b h = (refl, h)
 or_none (Some x) b h = cc
 
 -- the least of some numbers is one of them
-least_in : (xs : List ℕ) (h : ℕ) → least xs ≡ Some h → In h xs
+pub least_in : (xs : List ℕ) (h : ℕ) → least xs ≡ Some h → In h xs
 least_in [] h e = cc
 least_in (x ∷ xs) h e =
     go (least xs) refl (same_Some (option_map_or (min x) (least xs) x) h e) (least_in xs)
@@ -194,7 +194,7 @@ proposed_plain r id notes payload =
     go epoch view (Some best) = over_plain r notes epoch view payload best
 
 -- an epoch that is owed is a note of one
-epoch_is : (r : Rules) (notes : List Note) (span epoch : ℕ) (note : Note)
+pub epoch_is : (r : Rules) (notes : List Note) (span epoch : ℕ) (note : Note)
     → reached_epoch r notes span epoch ≡ Some note
     → (x : ℕ) × (c : Commitment) × (note ≡ Note.Epoch x c)
 epoch_is r notes span zero note h = cc

@@ -736,19 +736,22 @@ module _ (r : Rules) (script : List Line) (w : World) (none : r.epochs.span ≡ 
                       record {
                         member = f.member;
                         there = f.there;
-                        live = f.live;
-                        not_given_up =
-                            subst (λ ns. greatest_floor ns ≤ b.height) (sym f.same)
-                            (low_floor i y there);
-                        reached =
-                            λ h lo hi.
-                            let begins = f.begins in
-                            let k = knows_then g.world g.way i y there in
-                            let (d, e) =
-                            at_down r (member_notes y) p b k.0 k.1 low down h
-                            (omega (arith, le, begins, lo)) hi in
-                            subst (λ ns. IsSome (at_height r ns h)) (sym f.same)
-                            (ap is_some e);
+                        can =
+                            record {
+                              live = f.live;
+                              not_given_up =
+                                  subst (λ ns. greatest_floor ns ≤ b.height) (sym f.same)
+                                  (low_floor i y there);
+                              reached =
+                                  λ h lo hi.
+                                  let begins = f.begins in
+                                  let k = knows_then g.world g.way i y there in
+                                  let (d, e) =
+                                  at_down r (member_notes y) p b k.0 k.1 low down h
+                                  (omega (arith, le, begins, lo)) hi in
+                                  subst (λ ns. IsSome (at_height r ns h)) (sym f.same)
+                                  (ap is_some e);
+                            };
                       }
 
 -- all honest members come to hold what they still have to hand out

@@ -1,6 +1,7 @@
 pub mod Sent
 pub mod Ended
 pub mod Tops
+pub mod Handing
 pub mod Over
 pub mod Going
 pub mod Views

@@ -1,16 +1,17 @@
 -- From votes for a proposal to a block that each honest member knows to be final.
-use Rattle.std.specs.Prelude.{ℕ, ◌<◌, ◌≡◌, ◌≤◌, Bool, IsFalse, IsSome, IsTrue, List, Some}
+use Rattle.std.specs.Prelude.{ℕ, ◌<◌, ◌≡◌, ◌≤◌, Bool, IsFalse, IsTrue, List, Some}
 use Rattle.std.specs.List.{AllByRecursion}
 use Rattle.cw_types.specs.Block.{Block}
 use Rattle.cw_types.specs.Epochs.{is_member}
 use Rattle.cw_types.specs.declared.vote.Proposal.{Proposal}
 use Rattle.cw_types.specs.declared.vote.Vote.TheVariants.{Finalize, Notarize, Nullify}
 use Rattle.cw_rules.specs.Chains.{Ends, outcome}
-use Rattle.cw_rules.specs.Held.{at_height, greatest_floor, held, next}
+use Rattle.cw_rules.specs.Held.{held}
 use Rattle.cw_rules.specs.Notes.{has_cert, has_certified, has_vote}
 use Rattle.cw_rules.specs.Rules.{Rules}
-use Rattle.cw_rules.specs.Step.{Member, member_notes, state_of}
+use Rattle.cw_rules.specs.Step.{Member, member_notes}
 use Rattle.cw_rules.specs.World.{Line, World, member_at}
+use Rattle.cw_progress.specs.Handing.{CanHandUpTo}
 use Rattle.cw_progress.specs.Tops.{final_top}
 use Rattle.cw_progress.specs.Views.{IsInView}
 
@@ -72,15 +73,11 @@ pub record ComeToFinal (r : Rules) (w : World) (allowed : Line → Bool) (p : Pr
   pub ends : outcome r w lines ≡ Ends after
   pub each : (i : ℕ) (m : Member) → member_at w i ≡ Some m → KnowsFinal r after p b i
 
--- the honest member is live, gave up no height above that one, and from the next height that it hands
--- out on each one up to there is reached
+-- the honest member can hand out what it still has to hand out up to that height
 pub record HoldsUpTo (r : Rules) (w : World) (top : ℕ) (i : ℕ) : Type 0 where
   pub member : Member
   pub there : member_at w i ≡ Some member
-  pub live : IsTrue member.live
-  pub not_given_up : greatest_floor (member_notes member) ≤ top
-  pub reached : (h : ℕ) → next (state_of member) ≤ h → h ≤ top
-      → IsSome (at_height r (member_notes member) h)
+  pub can : CanHandUpTo r member top
 
 -- such lines alone lead without a clash to a world in which each honest member holds what it still
 -- has to hand out up to that height

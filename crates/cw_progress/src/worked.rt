@@ -1,13 +1,15 @@
 //! Worked runs, computed from the definitions: a cluster that goes on, and one that can't.
 #![tactic(auto, unfolding(cw_types::specs::Same::same_commitment, cw_types::specs::Same::same_context, cw_types::specs::Same::same_proposal, cw_types::specs::Same::same_vote, cw_types::specs::Same::same_cert, cw_types::specs::Same::same_block))]
 
-ghost use Rattle.std.specs.Prelude.{[], ℕ, List, Some, false, option_map, true, ◌∷◌, ◌≡◌};
+ghost use Rattle.std.specs.Prelude.{[], ℕ, List, Some, false, option_map, true, ◌++◌, ◌∷◌, ◌≡◌};
 ghost use Rattle.std.specs.List.{list_all};
 ghost use Rattle.cw_rules.specs.Notes.{view_of};
 ghost use Rattle.cw_rules.specs.Step.{member_notes};
 ghost use Rattle.cw_rules.specs.World.{member_at, run, world_of};
 ghost use Rattle.cw_progress.specs.Going.{goes_on, helps, is_able, is_stocked, shows_twins};
+ghost use Rattle.cw_progress.specs.Handing.{is_ack};
 ghost use Rattle.cw_progress.specs.Over.{is_delivery};
+ghost use Rattle.cw_progress.specs.Scenes.{all_acknowledge, one_pending_rules};
 ghost use Rattle.cw_progress.specs.Scenes.{endless_rules, floor_at_the_end, floor_within};
 ghost use Rattle.cw_progress.specs.Scenes.{one_certified, one_certified_lines, one_view_lines};
 ghost use Rattle.cw_progress.specs.Scenes.{split_view, split_view_lines, two_epochs_without_one};
@@ -66,4 +68,16 @@ pub fn a_floor_within_an_epoch_keeps_its_member_out()
     // a floor at the last block of the epoch before does no harm
     ensures at_the_end { is_able two_heights_rules
         (world_of two_heights_rules floor_at_the_end) ≡ true }
+{}
+
+/// Where one block at most may be pending, genesis keeps the next one back. Once each member
+/// acknowledges genesis it hands that one out.
+pub fn acknowledgements_let_a_block_go()
+    // the lines that lead on where three may be pending don't here
+    ensures before { goes_on one_pending_rules (world_of one_pending_rules split_view)
+        split_view_lines ≡ false }
+    ensures acks { list_all is_ack all_acknowledge ≡ true }
+    // but with acknowledgements behind them
+    ensures after { goes_on one_pending_rules (world_of one_pending_rules split_view)
+        (split_view_lines ++ all_acknowledge) ≡ true }
 {}
