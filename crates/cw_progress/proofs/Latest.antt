@@ -188,7 +188,7 @@ module _ (r : Rules) (none : r.epochs.span ≡ None) (script : List Line) (w : W
           no_entry i m at x c (subst (λ y. In y (member_notes m)) is inside)
 
   -- what stands notarized is of the first epoch
-  notarized_first : (bound : ℕ) (p : Proposal) → Stands r.epochs (members_of w) (Notarize p)
+  pub notarized_first : (bound : ℕ) (p : Proposal) → Stands r.epochs (members_of w) (Notarize p)
       → p.view < bound → p.epoch ≡ 0
   notarized_first zero p a lt = absurd (omega (arith, lt))
   notarized_first (suc bound) p a lt =

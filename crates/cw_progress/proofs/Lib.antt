@@ -28,3 +28,17 @@ pub mod Rounds
 pub mod NewView
 pub mod Fresh
 pub mod Deliveries
+pub mod OfferParents
+pub mod OfferHeights
+pub mod OfferCalm
+pub mod OfferGives
+pub mod OfferLeader
+pub mod OfferParts
+pub mod OfferVoter
+pub mod OfferTurn
+pub mod OfferTwins
+pub mod OfferBuilt
+pub mod OfferProposed
+pub mod OfferMade
+pub mod OfferTold
+pub mod OfferVotes

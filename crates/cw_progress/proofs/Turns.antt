@@ -111,7 +111,7 @@ module _ (r : Rules) (payload : List ℕ) where
           inl (record { number = k; member = y; there = sym (others k d) ∙ h; voted = c })
 
   -- a step that hides no block leaves its notes, and maybe more
-  step_later : (id : ℕ) (sign : ℕ → Vote → Bool) (n : Member) (e : Event)
+  pub step_later : (id : ℕ) (sign : ℕ → Vote → Bool) (n : Member) (e : Event)
       → ((h : ℕ) → e ≡ Event.Prune h → ⊥)
       → Later (member_notes n) (member_notes (step r id sign n e).member)
   step_later id sign n e keeps = record {

@@ -6,3 +6,4 @@ pub mod Going
 pub mod Views
 pub mod Fresh
 pub mod Scenes
+pub mod Offered
