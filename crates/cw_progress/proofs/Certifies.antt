@@ -86,7 +86,7 @@ entered_note (Note.Floor x) e h = cc h
 entered_note (Note.Prune x) e h = cc h
 
 -- a block that is noted is found
-block_found : (c : Commitment) (notes : List Note) → has_block notes c ≡ true
+pub block_found : (c : Commitment) (notes : List Note) → has_block notes c ≡ true
     → (b : Block) × (first_some (noted_block_of c) notes ≡ Some b)
 block_found c [] h = absurd (false≢true h)
 block_found c (Note.Block d b ∷ ns) h = go (same_commitment c d) h (block_found c ns)

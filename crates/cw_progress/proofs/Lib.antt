@@ -40,3 +40,17 @@ pub mod SettlingFinal
 pub mod SettlingStocked
 pub mod SettlingDown
 pub mod SettlingHeld
+pub mod OfferParents
+pub mod OfferHeights
+pub mod OfferCalm
+pub mod OfferGives
+pub mod OfferLeader
+pub mod OfferParts
+pub mod OfferVoter
+pub mod OfferTurn
+pub mod OfferTwins
+pub mod OfferBuilt
+pub mod OfferProposed
+pub mod OfferMade
+pub mod OfferTold
+pub mod OfferVotes

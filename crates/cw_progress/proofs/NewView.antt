@@ -70,7 +70,7 @@ module _ (r : Rules) (script : List Line) (w : World) (cluster : IsCluster r scr
       omega (arith, seen.1, one, view_front front more epoch)
 
   -- nor is one to notarize
-  notarize_low : (p : Proposal) → has_vote (member_notes m) (Notarize p) ≡ true
+  pub notarize_low : (p : Proposal) → has_vote (member_notes m) (Notarize p) ≡ true
       → p.view ≤ view_of (member_notes m) p.epoch
   notarize_low p h =
       let f =

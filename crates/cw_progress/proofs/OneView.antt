@@ -212,7 +212,7 @@ module _ (r : Rules) (none : r.epochs.span ≡ None) (payload : List ℕ) where
 
   module _ (script : List Line) (w : World) (cluster : IsCluster r script)
       (clear : ReachesClear r script w) where
-    stays : (P : World → Type 0) → P w → Leads w P
+    pub stays : (P : World → Type 0) → P w → Leads w P
     stays P h =
         inl (record {
           world = w;

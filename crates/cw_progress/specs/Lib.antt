@@ -8,3 +8,4 @@ pub mod Views
 pub mod Fresh
 pub mod Settling
 pub mod Scenes
+pub mod Offered

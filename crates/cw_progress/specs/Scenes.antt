@@ -76,6 +76,14 @@ one_certified_lines = Do 3 (Deliver 4) ∷ Do 1 (Deliver 7) ∷ Do 3 (Deliver 8)
 abbrev pub one_view_lines : List Line
 one_view_lines = one_certified_lines ++ Do 0 (Deliver 4) ∷ Do 2 (Deliver 4) ∷ []
 
+-- ---- an offer
+
+-- member 1, which leads the first view, proposes, and its block and its vote go to each other
+abbrev pub one_offer_lines : List Line
+one_offer_lines =
+    Do 1 (Propose (61 ∷ [])) ∷ Do 0 (Deliver 0) ∷ Do 0 (Deliver 1) ∷ Do 2 (Deliver 0)
+    ∷ Do 2 (Deliver 1) ∷ Do 3 (Deliver 0) ∷ Do 3 (Deliver 1) ∷ []
+
 -- ---- a floor within an epoch that its member hasn't entered
 
 -- four members in epochs of two heights
