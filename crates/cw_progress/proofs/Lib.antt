@@ -54,3 +54,4 @@ pub mod OfferProposed
 pub mod OfferMade
 pub mod OfferTold
 pub mod OfferVotes
+pub mod GoesOn

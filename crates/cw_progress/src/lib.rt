@@ -4,12 +4,14 @@
 //! the checker computes, are functions with an empty body, so that they can't go unproved.
 #![tactic(auto)]
 
+mod going_law;
 mod handing_laws;
 mod laws;
 mod offer_laws;
 mod settling_laws;
 mod worked;
 
+pub use going_law::goes_on_law;
 pub use handing_laws::{ack_law, hand_out_law};
 pub use laws::{
     able_laws, catch_up_laws, delivery_law, ended_laws, final_laws, fresh_law, further_laws,
