@@ -1,5 +1,5 @@
 -- In one epoch without end a cluster that is able goes on, or twins are shown.
-use Rattle.std.proofs.Common.{◌≡◌, ℕ, zero, suc, ◌+◌, ◌-◌, ◌*◌, ◌/◌, ◌%◌, ◌<◌, ◌≤◌, ◌^◌, Bool, true, false, ◌&&◌, ◌==◌, nat_lt, List, [], ◌∷◌, ◌++◌, Option, Some, None, filter, filter_map, length, map, option_and_then, option_map, slice_get, unwrap_or, refl, sym, ◌∙◌, ap, subst, inl, inr, ◌⊎◌, arith, append_assoc, append-nil, div-add-mod', mod-lt, eq-eqb, lt-ltb}
+use Rattle.std.proofs.Common.{◌≡◌, ℕ, suc, ◌+◌, ◌-◌, ◌*◌, ◌/◌, ◌%◌, ◌<◌, ◌≤◌, ◌^◌, true, false, ◌==◌, nat_lt, List, [], ◌∷◌, ◌++◌, Option, Some, None, length, map, option_map, slice_get, unwrap_or, refl, sym, ◌∙◌, ap, subst, inl, inr, ◌⊎◌, arith, append_assoc, append-nil, div-add-mod', mod-lt, eq-eqb, lt-ltb}
 use Rattle.std.specs.List.{AllByRecursion, enumerate_from, list_all, list_any}
 use Rattle.std.specs.Option.{option_map_or}
 use Rattle.std.proofs.lemmas.Bool.{and_from, and_parts, cases_Bool, false≢true}
@@ -8,31 +8,29 @@ use Rattle.std.proofs.lemmas.Option.{same_Some}
 use Rattle.cw_types.specs.declared.event.Handed.{Handed}
 use Rattle.cw_types.specs.declared.note.Note.{Note}
 use Rattle.cw_types.specs.declared.vote.Proposal.{Proposal}
-use Rattle.cw_types.specs.declared.vote.Vote.{Vote}
 use Rattle.cw_types.specs.declared.vote.Vote.TheVariants.{Notarize, Nullify}
 use Rattle.cw_types.specs.Block.{Block}
-use Rattle.cw_types.specs.Epochs.{is_member, leader, members_in, size}
+use Rattle.cw_types.specs.Epochs.{leader, members_in, size}
 use Rattle.cw_types.specs.Numbers.{quorum}
-use Rattle.cw_rules.specs.Chains.{Clashes, Ends, Outcome, outcome}
+use Rattle.cw_rules.specs.Chains.{Ends, outcome}
 use Rattle.cw_rules.specs.Coding.{IsCoder}
 use Rattle.cw_rules.specs.Fits.{block_fits}
-use Rattle.cw_rules.specs.Notes.{greatest, has_vote, is_vote, view_of}
+use Rattle.cw_rules.specs.Notes.{has_vote, is_vote, view_of}
 use Rattle.cw_rules.specs.Owed.{closes, has_closed}
 use Rattle.cw_rules.specs.Reached.{In, IsCluster, ReachesClear}
 use Rattle.cw_rules.specs.Rules.{Rules}
 use Rattle.cw_rules.specs.Step.{Member, Stepped, member_notes}
-use Rattle.cw_rules.specs.World.{Ask, Cut, Do, Faulty, Line, Restart, Sent, World, done_by, fault_sends, happens, line_member, member_at, run, sent_now, with_done}
+use Rattle.cw_rules.specs.World.{Ask, Cut, Do, Faulty, Line, Restart, Sent, World, done_by, fault_sends, happens, member_at, run, sent_now, with_done}
 use Rattle.cw_rules.specs.declared.travel.Travel.TheVariants.{Chunked}
 use Rattle.cw_rules.proofs.Lists.{all_both}
 use Rattle.cw_rules.proofs.NoteLemmas.{vote_note}
-use Rattle.cw_rules.proofs.Worlds.{member_there}
 use Rattle.cw_progress.specs.Going.{can_enter, ends_able, goes_on, handed_of, helps, is_able, is_stocked, known_top, newest_epoch, numbered_members, shows_twins, twins_in}
 use Rattle.cw_progress.specs.Handing.{AllHandAbove, CanHandUpTo, is_ack}
-use Rattle.cw_progress.specs.Offered.{ComeToOffer, ComeToVotes, ComesToTwins, HasBacked, IsWelcome}
+use Rattle.cw_progress.specs.Offered.{ComeToOffer, ComeToVotes, ComesToTwins, IsWelcome}
 use Rattle.cw_progress.specs.Over.{ComesToClash, is_honest_line}
-use Rattle.cw_progress.specs.Settling.{ComeToCertified, ComeToFinal, ComeToHold, HasCertified, HoldsUpTo, IsBacker, KnowsFinal}
+use Rattle.cw_progress.specs.Settling.{ComeToCertified, ComeToFinal, ComeToHold, HasCertified, IsBacker, KnowsFinal}
 use Rattle.cw_progress.specs.Tops.{final_top}
-use Rattle.cw_progress.specs.Views.{ComeToView, HasRoom, IsInView, IsNewTo}
+use Rattle.cw_progress.specs.Views.{ComeToView, AreViewsLeft, IsInView, IsNewTo}
 use Rattle.cw_progress.proofs.Able.{all_pass, single_able}
 use Rattle.cw_progress.proofs.Ends.{member_is}
 use Rattle.cw_progress.proofs.HandingAll.{all_above}
@@ -260,7 +258,7 @@ module _ (r : Rules) (w : World) (payload : List ℕ) where
 module _ (r : Rules) (script : List Line) (w : World) (none : r.epochs.span ≡ None)
     (cluster : IsCluster r script) (clear : ReachesClear r script w)
     (coder : r.travel ≡ Chunked → IsCoder r) (pos : 0 < r.backlog) (payload : List ℕ)
-    (welcome : IsWelcome r payload) (room : HasRoom r w) (stocked : is_stocked w ≡ true) where
+    (welcome : IsWelcome r payload) (room : AreViewsLeft r w) (stocked : is_stocked w ≡ true) where
   -- lines that help by which the cluster goes on
   record GoesBy : Type 0 where
     more : List Line
@@ -544,7 +542,7 @@ module _ (r : Rules) (script : List Line) (w : World) (none : r.epochs.span ≡ 
 -- a cluster that is able goes on by lines that help, or twins are shown
 pub able_goes_on : (r : Rules) (script : List Line) (w : World) → r.epochs.span ≡ None
     → IsCluster r script → ReachesClear r script w → (r.travel ≡ Chunked → IsCoder r)
-    → 0 < r.backlog → (payload : List ℕ) → IsWelcome r payload → HasRoom r w
+    → 0 < r.backlog → (payload : List ℕ) → IsWelcome r payload → AreViewsLeft r w
     → is_able r w ≡ true
     → (more : List Line) × AllByRecursion (λ line. helps w payload line ≡ true) more
     × ((goes_on r w more ≡ true) ⊎ (shows_twins r w payload more ≡ true))

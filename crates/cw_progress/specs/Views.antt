@@ -68,7 +68,7 @@ pub record ComeToView (r : Rules) (w : World) (allowed : Line → Bool) (view : 
   pub each : (i : ℕ) (m : Member) → member_at w i ≡ Some m → IsNewTo after i view
 
 -- views are left: from that of each honest member on, twice as many as the first epoch has members
-abbrev pub HasRoom : Rules → World → Type 0
-HasRoom r w =
+abbrev pub AreViewsLeft : Rules → World → Type 0
+AreViewsLeft r w =
     (i : ℕ) (m : Member) → member_at w i ≡ Some m
     → view_of (member_notes m) 0 + 2 * size r.epochs 0 < 2 ^ 64 - 1

@@ -7,19 +7,27 @@ ghost use Rattle.cw_rules.specs.Reached.{IsCluster, ReachesClear};
 ghost use Rattle.cw_rules.specs.Rules.{Rules};
 ghost use Rattle.cw_rules.specs.World.{Line, World};
 ghost use Rattle.cw_rules.specs.declared.travel.Travel.TheVariants.{Chunked};
-ghost use Rattle.cw_progress.specs.Going.{goes_on, helps, is_able, shows_twins};
+ghost use Rattle.cw_progress.specs.Going.{goes_on, helps, is_able, keeps_all, shows_twins};
 ghost use Rattle.cw_progress.specs.Offered.{IsWelcome};
-ghost use Rattle.cw_progress.specs.Views.{HasRoom};
+ghost use Rattle.cw_progress.specs.Views.{AreViewsLeft};
 
 /// In one epoch without end a cluster that is able is never stuck, wherever a script has brought it
 /// without a clash, however blocks travel. The application must accept blocks of this payload, and
 /// views must be left. Then there are lines that help by which each honest member hands out a block
 /// above all that any of them knew to be final, and the cluster is able again; or they show twins.
 pub fn goes_on_law()
-    ensures { (r : Rules) (script : List Line) (w : World) → r.epochs.span ≡ None
+    // where no block is gone that is still to be handed out
+    ensures able { (r : Rules) (script : List Line) (w : World) → r.epochs.span ≡ None
         → IsCluster r script → ReachesClear r script w → (r.travel ≡ Chunked → IsCoder r)
-        → 0 < r.backlog → (payload : List ℕ) → IsWelcome r payload → HasRoom r w
+        → 0 < r.backlog → (payload : List ℕ) → IsWelcome r payload → AreViewsLeft r w
         → IsTrue (is_able r w)
+        → (more : List Line) × AllByRecursion (λ line. IsTrue (helps w payload line)) more
+        × (IsTrue (goes_on r w more) ⊎ IsTrue (shows_twins r w payload more)) }
+    // so always, where the script let no block go and gave up no height
+    ensures always { (r : Rules) (script : List Line) (w : World) → r.epochs.span ≡ None
+        → IsCluster r script → ReachesClear r script w → (r.travel ≡ Chunked → IsCoder r)
+        → 0 < r.backlog → (payload : List ℕ) → IsWelcome r payload → AreViewsLeft r w
+        → AllByRecursion (λ line. IsTrue (keeps_all line)) script
         → (more : List Line) × AllByRecursion (λ line. IsTrue (helps w payload line)) more
         × (IsTrue (goes_on r w more) ⊎ IsTrue (shows_twins r w payload more)) }
 {}

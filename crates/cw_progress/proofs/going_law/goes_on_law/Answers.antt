@@ -1,5 +1,12 @@
+use Rattle.cw_progress.proofs.Able.{always_able}
 use Rattle.cw_progress.proofs.GoesOn.{able_goes_on}
+use Rattle.cw_progress.proofs.Paths.{clear_reaches}
 use Rattle.cw_progress.proofs.going_law.goes_on_law.Goals as goal
 
-pub returns : goal.returns
-returns c = able_goes_on
+pub returns-clause-able : goal.returns-clause-able
+returns-clause-able c = able_goes_on
+
+pub returns-clause-always : goal.returns-clause-always
+returns-clause-always c r script w none cluster clear coder pos payload welcome room keeps =
+    able_goes_on r script w none cluster clear coder pos payload welcome room
+    (always_able r script w cluster keeps (clear_reaches r script w clear))
