@@ -1,30 +1,32 @@
 -- In one epoch without end a cluster that is able goes on, or twins are shown.
-use Rattle.std.proofs.Common.{◌≡◌, ℕ, suc, ◌+◌, ◌-◌, ◌*◌, ◌/◌, ◌%◌, ◌<◌, ◌≤◌, ◌^◌, true, false, ◌==◌, nat_lt, List, [], ◌∷◌, ◌++◌, Option, Some, None, length, map, option_map, slice_get, unwrap_or, refl, sym, ◌∙◌, ap, subst, inl, inr, ◌⊎◌, arith, append_assoc, append-nil, div-add-mod', mod-lt, eq-eqb, lt-ltb}
+use Rattle.std.proofs.Common.{◌≡◌, ℕ, suc, ◌+◌, ◌-◌, ◌*◌, ◌/◌, ◌%◌, ◌<◌, ◌≤◌, ◌^◌, true, false, ◌==◌, nat_lt, List, [], ◌∷◌, ◌++◌, Option, Some, None, length, map, option_map, slice_get, unwrap_or, refl, sym, ◌∙◌, ap, subst, inl, inr, ◌⊎◌, arith, append_assoc, append-nil, div-add-mod', mod-lt, eq-eqb, lt-ltb, option_and_then, zero}
 use Rattle.std.specs.List.{AllByRecursion, enumerate_from, list_all, list_any}
 use Rattle.std.specs.Option.{option_map_or}
-use Rattle.std.proofs.lemmas.Bool.{and_from, and_parts, cases_Bool, false≢true}
+use Rattle.std.proofs.lemmas.Bool.{and_from, and_parts, cases_Bool, cases_eq, false≢true}
 use Rattle.std.proofs.lemmas.Nat.{mod-mul-add}
 use Rattle.std.proofs.lemmas.Option.{same_Some}
+use Rattle.cw_types.specs.declared.event.Event.{Event}
 use Rattle.cw_types.specs.declared.event.Handed.{Handed}
 use Rattle.cw_types.specs.declared.note.Note.{Note}
 use Rattle.cw_types.specs.declared.vote.Proposal.{Proposal}
+use Rattle.cw_types.specs.declared.vote.Vote.{Vote}
 use Rattle.cw_types.specs.declared.vote.Vote.TheVariants.{Notarize, Nullify}
 use Rattle.cw_types.specs.Block.{Block}
 use Rattle.cw_types.specs.Epochs.{leader, members_in, size}
 use Rattle.cw_types.specs.Numbers.{quorum}
-use Rattle.cw_rules.specs.Chains.{Ends, outcome}
+use Rattle.cw_rules.specs.Chains.{Clashes, Ends, Outcome, outcome}
 use Rattle.cw_rules.specs.Coding.{IsCoder}
 use Rattle.cw_rules.specs.Fits.{block_fits}
 use Rattle.cw_rules.specs.Notes.{has_vote, is_vote, view_of}
 use Rattle.cw_rules.specs.Owed.{closes, has_closed}
 use Rattle.cw_rules.specs.Reached.{In, IsCluster, ReachesClear}
 use Rattle.cw_rules.specs.Rules.{Rules}
-use Rattle.cw_rules.specs.Step.{Member, Stepped, member_notes}
-use Rattle.cw_rules.specs.World.{Ask, Cut, Do, Faulty, Line, Restart, Sent, World, done_by, fault_sends, happens, member_at, run, sent_now, with_done}
+use Rattle.cw_rules.specs.Step.{Member, Stepped, member_notes, nothing_came, step}
+use Rattle.cw_rules.specs.World.{Ask, Cut, Do, Faulty, Line, Restart, Sent, World, done_by, fault_sends, happens, member_at, run, sent_now, signed, turned, with_done}
 use Rattle.cw_rules.specs.declared.travel.Travel.TheVariants.{Chunked}
 use Rattle.cw_rules.proofs.Lists.{all_both}
 use Rattle.cw_rules.proofs.NoteLemmas.{vote_note}
-use Rattle.cw_progress.specs.Going.{can_enter, ends_able, goes_on, handed_of, helps, is_able, is_stocked, known_top, newest_epoch, numbered_members, shows_twins, twins_in}
+use Rattle.cw_progress.specs.Going.{GoesOnTimes, can_enter, ends_able, goes_on, handed_of, helps, is_able, is_stocked, known_top, newest_epoch, numbered_members, shows_twins, twins_in}
 use Rattle.cw_progress.specs.Handing.{AllHandAbove, CanHandUpTo, is_ack}
 use Rattle.cw_progress.specs.Offered.{ComeToOffer, ComeToVotes, ComesToTwins, IsWelcome}
 use Rattle.cw_progress.specs.Over.{ComesToClash, is_honest_line}
@@ -33,21 +35,27 @@ use Rattle.cw_progress.specs.Tops.{final_top}
 use Rattle.cw_progress.specs.Views.{ComeToView, AreViewsLeft, IsInView, IsNewTo}
 use Rattle.cw_progress.proofs.Able.{all_pass, single_able}
 use Rattle.cw_progress.proofs.Ends.{member_is}
+use Rattle.cw_progress.proofs.Further.{run_both}
+use Rattle.cw_progress.proofs.Over.{member_done}
 use Rattle.cw_progress.proofs.HandingAll.{all_above}
 use Rattle.cw_progress.proofs.NewView.{new_view}
 use Rattle.cw_progress.proofs.OneView.{BestAmong, NoneAmong, best_among, numbered, numbers}
 use Rattle.cw_progress.proofs.Outs.{filter_from, mapped_from}
 use Rattle.cw_progress.proofs.Paths.{Path, clear_on, clear_reaches, ends_run, outcome_both}
+use Rattle.cw_progress.proofs.Quiet.{IsBy}
 use Rattle.cw_progress.proofs.Quorum.{any_in, in_any}
-use Rattle.cw_progress.proofs.Rounds.{honest_there, is_honest, voters, voters_enough}
+use Rattle.cw_progress.proofs.Rounds.{Brings, here_way, honest_there, is_honest, voters, voters_enough}
 use Rattle.cw_progress.proofs.SettlingCertified.{certify, top_grows}
 use Rattle.cw_progress.proofs.SettlingFinal.{finalize}
 use Rattle.cw_progress.proofs.SettlingHeld.{hold}
 use Rattle.cw_progress.proofs.SettlingStocked.{lines_back, lines_later, stocked_stays}
+use Rattle.cw_progress.proofs.SettlingViews.{near_way}
 use Rattle.cw_progress.proofs.Stages.{Later, helps_honest}
 use Rattle.cw_progress.proofs.Tops.{greatest_low}
+use Rattle.cw_progress.proofs.Turns.{turn_way}
+use Rattle.cw_progress.proofs.Voting.{other_same, turn_goes}
 use Rattle.cw_progress.proofs.OfferVotes.{all_notarize}
-use Rattle.cw_progress.proofs.Ways.{all_so, helps_before}
+use Rattle.cw_progress.proofs.Ways.{NoVote, all_so, goes_then, helps_before}
 
 -- ---- a view that a member leads
 
@@ -253,17 +261,103 @@ module _ (r : Rules) (w : World) (payload : List ℕ) where
       let (y, there, later) = lines_later r w payload p.lines p.are w i m at in
       (y, ap (λ v. member_at v i) (ends_run r w u p.lines p.ends) ∙ there, later)
 
+-- ---- acknowledgements
+
+module _ (r : Rules) (none : r.epochs.span ≡ None) (payload : List ℕ) where
+  -- each honest member is live, and nothing has come to it
+  abbrev AreQuiet : World → Type 0
+  AreQuiet u =
+      (k : ℕ) (y : Member) → member_at u k ≡ Some y
+      → (y.live ≡ true) × (y.came ≡ nothing_came)
+
+  abbrev AfterAcks : List Line → World → World → Type 0
+  AfterAcks acks u v = v ≡ run r u acks
+
+  abbrev AllAcked : List Line → Type 0
+  AllAcked acks =
+      AllByRecursion (λ line. is_ack line ≡ true) acks → (script : List Line) (u : World)
+      → IsCluster r script → ReachesClear r script u → AreQuiet u
+      → Brings r none payload NoVote u (AfterAcks acks u)
+
+  acked : (acks : List Line) → AllAcked acks
+  acked [] are script u cluster clear quiet =
+      here_way r none payload NoVote script u cluster clear (AfterAcks [] u) refl
+  acked (Do i Ask.Ack ∷ acks) are script u cluster clear quiet =
+      by_there (member_at u i) refl (acked acks)
+    where
+      land : (v : World) → happens r u (Do i Ask.Ack) ≡ v
+          → Brings r none payload NoVote v (AfterAcks acks v)
+          → Brings r none payload NoVote v (AfterAcks (Do i Ask.Ack ∷ acks) u)
+      land v same (inr clash) = inr clash
+      land v same (inl g) =
+          inl (record {
+            world = g.world;
+            way = g.way;
+            holds = g.holds ∙ ap (λ z. run r z acks) (sym same);
+          })
+
+      turn : (n : Member) → member_at u i ≡ Some n → AllAcked acks
+          → Brings r none payload NoVote u (AfterAcks (Do i Ask.Ack ∷ acks) u)
+      turn n e later =
+          goes_then r payload NoVote u (λ v. v ≡ with_done u i done)
+          (AfterAcks (Do i Ask.Ack ∷ acks) u)
+          (turn_way r payload (λ b. ⊥) NoVote (λ k p h. h) by_none script u cluster clear i n e
+          (quiet i n e).0 Ask.Ack Event.Ack refl refl (λ p. p) (λ h f. cc f) (λ v f. cc f)
+          (λ y inside.
+          subst (λ z. In y z.ballots) (quiet i n e).1 inside))
+          (λ v way same. land v (goes ∙ sym same)
+          (later are.1 way.path.script v way.path.cluster way.path.clear (quiet_then v same)))
+        where
+          done : Stepped
+          done = step r i (signed u) n Event.Ack
+
+          by_none : (v : Vote) → IsBy (λ b. ⊥) v → ⊥
+          by_none v (b, h, e) = h
+
+          goes : happens r u (Do i Ask.Ack) ≡ with_done u i done
+          goes = turn_goes r u i n Ask.Ack Event.Ack e (quiet i n e).0 refl
+
+          quiet_then : (v : World) → v ≡ with_done u i done → AreQuiet v
+          quiet_then v same k y at = go (cases_eq i k)
+            where
+              here : member_at (with_done u i done) k ≡ Some y
+              here = ap (λ z. member_at z k) (sym same) ∙ at
+
+              go : (i ≡ k) ⊎ (i ≡ k → ⊥) → (y.live ≡ true) × (y.came ≡ nothing_came)
+              go (inl one) =
+                  subst (λ (q : Member). (q.live ≡ true) × (q.came ≡ nothing_came))
+                  (same_Some done.member y
+                  (sym (member_done u i n done e)
+                  ∙ (ap (member_at (with_done u i done)) one ∙ here)))
+                  (refl, (quiet i n e).1)
+              go (inr ne) = quiet k y (sym (other_same u i done k ne) ∙ here)
+
+      by_there : (o : Option Member) → member_at u i ≡ o
+          → AllAcked acks
+          → Brings r none payload NoVote u (AfterAcks (Do i Ask.Ack ∷ acks) u)
+      by_there None e later =
+          land u
+          (ap (λ o. option_map_or (with_done u i) o u)
+          (ap (option_and_then (turned r u i (Do i Ask.Ack))) e))
+          (later are.1 script u cluster clear quiet)
+      by_there (Some n) e later = turn n e later
+  acked (_ ∷ acks) are script u cluster clear quiet = absurd (false≢true are.0)
+
 -- ---- one block more
 
 module _ (r : Rules) (script : List Line) (w : World) (none : r.epochs.span ≡ None)
     (cluster : IsCluster r script) (clear : ReachesClear r script w)
     (coder : r.travel ≡ Chunked → IsCoder r) (pos : 0 < r.backlog) (payload : List ℕ)
-    (welcome : IsWelcome r payload) (room : AreViewsLeft r w) (stocked : is_stocked w ≡ true) where
+    (welcome : IsWelcome r payload) (base : ℕ)
+    (views : (i : ℕ) (m : Member) → member_at w i ≡ Some m → view_of (member_notes m) 0 ≤ base)
+    (room : base + 2 * size r.epochs 0 < 2 ^ 64 - 1) (stocked : is_stocked w ≡ true) where
   -- lines that help by which the cluster goes on
   record GoesBy : Type 0 where
     more : List Line
     are : AllByRecursion (λ line. helps w payload line ≡ true) more
     goes : goes_on r w more ≡ true
+    near : (i : ℕ) (y : Member) → member_at (run r w more) i ≡ Some y
+        → view_of (member_notes y) 0 ≤ base + 2 * size r.epochs 0 + 4
 
   abbrev IsGoing : Type 0
   IsGoing = GoesBy ⊎ ComesToTwins r w payload
@@ -282,9 +376,13 @@ module _ (r : Rules) (script : List Line) (w : World) (none : r.epochs.span ≡ 
 
   -- it hands out what all hold
   by_hand : (u : World) → IsAt u → (top : ℕ) → known_top r w < top
-      → ((i : ℕ) (m : Member) → member_at u i ≡ Some m → CanHandUpTo r m top) → IsGoing
-  by_hand u p top higher can =
-      land
+      → ((i : ℕ) (m : Member) → member_at u i ≡ Some m → CanHandUpTo r m top)
+      → AreQuiet r none payload u
+      → ((i : ℕ) (m : Member) → member_at u i ≡ Some m
+      → view_of (member_notes m) 0 ≤ base + 2 * size r.epochs 0 + 3)
+      → IsGoing
+  by_hand u p top higher can quiet low =
+      by_acks
       (all_above r script w cluster (clear_reaches r script w clear) pos p.lines
       (all_so (λ line. helps w payload line ≡ true) (λ line. is_honest_line line ≡ true)
       (helps_honest w payload) p.lines p.are)
@@ -294,8 +392,10 @@ module _ (r : Rules) (script : List Line) (w : World) (none : r.epochs.span ≡ 
       goes : u ≡ run r w p.lines
       goes = ends_run r w u p.lines p.ends
 
-      land : AllHandAbove r w p.lines → IsGoing
-      land a =
+      land : (a : AllHandAbove r w p.lines)
+          → Brings r none payload NoVote u (AfterAcks r none payload a.acks u) → IsGoing
+      land a (inr clash) = inr (clash_on r w payload u p clash)
+      land a (inl g) =
           inl (record {
             more = lines;
             are = are;
@@ -315,6 +415,20 @@ module _ (r : Rules) (script : List Line) (w : World) (none : r.epochs.span ≡ 
                 let (x, there, high) = a.each at.0 at.1 (there_at w at inside) in
                 in_any (λ (y : Handed). nat_lt (known_top r w) y.height)
                 (handed_of r w at.0 lines) x there (lt-ltb (known_top r w) x.height high)));
+            near =
+                λ i y at.
+                let le =
+                near_way r none payload p.script u p.cluster p.clear NoVote
+                (λ top i m at all. record {
+                  proposals = λ q h. absurd h;
+                  ends = λ v h x e. absurd h;
+                })
+                g.world g.way (base + 2 * size r.epochs 0 + 3) low i y
+                (ap (λ v. member_at v i)
+                (g.holds
+                ∙ (ap (λ v. run r v a.acks) goes ∙ sym (run_both r w p.lines a.acks)))
+                ∙ at) in
+                omega (arith, le);
           })
         where
           lines : List Line
@@ -325,13 +439,19 @@ module _ (r : Rules) (script : List Line) (w : World) (none : r.epochs.span ≡ 
               all_both (λ line. helps w payload line ≡ true) p.lines a.acks p.are
               (acks_help a.acks a.are)
 
+      by_acks : AllHandAbove r w p.lines → IsGoing
+      by_acks a = land a (acked r none payload a.acks a.are p.script u p.cluster p.clear quiet)
+
   module _ (x : ℕ) (m : Member) (at : member_at w x ≡ Some m) where
     -- from where all know a block to be final
     by_final : (u : World) → IsAt u → (p : Proposal) (b : Block)
         → ((i : ℕ) (n : Member) → member_at w i ≡ Some n
         → final_top r (member_notes n) < b.height)
-        → ((i : ℕ) (n : Member) → member_at u i ≡ Some n → KnowsFinal r u p b i) → IsGoing
-    by_final u q p b higher each =
+        → ((i : ℕ) (n : Member) → member_at u i ≡ Some n → KnowsFinal r u p b i)
+        → ((i : ℕ) (n : Member) → member_at u i ≡ Some n
+        → view_of (member_notes n) 0 ≤ base + 2 * size r.epochs 0 + 2)
+        → IsGoing
+    by_final u q p b higher each low =
         land
         (hold r q.script u none q.cluster q.clear payload
         (subst (λ v. is_stocked v ≡ true) (sym (ends_run r w u q.lines q.ends))
@@ -345,11 +465,25 @@ module _ (r : Rules) (script : List Line) (w : World) (none : r.epochs.span ≡ 
         land (inl k) =
             by_hand k.after next b.height
             (top_below r w b.height (let lt = higher x m at in omega (arith, lt)) higher)
+            (λ i n there. can i n there (before i n there))
+            (λ i n there. quiet i n there (before i n there))
             (λ i n there.
-            can i n there
-            (lines_back r u payload k.lines k.are u i n
-            (ap (λ v. member_at v i) (sym (ends_run r u k.after k.lines k.ends)) ∙ there)))
+            let le = k.near (base + 2 * size r.epochs 0 + 2) low i n there in omega (arith, le))
           where
+            before : (i : ℕ) (n : Member) → member_at k.after i ≡ Some n
+                → (y : Member) × (member_at u i ≡ Some y)
+            before i n there =
+                lines_back r u payload k.lines k.are u i n
+                (ap (λ v. member_at v i) (sym (ends_run r u k.after k.lines k.ends)) ∙ there)
+
+            quiet : (i : ℕ) (n : Member) → member_at k.after i ≡ Some n
+                → ((y : Member) × (member_at u i ≡ Some y))
+                → (n.live ≡ true) × (n.came ≡ nothing_came)
+            quiet i n there (y, then) =
+                let h = k.each i y then in
+                subst (λ (z : Member). (z.live ≡ true) × (z.came ≡ nothing_came))
+                (same_Some h.member n (sym h.there ∙ there)) (h.can.live, h.nothing)
+
             next : IsAt k.after
             next = onward r w payload u k.after q k.lines k.are k.ends
 
@@ -364,8 +498,11 @@ module _ (r : Rules) (script : List Line) (w : World) (none : r.epochs.span ≡ 
     by_certified : (u : World) → IsAt u → (p : Proposal) (b : Block)
         → ((i : ℕ) (n : Member) → member_at w i ≡ Some n
         → final_top r (member_notes n) < b.height)
-        → ((i : ℕ) (n : Member) → member_at u i ≡ Some n → HasCertified r u p b i) → IsGoing
-    by_certified u q p b higher each =
+        → ((i : ℕ) (n : Member) → member_at u i ≡ Some n → HasCertified r u p b i)
+        → ((i : ℕ) (n : Member) → member_at u i ≡ Some n
+        → view_of (member_notes n) 0 ≤ base + 2 * size r.epochs 0 + 1)
+        → IsGoing
+    by_certified u q p b higher each low =
         land (finalize r q.script u none q.cluster q.clear payload p b each)
       where
         land : ComeToFinal r u (helps u payload) p b ⊎ ComesToClash r u (helps u payload)
@@ -376,6 +513,8 @@ module _ (r : Rules) (script : List Line) (w : World) (none : r.epochs.span ≡ 
             (λ i n there. knows i
             (lines_back r u payload k.lines k.are u i n
             (ap (λ v. member_at v i) (sym (ends_run r u k.after k.lines k.ends)) ∙ there)))
+            (λ i n there.
+            let le = k.near (base + 2 * size r.epochs 0 + 1) low i n there in omega (arith, le))
           where
             knows : (i : ℕ) → ((y : Member) × (member_at u i ≡ Some y))
                 → KnowsFinal r k.after p b i
@@ -384,8 +523,11 @@ module _ (r : Rules) (script : List Line) (w : World) (none : r.epochs.span ≡ 
     -- from where all have voted for it
     by_backed : (u : World) → IsAt u → (p : Proposal) → p.epoch ≡ 0
         → ((i : ℕ) (n : Member) → member_at u i ≡ Some n → IsBacker r u p i) → (i : ℕ)
-        (n : Member) → member_at u i ≡ Some n → block_fits r (member_notes n) p ≡ true → IsGoing
-    by_backed u q p first each i n there fits =
+        (n : Member) → member_at u i ≡ Some n → block_fits r (member_notes n) p ≡ true
+        → ((i : ℕ) (n : Member) → member_at u i ≡ Some n
+        → view_of (member_notes n) 0 ≤ base + 2 * size r.epochs 0)
+        → IsGoing
+    by_backed u q p first each i n there fits low =
         land (certify r q.script u none q.cluster q.clear payload p first each i n there fits)
       where
         land : ComeToCertified r u (helps u payload) p ⊎ ComesToClash r u (helps u payload)
@@ -397,6 +539,7 @@ module _ (r : Rules) (script : List Line) (w : World) (none : r.epochs.span ≡ 
             (λ j z after. certified j
             (lines_back r u payload k.lines k.are u j z
             (ap (λ v. member_at v j) (sym (ends_run r u k.after k.lines k.ends)) ∙ after)))
+            (k.near (base + 2 * size r.epochs 0) low)
           where
             higher : (z : Member) (j : ℕ)
                 → ((y : Member) × (member_at u j ≡ Some y)
@@ -414,9 +557,10 @@ module _ (r : Rules) (script : List Line) (w : World) (none : r.epochs.span ≡ 
             certified j (y, before) = k.each j y before
 
     -- from where all are in a view that it leads
-    by_view : (view : ℕ) → view < 2 ^ 64 - 1 → leader r.epochs 0 view ≡ x → (u : World)
+    by_view : (view : ℕ) → view < 2 ^ 64 - 1 → view ≤ base + 2 * size r.epochs 0
+        → leader r.epochs 0 view ≡ x → (u : World)
         → IsAt u → ((i : ℕ) (n : Member) → member_at u i ≡ Some n → IsNewTo u i view) → IsGoing
-    by_view view low leads u q each = by_leader (forth r w payload u q x m at)
+    by_view view low near leads u q each = by_leader (forth r w payload u q x m at)
       where
         land : ComeToVotes r u payload view ⊎ ComesToTwins r u payload → IsGoing
         land (inr twins) = inr (twins_on r w payload u q twins)
@@ -428,12 +572,26 @@ module _ (r : Rules) (script : List Line) (w : World) (none : r.epochs.span ≡ 
             (ap (λ v. member_at v i) (sym (ends_run r u o.after o.lines o.ends)) ∙ there)))
             (leader r.epochs 0 view) o.offer.backed.in_view.member o.offer.backed.in_view.there
             o.offer.fits
+            (λ i n there. in_it i n there
+            (lines_back r u payload o.lines o.are u i n
+            (ap (λ v. member_at v i) (sym (ends_run r u o.after o.lines o.ends)) ∙ there)))
           where
             o : ComeToOffer r u payload view
             o = k.offered
 
             p : Proposal
             p = o.proposal
+
+            in_it : (i : ℕ) (n : Member) → member_at o.after i ≡ Some n
+                → ((y : Member) × (member_at u i ≡ Some y))
+                → view_of (member_notes n) 0 ≤ base + 2 * size r.epochs 0
+            in_it i n there (y, before) =
+                let t = o.each i y before in
+                let same =
+                ap (λ (z : Member). view_of (member_notes z) 0)
+                (same_Some t.member n (sym t.there ∙ there)) in
+                let is = t.view_is in
+                omega (arith, near, same, is)
 
             backer : (i : ℕ) (n : Member) → member_at o.after i ≡ Some n
                 → ((y : Member) × (member_at u i ≡ Some y)) → IsBacker r o.after p i
@@ -469,25 +627,20 @@ module _ (r : Rules) (script : List Line) (w : World) (none : r.epochs.span ≡ 
             y (ap (member_at u) leads ∙ there))
 
     -- to a view that it leads
-    by_lead : In x (members_in r.epochs 0) → NoneAmong w (numbers w) ⊎ BestAmong w (numbers w)
-        → IsGoing
-    by_lead h (inl nobody) = absurd (nobody x (numbered w x m at) m at)
-    by_lead h (inr b) =
-        go (leads_soon r (view_of (member_notes b.member) 0) x h)
+    by_lead : In x (members_in r.epochs 0) → IsGoing
+    by_lead h = go (leads_soon r base x h)
       where
-        go : ((view : ℕ) × (view_of (member_notes b.member) 0 < view)
-            × (view ≤ view_of (member_notes b.member) 0 + 2 * size r.epochs 0)
+        go : ((view : ℕ) × (base < view) × (view ≤ base + 2 * size r.epochs 0)
             × (leader r.epochs 0 view ≡ x))
             → IsGoing
         go (view, above, near, leads) =
             land
             (new_view r script w none cluster clear payload view low
             (λ i n there.
-            let best = b.best i (numbered w i n there) n there in omega (arith, best, above)))
+            let le = views i n there in omega (arith, le, above)))
           where
             low : view < 2 ^ 64 - 1
-            low =
-                let left = room b.number b.member b.there in omega (arith, near, left)
+            low = omega (arith, near, room)
 
             land : ComeToView r w (helps w payload) view ⊎ ComesToClash r w (helps w payload)
                 → IsGoing
@@ -507,7 +660,7 @@ module _ (r : Rules) (script : List Line) (w : World) (none : r.epochs.span ≡ 
                     × ReachesClear r longer k.after)
                     → IsGoing
                 by_clear (longer, among, still) =
-                    by_view view low leads k.after q
+                    by_view view low near leads k.after q
                     (λ i n there. new i (back r w payload k.after q i n there))
                   where
                     q : IsAt k.after
@@ -537,7 +690,75 @@ module _ (r : Rules) (script : List Line) (w : World) (none : r.epochs.span ≡ 
           filter_from (is_honest w) (members_in r.epochs 0) x
           (subst (In x) (sym same) (inl refl)) in
           let (m, at) = honest_there w x is in
-          by_lead x m at within (best_among w (numbers w))
+          by_lead x m at within
+
+-- where the cluster is able and views are left for so many blocks, it goes on so many times
+pub goes_on_times : (r : Rules) → r.epochs.span ≡ None → (r.travel ≡ Chunked → IsCoder r)
+    → 0 < r.backlog → (payload : List ℕ) → IsWelcome r payload → (count : ℕ) (script : List Line)
+    (w : World)
+    → IsCluster r script → ReachesClear r script w → (base : ℕ)
+    → ((i : ℕ) (m : Member) → member_at w i ≡ Some m → view_of (member_notes m) 0 ≤ base)
+    → base + count * (2 * size r.epochs 0 + 4) < 2 ^ 64 - 1
+    → is_able r w ≡ true → GoesOnTimes r payload count w
+goes_on_times r none coder pos payload welcome zero script w cluster clear base views room able = tt
+goes_on_times r none coder pos payload welcome (suc count) script w cluster clear base views room
+    able =
+    go
+    (going r script w none cluster clear coder pos payload welcome base views
+    (omega (arith, room, split)) stocked)
+    (goes_on_times r none coder pos payload welcome count)
+  where
+    split : suc count * (2 * size r.epochs 0 + 4)
+        ≡ (2 * size r.epochs 0 + 4) + count * (2 * size r.epochs 0 + 4)
+    split = omega arith
+
+    stocked : is_stocked w ≡ true
+    stocked =
+        (and_parts (is_stocked w) (list_all (can_enter r (newest_epoch w)) (numbered_members w))
+        able).0
+
+    ended : (more : List Line) → (o : Outcome) → outcome r w more ≡ o → ends_able r o ≡ true
+        → (u : World) × (outcome r w more ≡ Ends u) × (is_able r u ≡ true)
+    ended more (Ends u) e h = (u, e, h)
+    ended more (Clashes earlier later) e h = absurd (false≢true h)
+
+    go : IsGoing r script w none cluster clear coder pos payload welcome base views
+        (omega (arith, room, split)) stocked
+        → ((longer : List Line) (u : World) → IsCluster r longer → ReachesClear r longer u
+        → (top : ℕ)
+        → ((i : ℕ) (m : Member) → member_at u i ≡ Some m → view_of (member_notes m) 0 ≤ top)
+        → top + count * (2 * size r.epochs 0 + 4) < 2 ^ 64 - 1
+        → is_able r u ≡ true → GoesOnTimes r payload count u)
+        → GoesOnTimes r payload (suc count) w
+    go (inr t) later = (t.lines, t.are, inr t.shows)
+    go (inl g) later =
+        by_end
+        (ended g.more (outcome r w g.more) refl
+        (and_parts (ends_able r (outcome r w g.more))
+        (list_all
+        (λ (at : ℕ × Member).
+        list_any (λ (x : Handed). nat_lt (known_top r w) x.height) (handed_of r w at.0 g.more))
+        (numbered_members w))
+        g.goes).0)
+      where
+        by_end : ((u : World) × (outcome r w g.more ≡ Ends u) × (is_able r u ≡ true))
+            → GoesOnTimes r payload (suc count) w
+        by_end (u, e, still) =
+            let same : u ≡ run r w g.more = ends_run r w u g.more e in
+            let (longer, among, further) =
+            clear_on r script w (run r w g.more) g.more cluster clear
+            (all_so (λ line. helps w payload line ≡ true) (λ line. is_honest_line line ≡ true)
+            (helps_honest w payload) g.more g.are)
+            (e ∙ ap Ends same) in (
+              g.more,
+              g.are,
+              inl (
+                g.goes,
+                later longer (run r w g.more) among further (base + 2 * size r.epochs 0 + 4)
+                    g.near (omega (arith, room, split))
+                    (subst (λ v. is_able r v ≡ true) same still),
+              ),
+            )
 
 -- a cluster that is able goes on by lines that help, or twins are shown
 pub able_goes_on : (r : Rules) (script : List Line) (w : World) → r.epochs.span ≡ None
@@ -547,15 +768,43 @@ pub able_goes_on : (r : Rules) (script : List Line) (w : World) → r.epochs.spa
     → (more : List Line) × AllByRecursion (λ line. helps w payload line ≡ true) more
     × ((goes_on r w more ≡ true) ⊎ (shows_twins r w payload more ≡ true))
 able_goes_on r script w none cluster clear coder pos payload welcome room able =
-    go
-    (going r script w none cluster clear coder pos payload welcome room
-    (and_parts (is_stocked w) (list_all (can_enter r (newest_epoch w)) (numbered_members w))
-    able).0)
+    by_best (best_among w (numbers w))
   where
-    go : IsGoing r script w none cluster clear coder pos payload welcome room
+    stocked : is_stocked w ≡ true
+    stocked =
         (and_parts (is_stocked w) (list_all (can_enter r (newest_epoch w)) (numbered_members w))
         able).0
-        → (more : List Line) × AllByRecursion (λ line. helps w payload line ≡ true) more
+
+    IsLed : Type 0
+    IsLed =
+        (more : List Line) × AllByRecursion (λ line. helps w payload line ≡ true) more
         × ((goes_on r w more ≡ true) ⊎ (shows_twins r w payload more ≡ true))
-    go (inl g) = (g.more, g.are, inl g.goes)
-    go (inr t) = (t.lines, t.are, inr t.shows)
+
+    from : (base : ℕ)
+        → ((i : ℕ) (m : Member) → member_at w i ≡ Some m → view_of (member_notes m) 0 ≤ base)
+        → base + 2 * size r.epochs 0 < 2 ^ 64 - 1 → IsLed
+    from base views left =
+        go (going r script w none cluster clear coder pos payload welcome base views left stocked)
+      where
+        go : IsGoing r script w none cluster clear coder pos payload welcome base views left stocked
+            → IsLed
+        go (inl g) = (g.more, g.are, inl g.goes)
+        go (inr t) = (t.lines, t.are, inr t.shows)
+
+    by_best : NoneAmong w (numbers w) ⊎ BestAmong w (numbers w) → IsLed
+    by_best (inr b) =
+        from (view_of (member_notes b.member) 0)
+        (λ i n there. b.best i (numbered w i n there) n there) (room b.number b.member b.there)
+    by_best (inl nobody) = by_voters (voters r w) refl (voters_enough r script w cluster clear)
+      where
+        by_voters : (xs : List ℕ) → voters r w ≡ xs
+            → quorum (size r.epochs 0) ≤ length (voters r w) → IsLed
+        by_voters [] same enough =
+            let e = ap (λ (ys : List ℕ). length ys) same in
+            absurd (omega (arith, enough, e, cluster.enough 0))
+        by_voters (x ∷ xs) same enough =
+            let (within, is) =
+            filter_from (is_honest w) (members_in r.epochs 0) x
+            (subst (In x) (sym same) (inl refl)) in
+            let (m, at) = honest_there w x is in
+            absurd (nobody x (numbered w x m at) m at)

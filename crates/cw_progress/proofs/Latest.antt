@@ -425,7 +425,7 @@ module _ (r : Rules) (none : r.epochs.span ≡ None) (script : List Line) (w : W
 
       -- so nobody comes further than one view on
       pub one_on : (payload : List ℕ) (New : Vote → Type 0)
-          → ((q : Proposal) → New (Notarize q) → ⊥)
+          → ((q : Proposal) → New (Notarize q) → q.view ≤ top)
           → ((v : Vote) → New v → (x : ℕ) → ended_by 0 v ≡ Some x → x ≤ top) → (u : World)
           → Way r w payload New u → (i : ℕ) (m : Member) → member_at u i ≡ Some m
           → view_of (member_notes m) 0 ≤ top + 1
@@ -438,7 +438,7 @@ module _ (r : Rules) (none : r.epochs.span ≡ None) (script : List Line) (w : W
           by_source : (q : Proposal) → HasSome w (Notarize q) ⊎ New (Notarize q) → q.view ≤ top
           by_source q (inl s) =
               notarized_low q (cert_stands s.number s.member s.there (Notarize q) s.noted)
-          by_source q (inr n) = absurd (never q n)
+          by_source q (inr n) = never q n
 
           by_vote : (v : Vote) → HasSome w v ⊎ New v → (x : ℕ) → ended_by 0 v ≡ Some x → x ≤ top
           by_vote v (inl s) x e = voted_low v s x e

@@ -38,6 +38,7 @@ pub mod SettlingVotes
 pub mod SettlingCertified
 pub mod SettlingFinal
 pub mod SettlingStocked
+pub mod SettlingViews
 pub mod SettlingDown
 pub mod SettlingHeld
 pub mod OfferParents

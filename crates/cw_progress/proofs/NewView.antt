@@ -263,7 +263,7 @@ module _ (r : Rules) (none : r.epochs.span ≡ None) (payload : List ℕ) (scrip
                           here = g.holds.1;
                           bound =
                               one_on r none script w cluster clear top pos each payload NoVote
-                              (λ q h. h) (λ v h x e. absurd h) g.world
+                              (λ q h. absurd h) (λ v h x e. absurd h) g.world
                               (way_on r payload NoVote w u g.world way g.way);
                           final_view = fin;
                           block = a;

@@ -650,7 +650,7 @@ module _ (r : Rules) (none : r.epochs.span ≡ None) (payload : List ℕ) where
         no_further =
             one_on r none script w cluster clear view pos
             (λ i m at. let e = here i m at in omega (arith, e)) payload (IsNull view)
-            never_notarize null_ends
+            (λ q e. absurd (never_notarize q e)) null_ends
 
         by_told : (u : World) → Way r w payload (IsNull view) u → Told u
             → Brings (IsNull view) u (AreIn r none payload (view + 1))

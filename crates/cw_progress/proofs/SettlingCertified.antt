@@ -12,7 +12,7 @@ use Rattle.cw_types.specs.declared.vote.Vote.{Vote}
 use Rattle.cw_types.specs.declared.vote.Vote.TheVariants.{Finalize, Notarize, Nullify}
 use Rattle.cw_types.specs.Block.{Block}
 use Rattle.cw_types.specs.Epochs.{is_member}
-use Rattle.cw_types.specs.Votes.{well_formed}
+use Rattle.cw_types.specs.Votes.{vote_view, well_formed}
 use Rattle.cw_rules.specs.Chains.{Ends, block_under, outcome}
 use Rattle.cw_rules.specs.Fits.{block_fits}
 use Rattle.cw_rules.specs.Held.{finalization_of, greatest_prune, held}
@@ -46,6 +46,7 @@ use Rattle.cw_progress.proofs.Quiet.{IsFinal}
 use Rattle.cw_progress.proofs.Rising.{certified_held}
 use Rattle.cw_progress.proofs.Rounds.{Brings, here_way}
 use Rattle.cw_progress.proofs.Settling.{all_stands, has_certified_it, has_voted_for_it, rises_more}
+use Rattle.cw_progress.proofs.SettlingViews.{EndsLow, near_fresh}
 use Rattle.cw_progress.proofs.SettlingVoters.{nullifier_belongs}
 use Rattle.cw_progress.proofs.SettlingVotes.{HasIt, IsThat, one_told, sent_later}
 use Rattle.cw_progress.proofs.Stages.{Arrives, Later, later_held, later_in}
@@ -564,6 +565,24 @@ module _ (r : Rules) (none : r.epochs.span ≡ None) (payload : List ℕ) (p : P
               (subst (In (Note.Cert c.cert)) (sym c.joined)
               (in_left (Note.Cert c.cert) c.before c.rest c.noted)))
 
+      -- the votes and certificates that are new end no view
+      low : (top k : ℕ) (x : Member) → member_at w k ≡ Some x
+          → ((j : ℕ) (y : Member) → member_at w j ≡ Some y → view_of (member_notes y) 0 ≤ top)
+          → EndsLow (IsThat (Notarize p)) top
+      low top k x there all = record {
+        proposals =
+            λ q e.
+            let one = ap vote_view e in
+            let view = in_view k x there in
+            let le = all k x there in
+            omega (arith, one, view, le);
+        ends =
+            λ v e y f.
+            let none_ends : ◌≡◌ {A = Option ℕ} None (Some y) =
+            sym (ap (ended_by 0) e) ∙ f in
+            absurd (cc none_ends);
+      }
+
       come_certified : ComeToCertified r w (helps w payload) p ⊎ ComesToClash r w (helps w payload)
       come_certified = go certified
         where
@@ -594,6 +613,9 @@ module _ (r : Rules) (none : r.epochs.span ≡ None) (payload : List ℕ) (p : P
                     ends = outcome_both r w g.world g.way.path.lines lines g.way.path.ends ∙ ends;
                     block = fitted.block;
                     higher = higher_before g.world g.way g.holds fitted;
+                    near =
+                        near_fresh r none payload script w cluster clear (IsThat (Notarize p)) low
+                        g.world g.way lines are fresh;
                     each = λ k x there. by_kept x k (g.way.kept k x there);
                   })
                 where

@@ -1,5 +1,5 @@
 -- In one epoch without end, what all honest members certified comes to be known as final by all of them.
-use Rattle.std.proofs.Common.{◌≡◌, ℕ, ◌≤◌, true, List, [], ◌∷◌, ◌++◌, Option, Some, None, refl, sym, ◌∙◌, ap, subst, inl, inr, ◌⊎◌, arith}
+use Rattle.std.proofs.Common.{◌≡◌, ℕ, ◌≤◌, true, List, [], ◌∷◌, ◌++◌, Option, Some, None, filter_map, refl, sym, ◌∙◌, ap, subst, inl, inr, ◌⊎◌, arith}
 use Rattle.std.specs.List.{AllByRecursion}
 use Rattle.std.proofs.lemmas.Option.{same_Some}
 use Rattle.cw_types.specs.declared.message.Message.{Message}
@@ -11,7 +11,7 @@ use Rattle.cw_types.specs.Epochs.{is_member}
 use Rattle.cw_types.specs.Votes.{vote_view, well_formed}
 use Rattle.cw_rules.specs.Chains.{Ends, outcome}
 use Rattle.cw_rules.specs.Held.{held}
-use Rattle.cw_rules.specs.Notes.{has_cert, has_vote}
+use Rattle.cw_rules.specs.Notes.{ended, ended_by, has_cert, has_certified, has_vote, view_of}
 use Rattle.cw_rules.specs.Reached.{In, IsCluster, ReachesClear, members_of}
 use Rattle.cw_rules.specs.Rules.{Rules}
 use Rattle.cw_rules.specs.Stands.{Stands}
@@ -23,16 +23,20 @@ use Rattle.cw_progress.specs.Going.{helps}
 use Rattle.cw_progress.specs.Over.{ComesToClash}
 use Rattle.cw_progress.specs.Settling.{ComeToFinal, HasCertified, KnowsFinal}
 use Rattle.cw_progress.proofs.Certifies.{keeps, lawful}
+use Rattle.cw_progress.proofs.Ends.{certified_in_notes, ends_here, ends_tell}
 use Rattle.cw_progress.proofs.Fresh.{all_fresh}
 use Rattle.cw_progress.proofs.Latest.{final_first}
 use Rattle.cw_progress.proofs.Noted.{noted_sent}
 use Rattle.cw_progress.proofs.OneView.{numbered, numbers}
+use Rattle.cw_progress.proofs.Outs.{mapped_in}
 use Rattle.cw_progress.proofs.Paths.{clear_reaches, outcome_both}
 use Rattle.cw_progress.proofs.Rounds.{here_way}
 use Rattle.cw_progress.proofs.Settling.{all_stands}
 use Rattle.cw_progress.proofs.SettlingCertified.{cert_later}
+use Rattle.cw_progress.proofs.SettlingViews.{EndsLow, near_fresh}
 use Rattle.cw_progress.proofs.SettlingVotes.{AreSent, HasIt, IsThat, Leads, one_told, sent_later}
 use Rattle.cw_progress.proofs.Stages.{Later, later_held}
+use Rattle.cw_progress.proofs.Tops.{in_greatest}
 use Rattle.cw_progress.proofs.Valid.{stands_formed, vote_in}
 use Rattle.cw_progress.proofs.Ways.{HasSome, Way, all_so, goes_then, helps_before}
 
@@ -175,6 +179,29 @@ module _ (r : Rules) (script : List Line) (w : World) (none : r.epochs.span ≡ 
             of,
       )
 
+  -- the votes and certificates that are new end the view of the proposal alone
+  low : (top i : ℕ) (m : Member) → member_at w i ≡ Some m
+      → ((k : ℕ) (x : Member) → member_at w k ≡ Some x → view_of (member_notes x) 0 ≤ top)
+      → EndsLow (IsThat (Finalize p)) top
+  low top i m at all = record {
+    proposals = λ q e. cc e;
+    ends =
+        λ v e x f.
+        let k = each i m at in
+        let same : k.member ≡ m = same_Some k.member m (sym k.there ∙ at) in
+        let certified =
+        certified_in_notes p (member_notes m)
+        (subst (λ (q : Member). has_certified (member_notes q) p ≡ true) same k.certified) in
+        let ended_here =
+        in_greatest (filter_map (ended 0) (member_notes m)) p.view
+        (mapped_in (ended 0) (member_notes m) (Note.Certified p) p.view certified
+        (ends_here 0 p.epoch p.view p.view first refl)) in
+        let of = ends_tell 0 p.epoch p.view x (sym (ap (ended_by 0) e) ∙ f) in
+        let is = of.1 in
+        let le = all i m at in
+        omega (arith, ended_here, is, le);
+  }
+
   abbrev IsFinalFor : Type 0
   IsFinalFor =
       ComeToFinal r w (helps w payload) p b ⊎ ComesToClash r w (helps w payload)
@@ -206,6 +233,9 @@ module _ (r : Rules) (script : List Line) (w : World) (none : r.epochs.span ≡ 
                 after = run r g.world lines;
                 ends = outcome_both r w g.world g.way.path.lines lines g.way.path.ends ∙ ends;
                 each = λ i m at. by_kept i m at (g.way.kept i m at);
+                near =
+                    near_fresh r none payload script w cluster clear (IsThat (Finalize p)) low
+                    g.world g.way lines are fresh;
               })
             where
               by_kept : (i : ℕ) (m : Member) → member_at w i ≡ Some m

@@ -44,6 +44,7 @@ use Rattle.cw_progress.proofs.Rounds.{Brings, here_way}
 use Rattle.cw_progress.proofs.SettlingCertified.{cert_later}
 use Rattle.cw_progress.proofs.SettlingDown.{HoldsDown, at_down, down_here, down_later}
 use Rattle.cw_progress.proofs.SettlingStocked.{IsStocked, resume_grows, stocked_tells}
+use Rattle.cw_progress.proofs.SettlingViews.{near_fresh}
 use Rattle.cw_progress.proofs.Stages.{Begins, Later, Stage, begins, cert_goes, later_held, later_in}
 use Rattle.cw_progress.proofs.Tops.{held_stays}
 use Rattle.cw_progress.proofs.Ways.{HasSome, NoVote, Way, all_so, goes_then, helps_before, stage_way}
@@ -720,6 +721,13 @@ module _ (r : Rules) (script : List Line) (w : World) (none : r.epochs.span ≡ 
                 after = run r g.world lines;
                 ends = outcome_both r w g.world g.way.path.lines lines g.way.path.ends ∙ ends;
                 each = λ i m at. by_kept i m at (g.way.kept i m at);
+                near =
+                    near_fresh r none payload script w cluster clear NoVote
+                    (λ top i m at all. record {
+                      proposals = λ q h. absurd h;
+                      ends = λ v h x e. absurd h;
+                    })
+                    g.world g.way lines are fresh;
               })
             where
               by_kept : (i : ℕ) (m : Member) → member_at w i ≡ Some m
@@ -736,6 +744,7 @@ module _ (r : Rules) (script : List Line) (w : World) (none : r.epochs.span ≡ 
                       record {
                         member = f.member;
                         there = f.there;
+                        nothing = f.nothing;
                         can =
                             record {
                               live = f.live;

@@ -9,11 +9,11 @@ use Rattle.cw_rules.specs.Chains.{Ends, outcome}
 use Rattle.cw_rules.specs.Held.{held}
 use Rattle.cw_rules.specs.Notes.{has_cert, has_certified, has_vote}
 use Rattle.cw_rules.specs.Rules.{Rules}
-use Rattle.cw_rules.specs.Step.{Member, member_notes}
+use Rattle.cw_rules.specs.Step.{Member, member_notes, nothing_came}
 use Rattle.cw_rules.specs.World.{Line, World, member_at}
 use Rattle.cw_progress.specs.Handing.{CanHandUpTo}
 use Rattle.cw_progress.specs.Tops.{final_top}
-use Rattle.cw_progress.specs.Views.{IsInView}
+use Rattle.cw_progress.specs.Views.{IsInView, OneViewOn}
 
 -- the honest member is live and in the proposal's view of the first epoch. If it is one of the
 -- epoch's, it has voted to notarize the proposal, and hasn't voted to nullify that view
@@ -51,6 +51,7 @@ pub record ComeToCertified (r : Rules) (w : World) (allowed : Line → Bool)
   pub higher : (i : ℕ) (m : Member) → member_at w i ≡ Some m
       → final_top r (member_notes m) < block.height
   pub each : (i : ℕ) (m : Member) → member_at w i ≡ Some m → HasCertified r after p block i
+  pub near : OneViewOn w after
 
 -- the honest member is live, knows the proposal to be finalized, and holds its block
 pub record KnowsFinal (r : Rules) (w : World) (p : Proposal) (b : Block) (i : ℕ) : Type 0 where
@@ -72,12 +73,15 @@ pub record ComeToFinal (r : Rules) (w : World) (allowed : Line → Bool) (p : Pr
   pub after : World
   pub ends : outcome r w lines ≡ Ends after
   pub each : (i : ℕ) (m : Member) → member_at w i ≡ Some m → KnowsFinal r after p b i
+  pub near : OneViewOn w after
 
--- the honest member can hand out what it still has to hand out up to that height
+-- the honest member can hand out what it still has to hand out up to that height, and nothing has
+-- come to it since its start
 pub record HoldsUpTo (r : Rules) (w : World) (top : ℕ) (i : ℕ) : Type 0 where
   pub member : Member
   pub there : member_at w i ≡ Some member
   pub can : CanHandUpTo r member top
+  pub nothing : member.came ≡ nothing_came
 
 -- such lines alone lead without a clash to a world in which each honest member holds what it still
 -- has to hand out up to that height
@@ -87,3 +91,4 @@ pub record ComeToHold (r : Rules) (w : World) (allowed : Line → Bool) (top : �
   pub after : World
   pub ends : outcome r w lines ≡ Ends after
   pub each : (i : ℕ) (m : Member) → member_at w i ≡ Some m → HoldsUpTo r after top i
+  pub near : OneViewOn w after
