@@ -154,7 +154,7 @@ tame_heights before (Note.Epoch x c ∷ ns) e = tame_heights (before ++ Note.Epo
 
 -- ---- tests of all honest members
 
-all_pass : {X : Type 0} (p : X → Bool) (xs : List X) → ((x : X) → In x xs → p x ≡ true)
+pub all_pass : {X : Type 0} (p : X → Bool) (xs : List X) → ((x : X) → In x xs → p x ≡ true)
     → list_all p xs ≡ true
 all_pass p [] f = refl
 all_pass p (x ∷ xs) f =
@@ -169,7 +169,7 @@ numbered_from low (x ∷ xs) i o (inr h) =
     let (k, at) = numbered_from (low + 1) xs i o h in (suc k, at)
 
 -- each numbered member is an honest one
-is_there : (w : World) (at : ℕ × Member) → In at (numbered_members w)
+pub is_there : (w : World) (at : ℕ × Member) → In at (numbered_members w)
     → (k : ℕ) × (slice_get w.members k ≡ Some (Some at.1))
 is_there w at h = go (mapped_from pick (enumerate_from 0 w.members) at h)
   where

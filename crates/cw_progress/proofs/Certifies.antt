@@ -86,7 +86,7 @@ entered_note (Note.Floor x) e h = cc h
 entered_note (Note.Prune x) e h = cc h
 
 -- a block that is noted is found
-block_found : (c : Commitment) (notes : List Note) → has_block notes c ≡ true
+pub block_found : (c : Commitment) (notes : List Note) → has_block notes c ≡ true
     → (b : Block) × (first_some (noted_block_of c) notes ≡ Some b)
 block_found c [] h = absurd (false≢true h)
 block_found c (Note.Block d b ∷ ns) h = go (same_commitment c d) h (block_found c ns)
@@ -284,7 +284,7 @@ module _ (r : Rules) (script : List Line) (w : World) (cluster : IsCluster r scr
 -- ---- what a step comes to
 
 -- a member that has a certificate to notarize a proposal, and a block that fits, has certified it
-step_certifies : (r : Rules) (id : ℕ) (sign : ℕ → Vote → Bool) (n : Member) (e : Event)
+pub step_certifies : (r : Rules) (id : ℕ) (sign : ℕ → Vote → Bool) (n : Member) (e : Event)
     (p : Proposal)
     → has_cert (member_notes (step r id sign n e).member) (Notarize p) ≡ true
     → block_fits r (member_notes (step r id sign n e).member) p ≡ true

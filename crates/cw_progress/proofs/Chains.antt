@@ -73,7 +73,7 @@ fit_rises r p b c a h = go (fit_cases r p b c a h)
         let high = ap (λ (x : Block). x.height) block in omega (arith, high)
 
 -- what a member noted to be certified or final is settled for it
-settles_so : (r : Rules) (script : List Line) (w : World) (cluster : IsCluster r script)
+pub settles_so : (r : Rules) (script : List Line) (w : World) (cluster : IsCluster r script)
     (clear : ReachesClear r script w) (j : ℕ) (n : Member)
     → member_at w j ≡ Some n → (q : Proposal)
     → (has_certified (member_notes n) q ≡ true) ⊎ (has_cert (member_notes n) (Finalize q) ≡ true)
@@ -128,7 +128,7 @@ settles_so r script w cluster clear j n at q h =
         notes own q.epoch q.view q (refl, refl, h)
 
 -- down the way from what is notarized no view is later
-way_falls : (r : Rules) (w : World) → AreLawful r.epochs (block_fits r) (members_of w)
+pub way_falls : (r : Rules) (w : World) → AreLawful r.epochs (block_fits r) (members_of w)
     → (q : Proposal) → Stands r.epochs (members_of w) (Notarize q) → (way : List Proposal)
     (p : Proposal)
     → LeadsTo r.epochs (members_of w) q way p → p.view ≤ q.view
@@ -633,7 +633,7 @@ module _ (r : Rules) (script : List Line) (w : World) (cluster : IsCluster r scr
     final_lands differ = final_told differ (both_start differ)
 
     -- what is certified above goes over
-    chain_lands : (differ : i ≡ j → ⊥) (p : Proposal) → In (Note.Certified p) (member_notes m)
+    pub chain_lands : (differ : i ≡ j → ⊥) (p : Proposal) → In (Note.Certified p) (member_notes m)
         → p.epoch ≡ epoch → view < p.view → Lands differ (λ notes. has_certified notes p)
     chain_lands differ p said of above = by_start (starts differ (both_start differ))
       where

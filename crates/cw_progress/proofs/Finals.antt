@@ -116,7 +116,7 @@ module _ (r : Rules) (xs ys : List Note)
       go (inr f) = held_same r xs ys c b f h same
 
   -- so what fits does
-  fits_on : (p : Proposal) → block_fits r xs p ≡ true → block_fits r (xs ++ ys) p ≡ true
+  pub fits_on : (p : Proposal) → block_fits r xs p ≡ true → block_fits r (xs ++ ys) p ≡ true
   fits_on p h =
       let f = fitting r xs p h in
       ap (λ o. option_map_or (fits r (xs ++ ys) p) o false) (held_on p.payload f.block f.holds)

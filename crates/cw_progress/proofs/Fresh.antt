@@ -1,21 +1,25 @@
 -- Each honest member can be stopped and started.
-use Rattle.std.proofs.Common.{◌≡◌, ℕ, zero, suc, ◌+◌, ◌<◌, ◌≤◌, Bool, true, false, ◌||◌, ◌==◌, cond, List, [], ◌∷◌, ◌++◌, Option, Some, None, drop, filter_map, flat_map, length, option_and_then, take, refl, sym, ◌∙◌, ap, subst, inl, inr, ◌⊎◌, arith, append_assoc, append-nil, eqb-true, length-append}
+use Rattle.std.proofs.Common.{◌≡◌, ℕ, zero, suc, ◌+◌, ◌<◌, ◌≤◌, Bool, true, false, ◌||◌, ◌==◌, cond, List, [], ◌∷◌, ◌++◌, Option, Some, None, drop, filter_map, flat_map, length, map, option_and_then, take, refl, sym, ◌∙◌, ap, subst, inl, inr, ◌⊎◌, arith, append_assoc, append-nil, eqb-true, length-append}
 use Rattle.std.specs.List.{AllByRecursion, range_with_len}
 use Rattle.std.specs.Option.{option_map_or}
 use Rattle.std.proofs.lemmas.Bool.{cases_Bool, cases_eq, cases_lt, cond-true, cond-false}
 use Rattle.std.proofs.lemmas.Option.{same_Some}
 use Rattle.cw_types.specs.declared.commitment.Commitment.{Commitment}
 use Rattle.cw_types.specs.declared.event.Event.{Event}
+use Rattle.cw_types.specs.declared.event.Handed.{Handed}
 use Rattle.cw_types.specs.declared.message.Message.{Message}
 use Rattle.cw_types.specs.declared.note.Note.{Note}
 use Rattle.cw_types.specs.Block.{Block}
 use Rattle.cw_rules.specs.Chains.{Clashes, Ends, blocks_of, clash_at, first_clash, noted_block, outcome}
+use Rattle.cw_rules.specs.Accepted.{State}
+use Rattle.cw_rules.specs.Held.{next, next_of, resume}
 use Rattle.cw_rules.specs.Reached.{In}
 use Rattle.cw_rules.specs.Rules.{Rules}
 use Rattle.cw_rules.specs.Sends.{missing, to_all}
-use Rattle.cw_rules.specs.Step.{Member, Stepped, add_frame, cut_step, member_notes, start, state_of, step, step_notes, taken}
+use Rattle.cw_rules.specs.Step.{Member, Stepped, add_frame, cut_step, deliveries_within, delivery, member_notes, most_delivered, nothing_came, start, state_of, step, step_notes, taken, with_given, with_handed}
 use Rattle.cw_rules.specs.World.{Ask, Cut, Line, Restart, Sent, World, done_by, happens, line_member, member_at, run, sent_now, signed, turned, with_done}
 use Rattle.cw_rules.proofs.Clashes.{blocks_at, drop_front}
+use Rattle.cw_rules.proofs.Deliveries.{delivery_is, next_given}
 use Rattle.cw_rules.proofs.Worlds.{get-set_same, member_there}
 use Rattle.cw_progress.specs.Fresh.{IsFresh}
 use Rattle.cw_progress.specs.Going.{helps}
@@ -25,6 +29,44 @@ use Rattle.cw_progress.proofs.Outs.{IsNew, new_done, new_lower}
 use Rattle.cw_progress.proofs.Over.{get_below, member_done}
 use Rattle.cw_progress.proofs.Paths.{outcome_both}
 use Rattle.cw_progress.proofs.Voting.{other_same}
+
+-- ---- what a start hands out
+
+-- hand-outs leave the next height no lower
+next_rises : (r : Rules) (steps : ℕ) (s : State)
+    → next s ≤ next (with_handed s (deliveries_within r steps s))
+next_rises r zero s =
+    let e = ap (λ hs. next_of s.notes hs) (append-nil s.given) in omega (arith, e)
+next_rises r (suc steps) s = go (delivery r s) refl (λ t. next_rises r steps t)
+  where
+    by_more : (h : Handed) → delivery r s ≡ Some h
+        → next (with_given s h.height)
+        ≤ next (with_handed (with_given s h.height)
+        (deliveries_within r steps (with_given s h.height)))
+        → next s
+        ≤ next (with_handed s (h ∷ deliveries_within r steps (with_given s h.height)))
+    by_more h e later =
+        let out = deliveries_within r steps (with_given s h.height) in
+        let joined =
+        ap (λ hs. next_of s.notes hs)
+        (append_assoc s.given (h.height ∷ []) (map (λ (x : Handed). x.height) out)) in
+        omega (arith, later, joined, next_given r s h.height, (delivery_is r s h e).1)
+
+    go : (o : Option Handed) → delivery r s ≡ o
+        → ((t : State) → next t ≤ next (with_handed t (deliveries_within r steps t)))
+        → next s
+        ≤ next (with_handed s
+        (option_map_or (λ h. h ∷ deliveries_within r steps (with_given s h.height)) o []))
+    go None e later = let f = ap (λ hs. next_of s.notes hs) (append-nil s.given) in omega (arith, f)
+    go (Some h) e later = by_more h e (later (with_given s h.height))
+
+-- a start hands out from where its notes let it
+start_begins : (r : Rules) (x : ℕ) (frames : List (List Note))
+    → resume (flat_map (λ frame. frame) frames) ≤ next (state_of (start r x frames).member)
+start_begins r x frames =
+    let s : State =
+    record { notes = flat_map (λ frame. frame) frames; came = nothing_came; given = [] } in
+    omega (arith, next_rises r (most_delivered r s) s)
 
 -- ---- a line that brings no block
 
@@ -40,7 +82,7 @@ module _ (r : Rules) where
       own : List Block
       own = blocks_of (take 1 (drop i w.members))
 
-  quiet_ends : (w u : World) (line : Line) → happens r w line ≡ u
+  pub quiet_ends : (w u : World) (line : Line) → happens r w line ≡ u
       → blocks_of (take 1 (drop (line_member line) u.members))
       ≡ blocks_of (take 1 (drop (line_member line) w.members))
       → outcome r w (line ∷ []) ≡ Ends u
@@ -250,6 +292,10 @@ module _ (r : Rules) where
                   live = refl;
                   nothing = refl;
                   same = ap (flat_map (λ frame. frame)) a.frames ∙ ap member_notes one;
+                  begins =
+                      subst (λ ns. resume ns ≤ next (state_of done.member))
+                      (ap (flat_map (λ frame. frame)) a.frames ∙ ap member_notes one)
+                      (start_begins r x a.member.frames);
                 };
             more = a.more ++ sent_now a.world x done.sent;
             pool =
@@ -309,6 +355,7 @@ module _ (r : Rules) where
                 live = f.live;
                 nothing = f.nothing;
                 same = f.same;
+                begins = f.begins;
               }
 
           stays_one : (i : ℕ) (m : Member) → member_at w i ≡ Some m

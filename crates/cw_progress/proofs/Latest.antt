@@ -62,7 +62,7 @@ finalizing_note (Note.Floor x) p h = cc h
 finalizing_note (Note.Prune x) p h = cc h
 finalizing_note (Note.Epoch epoch c) p h = cc h
 
-final_noted : (notes : List Note) (p : Proposal) → In p (filter_map finalization_of notes)
+pub final_noted : (notes : List Note) (p : Proposal) → In p (filter_map finalization_of notes)
     → has_cert notes (Finalize p) ≡ true
 final_noted notes p h =
     let (n, at, e) = mapped_from finalization_of notes p h in
@@ -188,7 +188,7 @@ module _ (r : Rules) (none : r.epochs.span ≡ None) (script : List Line) (w : W
           no_entry i m at x c (subst (λ y. In y (member_notes m)) is inside)
 
   -- what stands notarized is of the first epoch
-  notarized_first : (bound : ℕ) (p : Proposal) → Stands r.epochs (members_of w) (Notarize p)
+  pub notarized_first : (bound : ℕ) (p : Proposal) → Stands r.epochs (members_of w) (Notarize p)
       → p.view < bound → p.epoch ≡ 0
   notarized_first zero p a lt = absurd (omega (arith, lt))
   notarized_first (suc bound) p a lt =
@@ -425,7 +425,7 @@ module _ (r : Rules) (none : r.epochs.span ≡ None) (script : List Line) (w : W
 
       -- so nobody comes further than one view on
       pub one_on : (payload : List ℕ) (New : Vote → Type 0)
-          → ((q : Proposal) → New (Notarize q) → ⊥)
+          → ((q : Proposal) → New (Notarize q) → q.view ≤ top)
           → ((v : Vote) → New v → (x : ℕ) → ended_by 0 v ≡ Some x → x ≤ top) → (u : World)
           → Way r w payload New u → (i : ℕ) (m : Member) → member_at u i ≡ Some m
           → view_of (member_notes m) 0 ≤ top + 1
@@ -438,7 +438,7 @@ module _ (r : Rules) (none : r.epochs.span ≡ None) (script : List Line) (w : W
           by_source : (q : Proposal) → HasSome w (Notarize q) ⊎ New (Notarize q) → q.view ≤ top
           by_source q (inl s) =
               notarized_low q (cert_stands s.number s.member s.there (Notarize q) s.noted)
-          by_source q (inr n) = absurd (never q n)
+          by_source q (inr n) = never q n
 
           by_vote : (v : Vote) → HasSome w v ⊎ New v → (x : ℕ) → ended_by 0 v ≡ Some x → x ≤ top
           by_vote v (inl s) x e = voted_low v s x e

@@ -70,7 +70,7 @@ module _ (r : Rules) (script : List Line) (w : World) (cluster : IsCluster r scr
       omega (arith, seen.1, one, view_front front more epoch)
 
   -- nor is one to notarize
-  notarize_low : (p : Proposal) → has_vote (member_notes m) (Notarize p) ≡ true
+  pub notarize_low : (p : Proposal) → has_vote (member_notes m) (Notarize p) ≡ true
       → p.view ≤ view_of (member_notes m) p.epoch
   notarize_low p h =
       let f =
@@ -263,7 +263,7 @@ module _ (r : Rules) (none : r.epochs.span ≡ None) (payload : List ℕ) (scrip
                           here = g.holds.1;
                           bound =
                               one_on r none script w cluster clear top pos each payload NoVote
-                              (λ q h. h) (λ v h x e. absurd h) g.world
+                              (λ q h. absurd h) (λ v h x e. absurd h) g.world
                               (way_on r payload NoVote w u g.world way g.way);
                           final_view = fin;
                           block = a;

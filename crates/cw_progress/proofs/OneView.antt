@@ -212,7 +212,7 @@ module _ (r : Rules) (none : r.epochs.span ≡ None) (payload : List ℕ) where
 
   module _ (script : List Line) (w : World) (cluster : IsCluster r script)
       (clear : ReachesClear r script w) where
-    stays : (P : World → Type 0) → P w → Leads w P
+    pub stays : (P : World → Type 0) → P w → Leads w P
     stays P h =
         inl (record {
           world = w;
@@ -592,7 +592,7 @@ module _ (r : Rules) (none : r.epochs.span ≡ None) (payload : List ℕ) where
     where
       no_further : (u : World) → Way r w payload NoVote u → (i : ℕ) (m : Member) → member_at u i ≡ Some m
           → view_of (member_notes m) 0 ≤ low + 1
-      no_further = one_on r none script w cluster clear low pos under payload NoVote (λ q h. h)
+      no_further = one_on r none script w cluster clear low pos under payload NoVote (λ q h. absurd h)
           (λ v h x e. absurd h)
 
       -- from where all have come to the greatest view

@@ -138,7 +138,7 @@ cert_over r script w cluster reach i j m n at live there ready s h = record {
 -- ---- a block
 
 -- a block that is one of the notes is among them
-block_has : (c : Commitment) (b : Block) (notes : List Note) → In (Note.Block c b) notes
+pub block_has : (c : Commitment) (b : Block) (notes : List Note) → In (Note.Block c b) notes
     → has_block notes c ≡ true
 block_has c b [] h = absurd h
 block_has c b (n ∷ ns) (inl e) =

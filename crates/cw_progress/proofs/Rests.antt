@@ -61,7 +61,7 @@ or_none None b h = (refl, h)
 or_none (Some x) b h = cc
 
 -- the least of some numbers is one of them
-least_in : (xs : List ℕ) (h : ℕ) → least xs ≡ Some h → In h xs
+pub least_in : (xs : List ℕ) (h : ℕ) → least xs ≡ Some h → In h xs
 least_in [] h e = cc
 least_in (x ∷ xs) h e =
     go (least xs) refl (same_Some (option_map_or (min x) (least xs) x) h e) (least_in xs)
@@ -194,7 +194,7 @@ proposed_plain r id notes payload =
     go epoch view (Some best) = over_plain r notes epoch view payload best
 
 -- an epoch that is owed is a note of one
-epoch_is : (r : Rules) (notes : List Note) (span epoch : ℕ) (note : Note)
+pub epoch_is : (r : Rules) (notes : List Note) (span epoch : ℕ) (note : Note)
     → reached_epoch r notes span epoch ≡ Some note
     → (x : ℕ) × (c : Commitment) × (note ≡ Note.Epoch x c)
 epoch_is r notes span zero note h = cc
@@ -414,7 +414,7 @@ module _ (R : List Note → Note → Type 0) (r : Rules) (id : ℕ) (s : State) 
           subst (R ns) (when_some _ (Note.Block c b) note u).1 (k.of_block ns c b)
       one (inr x) = two x.0 (or_split a2 r2 note x.1)
 
-  settle_each : (steps : ℕ) (ns : List Note) → EachAfter R ns (settle r id steps (noted_as s ns))
+  pub settle_each : (steps : ℕ) (ns : List Note) → EachAfter R ns (settle r id steps (noted_as s ns))
   settle_each zero ns = tt
   settle_each (suc steps) ns =
       go (owed r id (noted_as s ns)) refl (λ note. settle_each steps (ns ++ note ∷ []))

@@ -32,7 +32,7 @@ use Rattle.cw_progress.proofs.Tops.{first_held, held_first, prune_final}
 -- ---- heights
 
 -- a way with one proposal more
-way_on : (r : Rules) (w : World) (done : List Proposal) (q x y : Proposal)
+pub way_on : (r : Rules) (w : World) (done : List Proposal) (q x y : Proposal)
     → LeadsTo r.epochs (members_of w) q done x → Stands r.epochs (members_of w) (Notarize y)
     → y.epoch ≡ x.epoch → y.view ≡ x.parent
     → LeadsTo r.epochs (members_of w) q (done ++ y ∷ []) y
@@ -50,7 +50,7 @@ module _ (r : Rules) (script : List Line) (w : World) (cluster : IsCluster r scr
       go (before, rest, joined, h) = (clear_reached r script before rest w cluster joined h).kept
 
   -- down the way from what is finalized no block is higher
-  way_low : (q : Proposal) → Stands r.epochs (members_of w) (Finalize q)
+  pub way_low : (q : Proposal) → Stands r.epochs (members_of w) (Finalize q)
       → (done way : List Proposal) (x p : Proposal)
       → LeadsTo r.epochs (members_of w) q done x → LeadsTo r.epochs (members_of w) x way p
       → (b a : Block) → block_under r w x.payload ≡ Some b → block_under r w p.payload ≡ Some a

@@ -47,7 +47,7 @@ use Rattle.cw_progress.proofs.Ways.{Goes, NoVote, Way, goes_then, goes_weaker, w
 
 -- ---- a quorum of honest members
 
-get_some : {X : Type 0} (xs : List X) (i : ℕ) → i < length xs
+pub get_some : {X : Type 0} (xs : List X) (i : ℕ) → i < length xs
     → (x : X) × (slice_get xs i ≡ Some x)
 get_some [] i lt = absurd (omega (arith, lt))
 get_some (x ∷ xs) zero lt = (x, refl)
@@ -62,10 +62,10 @@ count_later : (p : ℕ → Bool) (i : ℕ) (is : List ℕ) → count_by p is ≤
 count_later p i is = let e = count-cons p i is in omega (arith, e)
 
 -- the member is honest
-abbrev is_honest : World → ℕ → Bool
+abbrev pub is_honest : World → ℕ → Bool
 is_honest w i = is_some (member_at w i)
 
-honest_there : (w : World) (i : ℕ) → is_honest w i ≡ true
+pub honest_there : (w : World) (i : ℕ) → is_honest w i ≡ true
     → (m : Member) × (member_at w i ≡ Some m)
 honest_there w i h = go (member_at w i) refl h
   where
@@ -121,7 +121,7 @@ honest_many w (x ∷ xs) a = go (get_some w.members x a.0) (honest_many w xs a.1
     go (Some m, e) later = by_some m e later
 
 -- the honest members of the first epoch
-abbrev voters : Rules → World → List ℕ
+abbrev pub voters : Rules → World → List ℕ
 voters r w = filter (is_honest w) (members_in r.epochs 0)
 
 below_all : (low high : ℕ) → low ≤ high → (xs : List ℕ) → AllByRecursion (λ i. i < low) xs
@@ -129,7 +129,7 @@ below_all : (low high : ℕ) → low ≤ high → (xs : List ℕ) → AllByRecur
 below_all low high le [] a = tt
 below_all low high le (x ∷ xs) a = (omega (arith, a.0, le), below_all low high le xs a.1)
 
-voters_enough : (r : Rules) (script : List Line) (w : World) → IsCluster r script
+pub voters_enough : (r : Rules) (script : List Line) (w : World) → IsCluster r script
     → ReachesClear r script w → quorum (size r.epochs 0) ≤ length (voters r w)
 voters_enough r script w cluster clear =
     let kept = (clear_world r script w cluster clear).0 in
@@ -650,7 +650,7 @@ module _ (r : Rules) (none : r.epochs.span ≡ None) (payload : List ℕ) where
         no_further =
             one_on r none script w cluster clear view pos
             (λ i m at. let e = here i m at in omega (arith, e)) payload (IsNull view)
-            never_notarize null_ends
+            (λ q e. absurd (never_notarize q e)) null_ends
 
         by_told : (u : World) → Way r w payload (IsNull view) u → Told u
             → Brings (IsNull view) u (AreIn r none payload (view + 1))

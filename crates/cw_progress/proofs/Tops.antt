@@ -53,7 +53,7 @@ greatest_low [] bound f = omega arith
 greatest_low (x ∷ xs) bound f =
     omega (arith, f x (inl refl), greatest_low xs bound (λ y h. f y (inr h)))
 
-last_in : (o : Option ℕ) (xs : List ℕ) (x : ℕ) → last_or o xs ≡ Some x → (o ≡ Some x) ⊎ In x xs
+pub last_in : (o : Option ℕ) (xs : List ℕ) (x : ℕ) → last_or o xs ≡ Some x → (o ≡ Some x) ⊎ In x xs
 last_in o [] x h = inl h
 last_in o (y ∷ ys) x h = go (last_in (Some y) ys x h)
   where
@@ -61,7 +61,7 @@ last_in o (y ∷ ys) x h = go (last_in (Some y) ys x h)
     go (inl e) = inr (inl (sym (same_Some y x e)))
     go (inr h) = inr (inr h)
 
-from_map : {X Y : Type 0} (f : X → Y) (xs : List X) (y : Y) → In y (map f xs)
+pub from_map : {X Y : Type 0} (f : X → Y) (xs : List X) (y : Y) → In y (map f xs)
     → (x : X) × In x xs × (f x ≡ y)
 from_map f [] y h = absurd h
 from_map f (x ∷ xs) y (inl e) = (x, inl refl, sym e)
@@ -615,6 +615,13 @@ module _ (r : Rules) (script : List Line) where
       (reached_all r script AnyLine (AreFinal r) final_carries w cluster (any_lines script) reach
       i m (member_there w i m at)).notes
       h
+
+  -- each height that one handed out since its start
+  pub given_final : (w : World) → IsCluster r script → Reaches r script w → (i : ℕ) (m : Member)
+      → member_at w i ≡ Some m → (h : ℕ) → In h m.given → h ≤ final_top r (member_notes m)
+  given_final w cluster reach i m at =
+      (reached_all r script AnyLine (AreFinal r) final_carries w cluster (any_lines script) reach i
+      m (member_there w i m at)).given
 
   -- so what was let go is final
   pub prune_final : (w : World) → IsCluster r script → Reaches r script w → (i : ℕ) (m : Member)

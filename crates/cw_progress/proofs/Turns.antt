@@ -48,7 +48,7 @@ sent_on w u more e i o s = record {
 
 module _ (r : Rules) (payload : List ℕ) where
   -- only one member did something
-  single_way : (New : Vote → Type 0) (w u : World) (j : ℕ) (n z : Member)
+  pub single_way : (New : Vote → Type 0) (w u : World) (j : ℕ) (n z : Member)
       → member_at w j ≡ Some n → member_at u j ≡ Some z → Path r w (helps w payload) u
       → (more : List Sent) → u.pool ≡ w.pool ++ more → Later (member_notes n) (member_notes z)
       → ((k : ℕ) → (j ≡ k → ⊥) → member_at u k ≡ member_at w k)
@@ -111,7 +111,7 @@ module _ (r : Rules) (payload : List ℕ) where
           inl (record { number = k; member = y; there = sym (others k d) ∙ h; voted = c })
 
   -- a step that hides no block leaves its notes, and maybe more
-  step_later : (id : ℕ) (sign : ℕ → Vote → Bool) (n : Member) (e : Event)
+  pub step_later : (id : ℕ) (sign : ℕ → Vote → Bool) (n : Member) (e : Event)
       → ((h : ℕ) → e ≡ Event.Prune h → ⊥)
       → Later (member_notes n) (member_notes (step r id sign n e).member)
   step_later id sign n e keeps = record {

@@ -1,6 +1,6 @@
 -- When a cluster can go on, by which lines, and what it is that it goes on.
-use Rattle.std.specs.Prelude.{[], ℕ, ◌&&◌, ◌*◌, ◌++◌, ◌==◌, ◌||◌, ◌∷◌, Bool, List, Option, bytes_eq, false, filter_map, if◌then◌else◌, length, map, nat_le, nat_lt, not, option_map, slice_get, true}
-use Rattle.std.specs.List.{enumerate_from, list_all, list_any}
+use Rattle.std.specs.Prelude.{[], ℕ, ⊤, ◌&&◌, ◌*◌, ◌++◌, ◌==◌, ◌||◌, ◌∷◌, ◌⊎◌, Bool, IsTrue, List, Option, bytes_eq, false, filter_map, if◌then◌else◌, length, map, nat_le, nat_lt, not, option_map, slice_get, suc, true, zero}
+use Rattle.std.specs.List.{AllByRecursion, enumerate_from, list_all, list_any}
 use Rattle.std.specs.Option.{option_map_or}
 use Rattle.cw_types.specs.Block.{Block}
 use Rattle.cw_types.specs.Epochs.{is_member}
@@ -12,7 +12,7 @@ use Rattle.cw_rules.specs.Held.{greatest_floor, greatest_prune, resume}
 use Rattle.cw_rules.specs.Notes.{epoch_of, greatest, view_of}
 use Rattle.cw_rules.specs.Rules.{Rules, genesis}
 use Rattle.cw_rules.specs.Step.{Member, member_notes}
-use Rattle.cw_rules.specs.World.{Ask, Cut, Do, Line, Restart, World, done_by, happens, line_member}
+use Rattle.cw_rules.specs.World.{Ask, Cut, Do, Line, Restart, World, done_by, happens, line_member, run}
 use Rattle.cw_progress.specs.Tops.{final_top}
 
 -- ---- which lines help
@@ -139,3 +139,12 @@ twins_in r payload (Ends after) = builds_twin r payload after
 -- build of this payload where they end
 abbrev pub shows_twins : Rules → World → List ℕ → List Line → Bool
 shows_twins r w payload more = twins_in r payload (outcome r w more)
+
+-- so many blocks, one after the other: by lines that help the cluster goes on, and so from there
+-- again, or they show twins
+abbrev pub GoesOnTimes : Rules → List ℕ → ℕ → World → Type 0
+GoesOnTimes r payload zero w = ⊤
+GoesOnTimes r payload (suc count) w =
+    (more : List Line) × AllByRecursion (λ line. IsTrue (helps w payload line)) more
+    × ((IsTrue (goes_on r w more) × GoesOnTimes r payload count (run r w more))
+    ⊎ IsTrue (shows_twins r w payload more))

@@ -1,8 +1,11 @@
 pub mod Sent
 pub mod Ended
 pub mod Tops
+pub mod Handing
 pub mod Over
 pub mod Going
 pub mod Views
 pub mod Fresh
+pub mod Settling
 pub mod Scenes
+pub mod Offered

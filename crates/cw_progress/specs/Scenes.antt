@@ -7,7 +7,7 @@ use Rattle.cw_types.specs.Epochs.{Epochs, single}
 use Rattle.cw_types.specs.declared.block.Context.{Context}
 use Rattle.cw_rules.specs.Rules.{Rules}
 use Rattle.cw_rules.specs.declared.travel.Travel.TheVariants.{Uncut}
-use Rattle.cw_rules.specs.World.{Cut, Deliver, Do, Faulty, Finalize_of, Floor, Line, Notarize_of, Propose, Restart, Timeout}
+use Rattle.cw_rules.specs.World.{Ack, Cut, Deliver, Do, Faulty, Finalize_of, Floor, Line, Notarize_of, Propose, Restart, Timeout}
 
 abbrev pub text_hash : List ℕ → Digest32
 text_hash xs = record { 0 = xs }
@@ -76,6 +76,14 @@ one_certified_lines = Do 3 (Deliver 4) ∷ Do 1 (Deliver 7) ∷ Do 3 (Deliver 8)
 abbrev pub one_view_lines : List Line
 one_view_lines = one_certified_lines ++ Do 0 (Deliver 4) ∷ Do 2 (Deliver 4) ∷ []
 
+-- ---- an offer
+
+-- member 1, which leads the first view, proposes, and its block and its vote go to each other
+abbrev pub one_offer_lines : List Line
+one_offer_lines =
+    Do 1 (Propose (61 ∷ [])) ∷ Do 0 (Deliver 0) ∷ Do 0 (Deliver 1) ∷ Do 2 (Deliver 0)
+    ∷ Do 2 (Deliver 1) ∷ Do 3 (Deliver 0) ∷ Do 3 (Deliver 1) ∷ []
+
 -- ---- a floor within an epoch that its member hasn't entered
 
 -- four members in epochs of two heights
@@ -105,3 +113,13 @@ floor_within =
 abbrev pub floor_at_the_end : List Line
 floor_at_the_end =
     two_epochs_without_one ++ Do 3 (Floor 17) ∷ Do 1 (Deliver 31) ∷ Do 3 (Deliver 32) ∷ []
+
+-- ---- acknowledgements between hand-outs
+
+-- the same four members, with at most one block pending
+abbrev pub one_pending_rules : Rules
+one_pending_rules = record endless_rules { backlog = 1 }
+
+-- each member acknowledges what it handed out first, which is genesis
+abbrev pub all_acknowledge : List Line
+all_acknowledge = Do 0 Ack ∷ Do 1 Ack ∷ Do 2 Ack ∷ Do 3 Ack ∷ []

@@ -1,9 +1,9 @@
 -- Who takes part in a view.
-use Rattle.std.specs.Prelude.{ℕ, ◌≡◌, Bool, IsFalse, IsTrue, List, Some, map}
+use Rattle.std.specs.Prelude.{ℕ, ◌*◌, ◌+◌, ◌-◌, ◌<◌, ◌^◌, ◌≡◌, ◌≤◌, Bool, IsFalse, IsTrue, List, Some, map}
 use Rattle.std.specs.List.{AllByRecursion}
 use Rattle.cw_types.specs.declared.vote.Proposal.{Proposal}
 use Rattle.cw_types.specs.declared.vote.Vote.TheVariants.{Nullify}
-use Rattle.cw_types.specs.Epochs.{is_member}
+use Rattle.cw_types.specs.Epochs.{is_member, size}
 use Rattle.cw_rules.specs.Chains.{Ends, outcome}
 use Rattle.cw_rules.specs.Fits.{block_fits}
 use Rattle.cw_rules.specs.Notes.{epoch_of, has_vote, view_of}
@@ -66,3 +66,16 @@ pub record ComeToView (r : Rules) (w : World) (allowed : Line → Bool) (view : 
   pub after : World
   pub ends : outcome r w lines ≡ Ends after
   pub each : (i : ℕ) (m : Member) → member_at w i ≡ Some m → IsNewTo after i view
+
+-- from one world to another nobody comes further than one view on
+abbrev pub OneViewOn : World → World → Type 0
+OneViewOn w after =
+    (top : ℕ)
+    → ((i : ℕ) (m : Member) → member_at w i ≡ Some m → view_of (member_notes m) 0 ≤ top)
+    → (i : ℕ) (m : Member) → member_at after i ≡ Some m → view_of (member_notes m) 0 ≤ top + 1
+
+-- views are left: from that of each honest member on, twice as many as the first epoch has members
+abbrev pub AreViewsLeft : Rules → World → Type 0
+AreViewsLeft r w =
+    (i : ℕ) (m : Member) → member_at w i ≡ Some m
+    → view_of (member_notes m) 0 + 2 * size r.epochs 0 < 2 ^ 64 - 1

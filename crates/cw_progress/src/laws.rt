@@ -124,8 +124,8 @@ pub fn held_laws()
 
 /// Each honest member can be started again.
 pub fn fresh_law()
-    // by lines that help and bring no clash. Then each is live, with the notes that it had, and
-    // nothing has come to it
+    // by lines that help and bring no clash. Then each is live, with the notes that it had, nothing
+    // has come to it, and it hands out from where these let a start begin
     ensures { (r : Rules) (w : World) (payload : List ℕ)
         → (lines : List Line) × AllByRecursion (λ line. IsTrue (helps w payload line)) lines
         × (outcome r w lines ≡ Ends (run r w lines))
