@@ -1,0 +1,14 @@
+pub mod Going
+pub mod Accepts
+pub mod Turned
+pub mod AtRest
+pub mod Sharing
+pub mod Starts
+pub mod Begins
+pub mod Lines
+pub mod Sessions
+pub mod Turnings
+pub mod TurnFiles
+pub mod Mirrors
+pub mod Events
+pub mod RunOf
